@@ -19,6 +19,6 @@ complete --command replay --long-option replies --require-parameter --force-file
 complete --command replay --short-option o --long-option output --require-parameter --force-files --description 'Writes the output to a file instead of standard output'
 complete --command replay --long-option summary-to --require-parameter --force-files --description 'Writes a summary to a file, beside the answers'
 complete --command replay --long-option top --exclusive --description 'With --summary, lists the N ranges that conflict most, from 1 to 1000'
-complete --command replay --long-option verbose --description 'Adds a line to a failure: what was found, and what to do'
+complete --command replay --long-option verbose --description 'Adds a line to a failure, or if all batches are held: what was found and what to do'
 complete --command replay --short-option h --long-option help --description 'Print help'
 complete --command replay --short-option V --long-option version --description 'Print version'

@@ -69,7 +69,7 @@ class Explainer:
                 f'{{"txn":{index},"too_old":{{"snapshot":{txn.snapshot},"oldest":{oldest}}}}}',
             )
         elif entry.verdict == "conflict":
-            for read in entry.indices or range(len(txn.reads)):
+            for read in range(len(txn.reads)):
                 writes = self.writes(index, txn, txn.reads[read], version)
                 if writes:
                     of = txn.reads[read]

@@ -29,6 +29,8 @@ BATCHES: dict[str, Parts] = {
         "50>150",
         "0>100",
     ),
+    # The report of the first transaction has its read of an older write alone. The second one asks for none.
+    "beside": ("-1>0", "0>100: W[a,b)", "100>200: W[k]; m R[k] R[a,b) @50; R[k] R[a,b) @50"),
     "again": ("-1>0", "0>100: W[a,b)", "0>100: W[a,b)", "-1>0", "0>100: W[a,b)"),
     "--frames": (FIRST_RUN,),
     "n\u00e4me of words": (FIRST_RUN,),
@@ -344,6 +346,20 @@ REJECTED_JSON = (
     '"write":{"range":["k","k\\\\x00"],"proxy":0,"version":200,"txn":2},"further":2,"same_batch":true}]}\n'
 )
 THREE = "0 100 committed committed committed\n"
+# Each read in conflict has a line, also if a report leaves it out.
+BESIDE_EXPLAINED = "".join(
+    f'  txn {txn} read 0 ["k","k\\x00") conflicts with write ["k","k\\x00") of proxy 0, version 200, txn 0 (same batch)\n'
+    f'  txn {txn} read 1 ["a","b") conflicts with write ["a","b") of proxy 0, version 100, txn 0 (history)\n'
+    for txn in (1, 2)
+)
+BESIDE_MEMBER = ",".join(
+    f'{{"txn":{txn},"read":0,"range":["k","k\\\\x00"],'
+    '"write":{"range":["k","k\\\\x00"],"proxy":0,"version":200,"txn":0},"further":0,"same_batch":true},'
+    f'{{"txn":{txn},"read":1,"range":["a","b"],'
+    '"write":{"range":["a","b"],"proxy":0,"version":100,"txn":0},"further":0,"same_batch":false}'
+    for txn in (1, 2)
+)
+BESIDE_JSON = f'{{"proxy":0,"version":200,"verdicts":["committed",{{"conflict":[1]}},"conflict"],"explanations":[{BESIDE_MEMBER}]}}\n'
 EXPLAINS = (
     ShellRow(("--explain", "first"), FIRST),
     ShellRow(("first", "second", "--explain"), FIRST + "1 200 conflict\n" + SECOND_EXPLAINED),
@@ -352,6 +368,8 @@ EXPLAINS = (
     ShellRow(("--explain", "--window", "1", "conflict"), FIRST + "0 101 tooold committed\n" + TOO_OLD_EXPLAINED),
     # A repeat has the same lines again. One whose reply is no longer kept has none.
     ShellRow(("--explain", "rejected"), "0 0 empty\n" + 2 * THREE + "0 150 never\n" + 2 * REJECTED),
+    ShellRow(("--explain", "beside"), FIRST + "0 200 committed conflict:1 conflict\n" + BESIDE_EXPLAINED),
+    ShellRow(("--explain", "--json", "--versions", "200..", "beside"), BESIDE_JSON),
     ShellRow(("--explain", "overtaken"), "0 0 empty\n0 100 empty\n0 200 committed\n0 300 never\n"),
     ShellRow(("--explain", "second", "third"), "0 200 held\n1 300 held\n"),
     ShellRow(("--explain", "empty"), ""),
@@ -389,6 +407,7 @@ REPORTS = (
     ShellRow(("--frames", "--report-all", "--versions", "200..", "first", "second"), "1 200 000000100200000000000000c800010000010000\n"),
     ShellRow(("--report-all", "--explain", "first", "second"), FIRST + "1 200 conflict:0\n" + SECOND_EXPLAINED),
     ShellRow(("--explain", "--report-all", "rejected"), "0 0 empty\n" + 2 * THREE + "0 150 never\n" + 2 * REPORTED),
+    ShellRow(("--explain", "--report-all", "beside"), FIRST + "0 200 committed conflict:1 conflict:1\n" + BESIDE_EXPLAINED),
     ShellRow(("--report-all", "--only", "conflict", "conflict"), "0 101 conflict:0 committed\n"),
     ShellRow(("--report-all", "--summary", "first", "second"), TWO_COUNTED),
     ShellRow(("--report-all", "--stream", "conflict"), FIRST + "0 101 conflict:0 committed\n"),
@@ -460,10 +479,20 @@ TOPS = (
     ShellRow(("-o", "/dev/full", "--summary", "--top", "9", "first"), "", "", 1),
 )
 
-# Failures with one more line.
+FROM_100 = "  no batch follows version -1, so all are held: begin the chain with `batches opening --version 100`\n"
+FROM_200 = FROM_100.replace("100", "200")
+
+# Failures with one more line, and runs whose batches are all held.
 VERBOSE = (
     ShellRow(("--verbose", "first"), FIRST),
-    ShellRow(("--verbose", "second", "third"), "0 200 held\n1 300 held\n"),
+    ShellRow(("--verbose", "second", "third"), "0 200 held\n1 300 held\n", FROM_100),
+    ShellRow(("third", "--verbose", "--stream"), "0 300 held\n", FROM_200),
+    ShellRow(("--verbose", "--explain", "third", "second"), "0 300 held\n1 200 held\n", FROM_100),
+    ShellRow(("--verbose", "--check", "conflicts", "second"), "0 200 unexpected\nchecked 1 batches, 1 differences\n", FROM_100, 3),
+    ShellRow(("second", "first", "--verbose"), "0 200 conflict\n1 0 empty\n1 100 committed\n"),
+    ShellRow(("--verbose", "empty"), ""),
+    # Standard input can't be read again.
+    ShellRow(("--verbose", "second", "-"), "0 200 held\n1 300 held\n", stdin="third"),
     ShellRow(
         ("cut", "--verbose"),
         "0 0 empty\n",

@@ -33,17 +33,17 @@ fn windows_of_a_history() {
 fn batches_that_are_not_added() {
     let mut history = History::new(WINDOW).expect("the window is right");
     let first = batch(-1, 100, [Txn::at(0).write_key("k")]);
-    let told = reply(&first);
-    assert_eq!(history.push(0, first.clone(), told.clone()), Ok(()));
+    let reported = reply(&first);
+    assert_eq!(history.push(0, first.clone(), reported.clone()), Ok(()));
     let again = PushError::Version {
         version: 100,
         last: 100,
     };
-    assert_eq!(history.push(0, first, told.clone()), Err(again));
+    assert_eq!(history.push(0, first, reported.clone()), Err(again));
 
     let later = batch(100, 200, [Txn::at(99).read_key("k")]);
     assert_eq!(
-        history.push(0, later.clone(), told),
+        history.push(0, later.clone(), reported),
         Err(PushError::Reply),
         "another version"
     );
@@ -54,8 +54,8 @@ fn batches_that_are_not_added() {
         "another number of transactions"
     );
     assert_eq!(history.version(), 100);
-    let told = reply(&later);
-    assert_eq!(history.push(0, later, told), Ok(()));
+    let reported = reply(&later);
+    assert_eq!(history.push(0, later, reported), Ok(()));
     assert_eq!(history.version(), 200);
 }
 
@@ -68,11 +68,11 @@ fn writes_and_their_origins() {
         100,
         [Txn::at(0).write_key("x"), Txn::at(0).write(("a", "c"))],
     );
-    let told = reply(&first);
-    history.push(7, first, told).expect("memory is ample");
+    let reported = reply(&first);
+    history.push(7, first, reported).expect("memory is ample");
     let later = batch(100, 200, [Txn::at(99).read_key("y").read_key("b")]);
-    let told = reply(&later);
-    history.push(8, later, told).expect("memory is ample");
+    let reported = reply(&later);
+    history.push(8, later, reported).expect("memory is ample");
 
     assert_eq!(history.explain(0, 0), None);
     assert_eq!(history.explain(0, 2), None);

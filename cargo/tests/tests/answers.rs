@@ -1,7 +1,7 @@
 //! The lines of answers by hand: one, many in order, and those that a filter shows.
 
 use rattle_std::alloc::Global;
-use replay_program::{Filter, Form, Line, Style, print_answers, read_words};
+use replay_program::{LineFilter, Form, Line, Style, print_answers, read_words};
 use tests::printing::{line, received};
 use wire::StdSink;
 
@@ -92,7 +92,7 @@ fn changed(style: Style, answer: &str, change: impl FnOnce(&mut Line)) -> String
 #[test]
 fn notes_under_lines() {
     let words = Style::all(Form::Words);
-    let hidden = Style { filter: Filter { quiet: true, ..Filter::all() }, ..words };
+    let hidden = Style { filter: LineFilter { quiet: true, ..LineFilter::all() }, ..words };
     for (style, note, text) in [
         (words, "  txn 0 ..\n", "7 5 committed conflict conflict\n  txn 0 ..\n"),
         (words, "", "7 5 committed conflict conflict\n"),

@@ -6,7 +6,7 @@ use filter::Filter;
 use rattle_std::alloc::Global;
 use std::alloc::{GlobalAlloc, Layout, System};
 use std::cell::Cell;
-use tree::{Entry, Tree};
+use tree::{NodeEntry, Tree};
 
 thread_local! {
     // How many bytes this thread has allocated and not freed, and the most in one allocation. It also frees what another has allocated.
@@ -72,7 +72,7 @@ fn node_bytes<const N: usize>() -> usize {
 fn a_tree_reports_the_bytes_of_its_nodes() {
     let (few, many) = (node_bytes::<8>(), node_bytes::<128>());
     // An entry has a head of 4 bytes.
-    assert_eq!(many - few, 120 * (size_of::<Entry>() + 4));
+    assert_eq!(many - few, 120 * (size_of::<NodeEntry>() + 4));
 }
 
 #[test]

@@ -3,7 +3,7 @@
 use keyspace::Verdict;
 use rattle_std::alloc::Global;
 use rattle_std::string::String as KitString;
-use replay_program::{CommandLine, Filter, Form, Options, Refusal, Reports, Style, Task, read_words};
+use replay_program::{CommandLine, LineFilter, Form, Options, ArgumentsRefusal, Reports, Style, Task, read_words};
 use tests::failing::Failing;
 use tests::printing::ended;
 use wire::StdSink;
@@ -60,7 +60,7 @@ fn details_text(line: &CommandLine) -> String {
     [output, summary, verbose, several, points].into_iter().flatten().collect()
 }
 
-fn filter_text(filter: &Filter) -> String {
+fn filter_text(filter: &LineFilter) -> String {
     let quiet = filter.quiet.then(|| " quiet".to_owned());
     let only = filter.only.map(|verdict: Verdict| format!(" only {verdict:?}"));
     let least = (filter.least != i64::MIN).then(|| format!(" from {}", filter.least));
@@ -68,7 +68,7 @@ fn filter_text(filter: &Filter) -> String {
     [quiet, only, least, below].into_iter().flatten().collect()
 }
 
-fn refusal_of(given: &str) -> Refusal {
+fn refusal_of(given: &str) -> ArgumentsRefusal {
     read_words(Global, &words_of(given)).expect_err("nothing is replayed")
 }
 
@@ -344,7 +344,7 @@ fn version_and_help() {
 }
 
 /// How the program ends if standard output takes n bytes.
-fn end_with_room(refusal: &Refusal, room: usize) -> String {
+fn end_with_room(refusal: &ArgumentsRefusal, room: usize) -> String {
     let mut error = StdSink::new(Vec::new());
     let status = refusal.end(&mut StdSink::new(Failing::after(room)), &mut error);
     ended(status, b"", &error.into_inner())
@@ -354,5 +354,5 @@ fn end_with_room(refusal: &Refusal, room: usize) -> String {
 #[test]
 fn help_fails() {
     assert_eq!(end_with_room(&refusal_of("--help"), 10), "failed: ");
-    assert_eq!(end_with_room(&Refusal::Memory, 0), "failed: replay: start 1 Memory\n");
+    assert_eq!(end_with_room(&ArgumentsRefusal::Memory, 0), "failed: replay: start 1 Memory\n");
 }

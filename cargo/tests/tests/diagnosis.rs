@@ -1,7 +1,7 @@
 //! What is found in a file after a failed run, against a plain walk over its bytes, and the lines about it by hand.
 
 use rattle_std::alloc::Global;
-use replay_diagnosis::{Batches, Finding, Position, RunFinding, examine, write_remedy, write_run_remedy};
+use replay_diagnosis::{FileBatches, Finding, Position, RunFinding, examine, write_remedy, write_run_remedy};
 use std::io::{Error, ErrorKind, Read, Result as IoResult};
 use std::sync::atomic::{AtomicU64, Ordering};
 use tests::cases::{count, run};
@@ -52,16 +52,16 @@ impl Sink for Narrow {
     }
 }
 
-fn examined(bytes: &[u8], fails: bool, most: usize) -> Result<Batches, Finding> {
+fn examined(bytes: &[u8], fails: bool, most: usize) -> Result<FileBatches, Finding> {
     examine(Global, &mut StdSource::new(Pieces { bytes, fails, most }))
 }
 
-fn found(bytes: &[u8]) -> Result<Batches, Finding> {
+fn found(bytes: &[u8]) -> Result<FileBatches, Finding> {
     examined(bytes, false, usize::MAX)
 }
 
 /// Returns what a file contains, as the tables of `docs/WIRE.md` read it.
-fn walked(bytes: &[u8], fails: bool) -> Result<Batches, Finding> {
+fn walked(bytes: &[u8], fails: bool) -> Result<FileBatches, Finding> {
     let mut position = Position { frame: 1, offset: 0 };
     let mut least_previous: Option<i64> = None;
     loop {
@@ -73,7 +73,7 @@ fn walked(bytes: &[u8], fails: bool) -> Result<Batches, Finding> {
                 continue;
             }
             Err(WireError::Short) if fails => return Err(Finding::Unreadable(position)),
-            Err(_) if rest.is_empty() => return Ok(Batches { least_previous }),
+            Err(_) if rest.is_empty() => return Ok(FileBatches { least_previous }),
             Err(fault) => fault,
         };
         if position.offset == 0 && rest[0] == b'{' {
@@ -114,7 +114,7 @@ fn tail(random: &mut Random) -> Vec<u8> {
 struct Kinds([AtomicU64; 6]);
 
 impl Kinds {
-    fn add(&self, found: &Result<Batches, Finding>) {
+    fn add(&self, found: &Result<FileBatches, Finding>) {
         let kind = match found {
             Ok(_) => 0,
             Err(Finding::Json) => 1,
@@ -164,9 +164,9 @@ fn findings_by_hand() {
     let reply = reply_frame(&PlainReply { version: 0, entries: Vec::new() });
     let after = |tail: &[u8]| found(&[&frame[..], tail].concat());
 
-    assert_eq!(found(b""), Ok(Batches { least_previous: None }));
-    assert_eq!(found(&frame), Ok(Batches { least_previous: Some(0) }));
-    assert_eq!(after(&following(-1, 0)), Ok(Batches { least_previous: Some(-1) }));
+    assert_eq!(found(b""), Ok(FileBatches { least_previous: None }));
+    assert_eq!(found(&frame), Ok(FileBatches { least_previous: Some(0) }));
+    assert_eq!(after(&following(-1, 0)), Ok(FileBatches { least_previous: Some(-1) }));
     assert_eq!(found(b"{"), Err(Finding::Json));
     assert_eq!(after(b"{"), Err(Finding::Truncated { position: second, missing: 3 }));
     assert_eq!(found(b"[1,2,3]"), Err(Finding::NotAFrame(start, WireError::Long)));
@@ -183,12 +183,12 @@ fn findings_by_hand() {
 
 #[test]
 fn batches_of_several_files() {
-    let mut batches = Batches::none();
+    let mut batches = FileBatches::none();
     assert_eq!(batches.held_from(), None);
     for (previous, held) in [(300, Some(300)), (70, Some(70)), (100, Some(70)), (-1, None), (5, None)] {
         let others = found(&following(previous, 1_000)).expect("it is a frame");
         batches.join(&others);
-        batches.join(&Batches::none());
+        batches.join(&FileBatches::none());
         assert_eq!(batches.held_from(), held);
     }
 }
@@ -222,7 +222,6 @@ fn lines_about_files() {
     let last = Position { frame: u64::MAX, offset: u64::MAX };
     for (finding, text) in [
         (Finding::CannotOpen, "can't be opened: check the name and the permissions"),
-        (Finding::Directory, "is a directory: name the files in it"),
         (Finding::StandardInput, "is standard input, which can't be read again: record it to a file, and replay that"),
         (Finding::Memory, "can't be examined for want of memory: free memory"),
         (Finding::Unreadable(start), "can't be read: it is a directory, or its device fails"),
@@ -248,7 +247,8 @@ fn lines_about_files() {
 #[test]
 fn names_stay_on_their_line() {
     for (name, shown) in [("-", "-"), ("", ""), ("é\u{1f600}", "é\u{1f600}"), ("a\nb\tc\x1b[31m\x7f~ ", "a?b?c?[31m?~ ")] {
-        assert_eq!(remedy(name, &Finding::Directory), format!("  {shown} is a directory: name the files in it\n"));
+        let line = format!("  {shown} can't be opened: check the name and the permissions\n");
+        assert_eq!(remedy(name, &Finding::CannotOpen), line);
     }
 }
 

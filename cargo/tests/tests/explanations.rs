@@ -86,10 +86,10 @@ impl Explained {
     fn process(&mut self, proxy: usize, plain: &PlainBatch) -> PlainReply {
         let batch = plain.batch();
         let reply = self.set.resolve(&batch).expect("the limit is ample");
-        let told = PlainReply::of(&reply);
+        let reported = PlainReply::of(&reply);
         let processed = ProcessedBatch::new(Global, proxy, batch, reply).expect("memory is ample");
         self.history.push(processed).expect("memory is ample");
-        told
+        reported
     }
 
     fn explain(&self, txn: usize, read: usize) -> Option<PlainExplanation> {

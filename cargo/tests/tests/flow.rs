@@ -1,21 +1,21 @@
 //! Which batch goes first if all proxies wait for each other, and what they report in a waiting room.
 
-use flow::{Stand, Told, WaitingRoom, is_below_share, next_through};
+use flow::{Stand, ReportedState, WaitingRoom, is_below_share, next_admitted};
 use rattle_std::alloc::Global;
 
-const GOES: Told = Told::Goes;
-const CLOSED: Told = Told::Closed;
+const GOES: ReportedState = ReportedState::Goes;
+const CLOSED: ReportedState = ReportedState::Closed;
 const FIRST: Stand = Stand { previous: 10, answered: 3 };
 const SECOND: Stand = Stand { previous: 20, answered: 4 };
 
-const fn stands(previous: i64, answered: u64) -> Told {
-    Told::Stands(Stand { previous, answered })
+const fn stands(previous: i64, answered: u64) -> ReportedState {
+    ReportedState::Stands(Stand { previous, answered })
 }
 
 /// What each proxy reports, how many answers were sent to it, and the proxy whose batch goes.
 #[test]
 fn next_batch() {
-    let rows: [(&[Told], &[u64], Option<usize>); 11] = [
+    let rows: [(&[ReportedState], &[u64], Option<usize>); 11] = [
         (&[], &[], None),
         (&[CLOSED], &[7], None),
         (&[GOES], &[0], None),
@@ -29,8 +29,8 @@ fn next_batch() {
         (&[stands(10, 0), GOES], &[0, 0], None),
         (&[stands(10, 0), CLOSED], &[0, 8], Some(0)),
     ];
-    for (told, sent, expected) in rows {
-        assert_eq!(next_through(told, sent), expected, "{told:?} {sent:?}");
+    for (reported, sent, expected) in rows {
+        assert_eq!(next_admitted(reported, sent), expected, "{reported:?} {sent:?}");
     }
 }
 
@@ -46,19 +46,19 @@ fn share_of_a_proxy() {
 
 /// A proxy stands until it is let through. One answer later it stands with its next batch.
 #[test]
-fn stands_until_let_through() {
+fn stands_until_admit() {
     let room = WaitingRoom::new(Global, 1).expect("memory is ample");
-    assert_eq!(room.told(0), GOES);
+    assert_eq!(room.reported_state(0), GOES);
     assert!(!room.stands(0, FIRST));
     assert!(!room.stands(0, FIRST));
-    assert_eq!(room.told(0), Told::Stands(FIRST));
-    room.let_through(0);
-    assert_eq!(room.told(0), GOES);
+    assert_eq!(room.reported_state(0), ReportedState::Stands(FIRST));
+    room.admit(0);
+    assert_eq!(room.reported_state(0), GOES);
     assert!(room.stands(0, FIRST));
-    assert_eq!(room.told(0), GOES);
+    assert_eq!(room.reported_state(0), GOES);
     assert!(!room.stands(0, FIRST));
     assert!(!room.stands(0, SECOND));
-    assert_eq!(room.told(0), Told::Stands(SECOND));
+    assert_eq!(room.reported_state(0), ReportedState::Stands(SECOND));
 }
 
 /// Two proxies stand at once. One is let through, and the other closes. A third has no place.
@@ -67,13 +67,13 @@ fn places_are_apart() {
     let room = WaitingRoom::new(Global, 2).expect("memory is ample");
     assert!(!room.stands(0, SECOND));
     assert!(!room.stands(1, FIRST));
-    assert_eq!((room.told(0), room.told(1)), (Told::Stands(SECOND), Told::Stands(FIRST)));
-    room.let_through(1);
-    assert_eq!((room.told(0), room.told(1)), (Told::Stands(SECOND), GOES));
+    assert_eq!((room.reported_state(0), room.reported_state(1)), (ReportedState::Stands(SECOND), ReportedState::Stands(FIRST)));
+    room.admit(1);
+    assert_eq!((room.reported_state(0), room.reported_state(1)), (ReportedState::Stands(SECOND), GOES));
     room.closes(0);
-    assert_eq!((room.told(0), room.told(1)), (CLOSED, GOES));
+    assert_eq!((room.reported_state(0), room.reported_state(1)), (CLOSED, GOES));
     assert!(room.stands(2, FIRST));
     room.closes(2);
-    room.let_through(2);
-    assert_eq!(room.told(2), GOES);
+    room.admit(2);
+    assert_eq!(room.reported_state(2), GOES);
 }

@@ -259,14 +259,14 @@ impl Read for Pieces<'_> {
 /// Frames of batches after one another, of which the last may be cut, and what `Frames` answers.
 struct Stream {
     bytes: Vec<u8>,
-    whole: Vec<PlainBatch>,
+    entire: Vec<PlainBatch>,
     fault: Option<WireError>,
 }
 
 impl Stream {
     fn drawn(random: &mut Random, fails: bool) -> Self {
-        let whole: Vec<_> = (0..random.index(5)).map(|_| small_batch(random)).collect();
-        let mut bytes: Vec<u8> = whole.iter().flat_map(|batch| batch_frame(batch, 1 + random.below(2) as u8)).collect();
+        let entire: Vec<_> = (0..random.index(5)).map(|_| small_batch(random)).collect();
+        let mut bytes: Vec<u8> = entire.iter().flat_map(|batch| batch_frame(batch, 1 + random.below(2) as u8)).collect();
         let next = batch_frame(&small_batch(random), 1 + random.below(2) as u8);
         let (more, fault) = match random.below(3) {
             0 => (Vec::new(), None),
@@ -280,7 +280,7 @@ impl Stream {
         // A reader that fails is found to fail where more bytes are wanted.
         let fault = if fails && fault.is_none_or(|fault| fault == WireError::Short) { Some(WireError::Read) } else { fault };
         bytes.extend(more);
-        Stream { bytes, whole, fault }
+        Stream { bytes, entire, fault }
     }
 
     fn reader(&self, fails: bool, random: &mut Random) -> StdSource<Pieces<'_>> {
@@ -299,7 +299,7 @@ fn frames_of_readers_that_cut_and_fail() {
             true => frames.next(),
             false => Ok(frames.next_unordered()?.map(|batch| batch.order(Global).expect("memory is ample"))),
         };
-        for batch in &stream.whole {
+        for batch in &stream.entire {
             let found = next().expect("the frame is whole").expect("the frame is there");
             assert_eq!(PlainBatch::of(&found), *batch);
         }
@@ -345,7 +345,7 @@ impl Write for Short {
 fn upgrades_of_streams() {
     run("upgrades_of_streams", count(500_000, 10_000), |random| {
         let stream = Stream::drawn(random, false);
-        let expected: Vec<u8> = stream.whole.iter().flat_map(|batch| batch_frame(batch, 2)).collect();
+        let expected: Vec<u8> = stream.entire.iter().flat_map(|batch| batch_frame(batch, 2)).collect();
         let most = if random.one_in(2) { usize::MAX } else { random.index(expected.len() + 2) };
         let mut reader = stream.reader(false, random);
         let mut writer = StdSink::new(Short { written: Vec::new(), most, random: Random::new(random.number()) });
@@ -355,7 +355,7 @@ fn upgrades_of_streams() {
             assert_eq!(answer, Err(WireError::Write));
             assert_eq!(written, expected[..most]);
         } else {
-            assert_eq!(answer, stream.fault.map_or(Ok(stream.whole.len() as u64), Err));
+            assert_eq!(answer, stream.fault.map_or(Ok(stream.entire.len() as u64), Err));
             assert_eq!(written, expected);
         }
         1

@@ -1,6 +1,6 @@
 //! Gatekeepers that watch a run: a file that stalls while another goes on, and when a batch is admitted.
 
-use flow::{Stand, Told, WaitingRoom};
+use flow::{Stand, ReportedState, WaitingRoom};
 use rattle_std::alloc::Global;
 use rattle_std::sync::Arc;
 use replay_program::{Gatekeeper, ShareKeeper};
@@ -81,12 +81,12 @@ impl ShareKeeper for Releasing {
         self.room.closed(proxy);
     }
 
-    fn told(&self, proxy: usize) -> Told {
-        ShareKeeper::told(&self.room, proxy)
+    fn reported_state(&self, proxy: usize) -> ReportedState {
+        ShareKeeper::reported_state(&self.room, proxy)
     }
 
-    fn let_through(&self, proxy: usize) {
-        ShareKeeper::let_through(&self.room, proxy);
+    fn admit(&self, proxy: usize) {
+        ShareKeeper::admit(&self.room, proxy);
     }
 }
 
@@ -167,17 +167,17 @@ impl ShareKeeper for Watched {
 
     fn closed(&self, _proxy: usize) {}
 
-    fn told(&self, _proxy: usize) -> Told {
+    fn reported_state(&self, _proxy: usize) -> ReportedState {
         if self.read.load(Ordering::SeqCst) == 0 {
-            return Told::Goes;
+            return ReportedState::Goes;
         }
         if self.looks.fetch_add(1, Ordering::SeqCst) == 0 {
             self.let_first_be_sent();
         }
-        Told::Stands(Stand { previous: 100, answered: 0 })
+        ReportedState::Stands(Stand { previous: 100, answered: 0 })
     }
 
-    fn let_through(&self, _proxy: usize) {
+    fn admit(&self, _proxy: usize) {
         let looks = self.looks.load(Ordering::SeqCst);
         if self.first.load(Ordering::SeqCst) == 0 {
             self.first.store(looks, Ordering::SeqCst);
@@ -191,7 +191,7 @@ impl ShareKeeper for Watched {
 /// Two batches that are held. A batch is admitted only if two looks in sequence have found the same, with no batch taken between and
 /// none let through: the first look is forgotten when the batch is taken, and the third when one is admitted.
 #[test]
-fn two_looks_alike_let_a_batch_through() {
+fn two_looks_equal_let_a_batch_through() {
     let watched = shared(Watched::default());
     let readers = vec![reader(file_of(&["100>200", "200>300"], b""))];
     assert_eq!(replayed(readers, &watched), "0 200 held\n0 300 held\ndone: ");

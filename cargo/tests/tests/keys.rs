@@ -1,6 +1,6 @@
 //! The order of keys, their heads and hashes, and the ranks of ranges.
 
-use keys::{Key, RangeList, RangeRef, Ranks, common_prefix_len, head_behind, key_hash, key_head, same_bytes};
+use keys::{Key, RangeList, RangeRef, GapRuns, common_prefix_len, head_after, key_hash, key_head, same_bytes};
 use keyspace::Txns;
 use rattle_std::alloc::Global;
 use std::collections::{BTreeMap, BTreeSet};
@@ -56,7 +56,7 @@ fn heads_and_common_prefixes_are_those_of_the_bytes() {
                 assert!(one < other, "{one:?} {other:?}");
             }
             let behind = random.index(one.len() + 4);
-            assert_eq!(head_behind(&one, behind), head(one.get(behind..).unwrap_or(&[])), "{one:?} {behind}");
+            assert_eq!(head_after(&one, behind), head(one.get(behind..).unwrap_or(&[])), "{one:?} {behind}");
             let common = one.iter().zip(&other).take_while(|(one, other)| one == other).count();
             assert_eq!(common_prefix_len(&one, &other), common, "{one:?} {other:?}");
             let (one, other) = (key_head(&one), key_head(&other));
@@ -117,7 +117,7 @@ fn ranks_are_the_numbers_of_sorted_begins() {
         let space = KeySpace::drawn(random);
         let most = random.pick(&[3, 30, 300, 3_000]);
         let ranges = Ranges((0..random.index(most)).map(|_| space.range(random)).collect());
-        let (ranks, order) = Ranks::with_order(Global, &ranges).expect("memory is ample");
+        let (ranks, order) = GapRuns::with_order(Global, &ranges).expect("memory is ample");
         let filled = |index: &usize| !ranges.0[*index].is_empty();
         let begins: BTreeSet<_> = (0..ranges.len()).filter(filled).map(|index| &ranges.0[index].begin).collect();
         let sorted: Vec<_> = begins.iter().copied().collect();
@@ -142,7 +142,7 @@ fn runs_overlap_as_ranges_meet() {
     run("runs_overlap_as_ranges_meet", count(20_000_000, 300_000), |random| {
         let space = KeySpace::drawn(random);
         let ranges = Ranges((0..random.index(60)).map(|_| space.range(random)).collect());
-        let (ranks, _) = Ranks::with_order(Global, &ranges).expect("memory is ample");
+        let (ranks, _) = GapRuns::with_order(Global, &ranges).expect("memory is ample");
         for (one, run) in ranges.0.iter().zip(ranks.runs()) {
             for (other, beside) in ranges.0.iter().zip(ranks.runs()) {
                 assert_eq!(run.0.max(beside.0) < run.1.min(beside.1), one.meets(other), "{one:?} {other:?}");
@@ -188,7 +188,7 @@ fn ranks_by_hand() {
         ("0>1", &[], &[], &[]),
     ] {
         let txns = batch(text).batch().txns;
-        let (ranks, found) = Ranks::with_order(Global, &txns.ranges()).expect("memory is ample");
+        let (ranks, found) = GapRuns::with_order(Global, &txns.ranges()).expect("memory is ample");
         assert_eq!((found.as_slice(), txns.write_order()), (order, writes));
         assert_eq!((ranks.runs(), txns.ranks().runs()), (runs, runs));
     }
@@ -196,7 +196,7 @@ fn ranks_by_hand() {
 
 /// Keys of up to 38 bytes have hashes that seldom agree, whichever byte differs.
 #[test]
-fn hashes_tell_short_keys_apart() {
+fn hashes_report_short_keys_apart() {
     run("hashes_tell_short_keys_apart", count(3_000_000, 30_000), |random| {
         let length = 1 + random.index(38);
         let bytes: Vec<u8> = (0..length).map(|_| random.number() as u8).collect();
@@ -291,7 +291,7 @@ fn batches_rank_and_hash_their_ranges() {
             assert_eq!(txns.snapshot(index), txn.snapshot);
         }
         let ranges = Ranges(all);
-        let (ranks, order) = Ranks::with_order(Global, &ranges).expect("memory is ample");
+        let (ranks, order) = GapRuns::with_order(Global, &ranges).expect("memory is ample");
         if ranges.len() == 0 || (0..ranges.len()).any(|index| !ranges.range(index).is_single()) {
             assert_eq!((txns.ranks().runs(), txns.ranks().begins()), (ranks.runs(), ranks.begins()));
             assert!(order.iter().filter(|index| is_write[**index as usize]).eq(txns.write_order()));

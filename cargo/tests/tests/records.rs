@@ -2,7 +2,7 @@
 
 use keyspace::{Answer, Verdict};
 use rattle_std::alloc::Global;
-use replay_output::{AnswerError, Filter, Form, Line, Style, print_line, write_record};
+use replay_output::{AnswerError, LineFilter, Form, Line, Style, print_line, write_record};
 use tests::cases::{count, run};
 use tests::drawn::any_batch;
 use tests::plain::{PlainEntry, PlainReply};
@@ -111,14 +111,14 @@ fn lines_as_the_batch_run_prints_them() {
         };
         let proxy = random.index(64);
         for form in [Form::Words, Form::Frames, Form::Json] {
-            let whole = line_of(Style::all(form), proxy, answer());
+            let entire = line_of(Style::all(form), proxy, answer());
             let out = pieces_of(Style::all(form), proxy, &answer());
-            assert_eq!(out, [whole.clone()], "a line is one write");
+            assert_eq!(out, [entire.clone()], "a line is one write");
             let filter = any_filter(random, reply.version);
             let style = Style { form, filter };
             let is_shown = is_shown(&filter, &answer());
-            assert_eq!(line_of(style, proxy, answer()), if is_shown { whole.clone() } else { vec![] });
-            assert_eq!(pieces_of(style, proxy, &answer()), if is_shown { vec![whole] } else { vec![] });
+            assert_eq!(line_of(style, proxy, answer()), if is_shown { entire.clone() } else { vec![] });
+            assert_eq!(pieces_of(style, proxy, &answer()), if is_shown { vec![entire] } else { vec![] });
         }
         1
     });
@@ -140,15 +140,15 @@ fn pieces_of(style: Style, proxy: usize, answer: &Answer) -> Vec<Vec<u8>> {
 }
 
 /// A filter whose ends are at a version or beside it, or left out.
-fn any_filter(random: &mut Random, version: i64) -> Filter {
+fn any_filter(random: &mut Random, version: i64) -> LineFilter {
     let mut end = || (random.below(3) > 0).then(|| version.saturating_add(i64::try_from(random.index(3)).unwrap_or(0) - 1));
     let (least, below) = (end().unwrap_or(i64::MIN), end());
     let only = [None, Some(Verdict::Committed), Some(Verdict::Conflict), Some(Verdict::TooOld)][random.index(4)];
-    Filter { quiet: random.below(8) == 0, only, least, below }
+    LineFilter { quiet: random.below(8) == 0, only, least, below }
 }
 
 /// What `docs/REPLAY.md` says of the options.
-fn is_shown(filter: &Filter, answer: &Answer) -> bool {
+fn is_shown(filter: &LineFilter, answer: &Answer) -> bool {
     let (version, verdicts) = match answer {
         Answer::Reply(reply) => (reply.version, reply.entries.as_slice().iter().map(|entry| entry.verdict).collect()),
         Answer::Never(version) | Answer::Held(version) => (*version, vec![]),

@@ -83,12 +83,7 @@ impl Scan {
                     texts.objects.push(format!(r#"{{"txn":{txn},"too_old":{{"snapshot":{snapshot},"oldest":{oldest}}}}}"#));
                 }
                 Verdict::Conflict => {
-                    let reported = entry.places.iter().map(|place| usize::from(*place));
-                    let mut asked: Vec<_> = reported.collect();
-                    if asked.is_empty() {
-                        asked = (0..judged.reads.len()).collect();
-                    }
-                    for read in asked {
+                    for read in 0..judged.reads.len() {
                         if let Some((line, object)) = self.explain(batch.version, txn, judged, read) {
                             texts.words += &line;
                             texts.objects.push(object);
@@ -190,7 +185,7 @@ impl Kinds {
 }
 
 /// Over drawn chains of several proxies, each batch has the lines of the scan, also once all batches were seen. A batch without a
-/// rejection has none, and a transaction has a line exactly if it was rejected.
+/// rejection has none, a transaction has a line exactly if it was rejected, and so has each read range of a report.
 #[test]
 fn lines_are_those_of_a_scan() {
     let kinds = Kinds::default();
@@ -209,6 +204,9 @@ fn lines_are_those_of_a_scan() {
                 let begin = format!("  txn {txn} ");
                 let is_explained = text.lines().any(|line| line.starts_with(&begin));
                 assert_eq!(is_explained, entry.verdict != Verdict::Committed, "txn {txn} of {batch:?}");
+                for place in &entry.places {
+                    assert!(text.contains(&format!("{begin}read {place} ")), "read {place} of txn {txn} of {batch:?}");
+                }
             }
             kinds.add(text);
             expected.insert((proxy, batch.version), texts);
@@ -296,13 +294,21 @@ fn rows_by_hand() {
                        txn 0 read 2 [\"b\",\"c\") conflicts with write [\"a\",\"c\") of proxy 0, version 10, txn 0 (history)\n",
         },
         Row {
-            name: "a report has the hits of older batches alone",
+            name: "a report has the hits of older batches alone, and the lines have all",
             window: 100,
             batches: vec![
                 (0, 10, vec![txn(0, &[], &[ab])]),
                 (0, 20, vec![txn(0, &[], &[bc]), PlainTxn { marked: true, ..txn(5, &[bc, ab], &[]) }]),
             ],
-            expected: "  txn 1 read 1 [\"a\",\"b\") conflicts with write [\"a\",\"b\") of proxy 0, version 10, txn 0 (history)\n",
+            expected: "  txn 1 read 0 [\"b\",\"c\") conflicts with write [\"b\",\"c\") of proxy 0, version 20, txn 0 (same batch)\n  \
+                       txn 1 read 1 [\"a\",\"b\") conflicts with write [\"a\",\"b\") of proxy 0, version 10, txn 0 (history)\n",
+        },
+        Row {
+            name: "a report has the first of the own batch alone, and the lines have all",
+            window: 100,
+            batches: vec![(0, 20, vec![txn(0, &[], &[ac]), PlainTxn { marked: true, ..txn(20, &[bc, (b"x", b"y"), ab], &[]) }])],
+            expected: "  txn 1 read 0 [\"b\",\"c\") conflicts with write [\"a\",\"c\") of proxy 0, version 20, txn 0 (same batch)\n  \
+                       txn 1 read 2 [\"a\",\"b\") conflicts with write [\"a\",\"c\") of proxy 0, version 20, txn 0 (same batch)\n",
         },
         Row {
             name: "too old",

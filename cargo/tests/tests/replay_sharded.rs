@@ -202,7 +202,7 @@ fn extents() {
         files.0.into_inner()
     };
     let complete = |name: &str| (name.to_owned(), Extent::Complete);
-    let beginning = |name: &str| (name.to_owned(), Extent::Beginning);
+    let beginning = |name: &str| (name.to_owned(), Extent::FirstBatches);
     let given = opened(&["replay", "--resolvers", "2", "--split-points", "point", "first", "second"]);
     let each = ["point", "first", "second", "first", "second"].map(complete);
     assert_eq!(given, each);

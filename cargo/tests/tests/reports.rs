@@ -16,7 +16,7 @@ const LOST: ProxyFailure = ProxyFailure { fault: None, lost: true };
 const SHORT_AND_LOST: ProxyFailure = ProxyFailure { fault: Some(WireError::Short), lost: true };
 
 /// What comes of a report of these failures, without answers.
-fn told(failures: &[ProxyFailure], ending: Ending) -> String {
+fn printed_report(failures: &[ProxyFailure], ending: Ending) -> String {
     let mut received: Vec<KitVec<Line>> = failures.iter().map(|_| KitVec::new(Global)).collect();
     let (mut out, mut error) = (StdSink::new(Vec::new()), StdSink::new(Vec::new()));
     let report = print_report(Global, &mut out, &mut error, &mut received, &mut failures.to_vec(), ending);
@@ -25,18 +25,18 @@ fn told(failures: &[ProxyFailure], ending: Ending) -> String {
 
 #[test]
 fn by_proxy_and_the_ending_last() {
-    assert_eq!(told(&[CLEAN, CLEAN], Ending::Complete), "done: ");
+    assert_eq!(printed_report(&[CLEAN, CLEAN], Ending::Complete), "done: ");
     let expected = "failed: replay: proxy 0: wire 1 Short\nreplay: proxy 0: memory\n";
-    assert_eq!(told(&[SHORT_AND_LOST], Ending::Complete), expected);
+    assert_eq!(printed_report(&[SHORT_AND_LOST], Ending::Complete), expected);
     let expected = "failed: replay: proxy 1: memory\nreplay: proxy 2: wire 1 Short\nreplay: stop 1 Memory\n";
-    assert_eq!(told(&[CLEAN, LOST, SHORT], Ending::Stopped(Stop::Memory)), expected);
+    assert_eq!(printed_report(&[CLEAN, LOST, SHORT], Ending::Stopped(Stop::Memory)), expected);
 }
 
 #[test]
 fn ending_of_no_proxy() {
-    assert_eq!(told(&[], Ending::Stopped(Stop::GateFull)), "failed: replay: stop 2 GateFull\n");
-    assert_eq!(told(&[], Ending::Stopped(Stop::ArenaFull)), "failed: replay: stop 3 ArenaFull\n");
-    assert_eq!(told(&[SHORT], Ending::Incomplete), "failed: replay: proxy 0: wire 1 Short\nreplay: incomplete\n");
+    assert_eq!(printed_report(&[], Ending::Stopped(Stop::GateFull)), "failed: replay: stop 2 GateFull\n");
+    assert_eq!(printed_report(&[], Ending::Stopped(Stop::ArenaFull)), "failed: replay: stop 3 ArenaFull\n");
+    assert_eq!(printed_report(&[SHORT], Ending::Incomplete), "failed: replay: proxy 0: wire 1 Short\nreplay: incomplete\n");
 }
 
 const FAULTS: [WireError; 15] = [
@@ -63,7 +63,7 @@ fn names_as_displayed() {
     for fault in FAULTS {
         for stop in [Stop::Memory, Stop::GateFull, Stop::ArenaFull] {
             let displayed = format!("failed: replay: proxy 0: wire {fault}\nreplay: stop {stop}\n");
-            assert_eq!(told(&[ProxyFailure { fault: Some(fault), lost: false }], Ending::Stopped(stop)), displayed);
+            assert_eq!(printed_report(&[ProxyFailure { fault: Some(fault), lost: false }], Ending::Stopped(stop)), displayed);
         }
     }
 }
@@ -148,7 +148,7 @@ fn error_output_fails_everywhere() {
     for room in 0..=text.len() {
         let mut out = StdSink::new(Vec::new());
         let report = reported(&mut out, &mut StdSink::new(Failing::after(room)), [SHORT, CLEAN], Ending::Incomplete);
-        assert_eq!(report.told.is_ok(), room == text.len());
+        assert_eq!(report.reported.is_ok(), room == text.len());
         assert_eq!(ended(report.status, &out.into_inner(), b"").strip_prefix(LINES), Some("failed: "));
     }
 }

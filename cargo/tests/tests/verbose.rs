@@ -1,4 +1,4 @@
-//! What `replay --verbose` says of a failure: each finding with its complete line, and nothing without a failure.
+//! What `replay --verbose` says of a failure: each finding with its complete line. Without a failure, that all batches are held.
 
 use replay_program::{Extent, FileError, Files};
 use std::io::{Cursor, Error, ErrorKind, Read, Result as IoResult, Write};
@@ -51,8 +51,12 @@ fn bytes_of(name: &str) -> Option<Vec<u8>> {
         "folder" => Vec::new(),
         "unreadable" => file_of(&["-1>0"], b""),
         "late" => file_of_versions(11..1_200),
+        "most" => file_of_versions(11..1_035),
+        "late and first" => [file_of_versions(11..900), file_of(&["-1>0"], b"")].concat(),
+        "nothing" => Vec::new(),
         "gap" => [file_of(&["-1>0"], b""), file_of_versions(11..1_200)].concat(),
-        "held" => file_of(&["300>400"], b""),
+        "held" | "pipe" => file_of(&["300>400"], b""),
+        "held before" => file_of(&["400>500", "200>300", "300>400"], b""),
         "two\nlines" => b"\0".to_vec(),
         _ => return None,
     };
@@ -73,7 +77,7 @@ impl Files for Named {
     }
 
     fn is_regular(&self, name: &str) -> bool {
-        name != "folder" && bytes_of(name).is_some()
+        !matches!(name, "folder" | "pipe") && bytes_of(name).is_some()
     }
 
     fn create(&self, name: &str) -> Result<Self::Writer, FileError> {
@@ -82,7 +86,7 @@ impl Files for Named {
 }
 
 /// Runs the program on these words, and returns how it ends and what is on standard error.
-fn told(words: &[&str]) -> String {
+fn reported(words: &[&str]) -> String {
     let words: Vec<_> = ["replay"].iter().chain(words).copied().collect();
     let (mut out, mut error) = (StdSink::new(Vec::new()), StdSink::new(Vec::new()));
     let report = shell_over(&Named, &words, &mut out, &mut error);
@@ -151,9 +155,9 @@ fn findings_in_files() {
         ),
     ];
     for (words, fixed, further) in rows {
-        assert_eq!(told(words), fixed, "{words:?}");
+        assert_eq!(reported(words), fixed, "{words:?}");
         let verbose: Vec<_> = words.iter().chain(&["--verbose"]).copied().collect();
-        assert_eq!(told(&verbose), format!("{fixed}{further}"), "{words:?}");
+        assert_eq!(reported(&verbose), format!("{fixed}{further}"), "{words:?}");
     }
 }
 
@@ -179,16 +183,16 @@ fn findings_of_runs() {
         (&["--limit", "3", "--check", "replies", "writes"], "failed: replay: stop 3 ArenaFull\n", ARENA_FULL),
     ];
     for (words, fixed, further) in rows {
-        assert_eq!(told(words), fixed, "{words:?}");
+        assert_eq!(reported(words), fixed, "{words:?}");
         let verbose: Vec<_> = words.iter().chain(&["--verbose"]).copied().collect();
-        assert_eq!(told(&verbose), format!("{fixed}{further}"), "{words:?}");
+        assert_eq!(reported(&verbose), format!("{fixed}{further}"), "{words:?}");
     }
 }
 
 /// A stream doesn't note the version that it has reached, so nothing is said of it.
 #[test]
 fn stream_says_no_version() {
-    assert_eq!(told(&["--verbose", "--stream", "--limit", "3", "writes"]), "failed: replay: stop 3 ArenaFull\n");
+    assert_eq!(reported(&["--verbose", "--stream", "--limit", "3", "writes"]), "failed: replay: stop 3 ArenaFull\n");
 }
 
 const CUT: &str = "  cut ends inside frame 2 at byte 31, 3 bytes too early: \
@@ -214,11 +218,11 @@ fn several_resolvers() {
     ];
     for (words, fixed, further) in rows {
         let words: Vec<_> = ["--resolvers", "2"].iter().chain(words).copied().collect();
-        assert_eq!(told(&words), fixed, "{words:?}");
+        assert_eq!(reported(&words), fixed, "{words:?}");
         let verbose: Vec<_> = words.iter().chain(&["--verbose"]).copied().collect();
-        assert_eq!(told(&verbose), format!("{fixed}{further}"), "{words:?}");
+        assert_eq!(reported(&verbose), format!("{fixed}{further}"), "{words:?}");
     }
-    assert_eq!(told(&["--resolvers", "2", "--verbose", "first", "second"]), "done: ");
+    assert_eq!(reported(&["--resolvers", "2", "--verbose", "first", "second"]), "done: ");
 }
 
 const OUTPUT: &str = "  the output can't be written: free its disk, or read it to its end\n";
@@ -248,20 +252,56 @@ fn output_that_fails() {
             assert_eq!(ended(report.status, b"", &error.into_inner()), expected, "{words:?}");
         }
         let words: Vec<_> = words.iter().chain(&["-o", "full", "--verbose"]).copied().collect();
-        assert_eq!(told(&words), format!("failed: {OUTPUT}"), "{words:?}");
+        assert_eq!(reported(&words), format!("failed: {OUTPUT}"), "{words:?}");
     }
 }
 
-/// Without a failure nothing more is said, and neither of a refused command line.
+/// Returns the line that all batches are held, of which one follows this version and none an earlier one.
+fn held_from(version: i64) -> String {
+    format!("  no batch follows version -1, so all are held: begin the chain with `batches opening --version {version}`\n")
+}
+
+/// Without a failure it is said if all batches are held, whatever the task and the number of resolvers.
+#[test]
+fn all_batches_are_held() {
+    let rows: [(&[&str], &str, i64); 12] = [
+        (&["held"], "done", 300),
+        (&["held", "second"], "done", 100),
+        (&["second", "held before"], "done", 100),
+        (&["held before"], "done", 200),
+        (&["held", "--stream"], "done", 300),
+        (&["--summary", "second"], "done", 100),
+        (&["--summary", "--top", "2", "second"], "done", 100),
+        (&["--explain", "second"], "done", 100),
+        (&["--quiet", "-o", "to", "second"], "done", 100),
+        (&["--check", "replies", "second"], "differs", 100),
+        (&["--resolvers", "2", "second", "held"], "done", 100),
+        (&["--resolvers", "2", "--check", "replies", "second"], "differs", 100),
+    ];
+    for (words, ended, version) in rows {
+        assert_eq!(reported(words), format!("{ended}: "), "{words:?}");
+        let verbose: Vec<_> = words.iter().chain(&["--verbose"]).copied().collect();
+        assert_eq!(reported(&verbose), format!("{ended}: {}", held_from(version)), "{words:?}");
+    }
+}
+
+/// It is said of as many batches as a resolver holds, and of each file up to the first batch that begins a chain.
+#[test]
+fn most_batches_are_held() {
+    assert_eq!(reported(&["--verbose", "most"]), format!("done: {}", held_from(10)));
+    assert_eq!(reported(&["--verbose", "late and first"]), "done: ");
+}
+
+/// Nothing more is said if a batch begins a chain, if a file can't be read again, or of a refused command line.
 #[test]
 fn nothing_further() {
-    for words in [&["first", "second"][..], &["held"], &["held", "--stream"], &["--summary", "second"]] {
+    for words in [&["first", "second"][..], &["second", "first"], &["held", "first", "--stream"], &["pipe"], &["held", "pipe"], &["nothing"]] {
         let verbose: Vec<_> = words.iter().chain(&["--verbose"]).copied().collect();
-        assert_eq!(told(&verbose), "done: ", "{words:?}");
+        assert_eq!(reported(&verbose), "done: ", "{words:?}");
     }
-    assert_eq!(told(&["--verbose", "--check", "replies", "first"]), "differs: ");
-    assert_eq!(told(&["--verbose", "--check", "none", "first"]), "failed: replay: replies 0: cannot open\n");
-    assert!(told(&["--verbose", "--top", "5", "first"]).starts_with("usage: error: --top is wanted with --summary\n"));
+    assert_eq!(reported(&["--verbose", "--check", "replies", "first"]), "differs: ");
+    assert_eq!(reported(&["--verbose", "--check", "none", "first"]), "failed: replay: replies 0: cannot open\n");
+    assert!(reported(&["--verbose", "--top", "5", "first"]).starts_with("usage: error: --top is wanted with --summary\n"));
 }
 
 /// If standard error fails, it was given a prefix of the text, and the status stays.

@@ -4,7 +4,7 @@ use keyspace::{Answer, Batch};
 use lane::{Intake, Port, Taken, lane};
 use rattle_std::alloc::Global;
 use rattle_std::rt::HostRuntime;
-use replay_program::{AlwaysOpen, Assignment, Filter, Finished, Form, Style, Unshared, work};
+use replay_program::{AlwaysOpen, Assignment, LineFilter, Finished, Form, Style, Unshared, work};
 use resolver::Client;
 use std::thread;
 use tests::playing::{file_of, file_of_versions, reader};
@@ -19,13 +19,13 @@ fn connect() -> (Client, Intake<Batch>, Port<Answer>) {
 
 /// Works as proxy 0 with a share of 4.
 fn worked(client: Client, file: Vec<u8>) -> Finished {
-    let style = Style { form: Form::Words, filter: Filter { quiet: false, only: None, least: i64::MIN, below: None } };
+    let style = Style { form: Form::Words, filter: LineFilter { quiet: false, only: None, least: i64::MIN, below: None } };
     let assignment = Assignment { proxy: 0, share: 4, style };
     work(&HostRuntime::new(), Global, assignment, client, reader(file), &Unshared(AlwaysOpen))
 }
 
 /// Writes what a worker returns: the lines of its answers, whether one was lost, the fault of its file and the batch unsent.
-fn handed_back(finished: &Finished) -> String {
+fn returned(finished: &Finished) -> String {
     let mut out = StdSink::new(Vec::new());
     finished.lines.iter().for_each(|line| line.text.print(&mut out).expect("a vector takes all"));
     let mut text = String::from_utf8(out.into_inner()).expect("lines are text");
@@ -43,12 +43,12 @@ fn handed_back(finished: &Finished) -> String {
 
 /// Works on a file with two answers in the reply lane, which is closed. Compares what the worker returns after their lines, and whether
 /// it closes its lane. It sends nothing.
-fn hands_back(file: Vec<u8>, expected: &str, closes: bool) {
+fn returns(file: Vec<u8>, expected: &str, closes: bool) {
     let (client, mut requests, mut replies) = connect();
     assert!(replies.send(Answer::Never(1)).is_ok() && replies.send(Answer::Held(2)).is_ok(), "the lane has room");
     replies.close();
     let finished = worked(client, file);
-    assert_eq!(handed_back(&finished).strip_prefix("0 1 never\n0 2 held\n"), Some(expected));
+    assert_eq!(returned(&finished).strip_prefix("0 1 never\n0 2 held\n"), Some(expected));
     match requests.take() {
         Taken::End => assert!(closes),
         Taken::Empty => assert!(!closes),
@@ -58,17 +58,17 @@ fn hands_back(file: Vec<u8>, expected: &str, closes: bool) {
 
 #[test]
 fn answers_after_fault() {
-    hands_back(file_of(&[], b"\0"), "fault 1 Short\n", true);
+    returns(file_of(&[], b"\0"), "fault 1 Short\n", true);
 }
 
 #[test]
 fn answers_after_end_of_file() {
-    hands_back(Vec::new(), "", true);
+    returns(Vec::new(), "", true);
 }
 
 #[test]
 fn stops_sending_at_end_of_answers() {
-    hands_back(file_of(&["-1>0"], b""), "unsent 0\n", false);
+    returns(file_of(&["-1>0"], b""), "unsent 0\n", false);
 }
 
 /// Takes batches up to the end of the lane, and then closes the replies. Returns their versions.

@@ -3,29 +3,29 @@ use Rattle.std.proofs.Common.{◌≡◌, ◌+◌, ℕ, List, [], ◌∷◌, ◌+
 use Rattle.std.proofs.lemmas.List.Elements.{All-map, All-weaker}
 use Rattle.keyspace.specs.declared.span.Span.{Span}
 use Rattle.keyspace.specs.Fields.{RangeHolds}
-use Rattle.keyspace.specs.Tables.{range_told, LiesWithin}
+use Rattle.keyspace.specs.Tables.{range_of_span, LiesWithin}
 use Rattle.keyspace.specs.Putting.{ArePut}
 use Rattle.archcaraway_c.specs.declared.key_span.KeySpan.{KeySpan}
-use Rattle.archcaraway_c.proofs.Joining.{part_behind}
-use Rattle.archcaraway_c.specs.BatchObject.{range_given, span_behind, IsRangeOf}
+use Rattle.archcaraway_c.proofs.Joining.{part_after}
+use Rattle.archcaraway_c.specs.BatchObject.{range_given, span_after, IsRangeOf}
 
 -- the spans tell the ranges that were given
-pub told_given : (buffer keys : List ℕ) (given : List KeySpan)
-    → map (range_told (buffer ++ keys)) (map (span_behind (length buffer)) given) ≡ map (range_given keys) given
-told_given buffer keys [] = refl
-told_given buffer keys (span ∷ given) =
-    let begin = part_behind buffer keys span.begin (span.begin + span.begin_length) _ (omega arith) in
-    let end = part_behind buffer keys span.end (span.end + span.end_length) _ (omega arith) in
-    let range : range_told (buffer ++ keys) (span_behind (length buffer) span) ≡ range_given keys span =
+pub reported_given : (buffer keys : List ℕ) (given : List KeySpan)
+    → map (range_of_span (buffer ++ keys)) (map (span_after (length buffer)) given) ≡ map (range_given keys) given
+reported_given buffer keys [] = refl
+reported_given buffer keys (span ∷ given) =
+    let begin = part_after buffer keys span.begin (span.begin + span.begin_length) _ (omega arith) in
+    let end = part_after buffer keys span.end (span.end + span.end_length) _ (omega arith) in
+    let range : range_of_span (buffer ++ keys) (span_after (length buffer) span) ≡ range_given keys span =
     λ i. record { begin = begin i; end = end i } in
-    ap₂ ◌∷◌ range (told_given buffer keys given)
+    ap₂ ◌∷◌ range (reported_given buffer keys given)
 
 -- and lie in the buffer
-pub lie_behind : (buffer keys : List ℕ) (given : List KeySpan) → All (IsRangeOf keys) given
-    → All (LiesWithin (length (buffer ++ keys))) (map (span_behind (length buffer)) given)
-lie_behind buffer keys given ranges =
-    All-map (LiesWithin (length (buffer ++ keys))) (span_behind (length buffer)) given
-    (All-weaker (IsRangeOf keys) (λ span. LiesWithin (length (buffer ++ keys)) (span_behind (length buffer) span))
+pub lie_after : (buffer keys : List ℕ) (given : List KeySpan) → All (IsRangeOf keys) given
+    → All (LiesWithin (length (buffer ++ keys))) (map (span_after (length buffer)) given)
+lie_after buffer keys given ranges =
+    All-map (LiesWithin (length (buffer ++ keys))) (span_after (length buffer)) given
+    (All-weaker (IsRangeOf keys) (λ span. LiesWithin (length (buffer ++ keys)) (span_after (length buffer) span))
     (λ span is. record {
       begin = omega (arith, is.0.begin, length-append buffer keys);
       end = omega (arith, is.0.end, length-append buffer keys);
@@ -39,25 +39,25 @@ hold_given keys given ranges =
 
 -- the ranges are put: first with the bytes of their keys
 pub put_first : (buffer keys : List ℕ) (spans : List Span) (given : List KeySpan) → All (IsRangeOf keys) given
-    → ArePut buffer spans (map (range_given keys) given) (buffer ++ keys) (spans ++ map (span_behind (length buffer)) given)
+    → ArePut buffer spans (map (range_given keys) given) (buffer ++ keys) (spans ++ map (span_after (length buffer)) given)
 put_first buffer keys spans given ranges = record {
   bytes = keys;
-  added = map (span_behind (length buffer)) given;
+  added = map (span_after (length buffer)) given;
   buffer_is = refl;
   spans_are = refl;
-  told = told_given buffer keys given;
-  within = lie_behind buffer keys given ranges;
+  reported = reported_given buffer keys given;
+  within = lie_after buffer keys given ranges;
 }
 
 -- and then without
 pub put_second : (buffer keys : List ℕ) (spans : List Span) (given : List KeySpan) → All (IsRangeOf keys) given
     → ArePut (buffer ++ keys) spans (map (range_given keys) given) (buffer ++ keys)
-    (spans ++ map (span_behind (length buffer)) given)
+    (spans ++ map (span_after (length buffer)) given)
 put_second buffer keys spans given ranges = record {
   bytes = [];
-  added = map (span_behind (length buffer)) given;
+  added = map (span_after (length buffer)) given;
   buffer_is = sym (append-nil (buffer ++ keys));
   spans_are = refl;
-  told = told_given buffer keys given;
-  within = lie_behind buffer keys given ranges;
+  reported = reported_given buffer keys given;
+  within = lie_after buffer keys given ranges;
 }

@@ -6,7 +6,7 @@ use Rattle.std.proofs.lemmas.Slice.{between_is}
 use Rattle.keyspace.specs.declared.span.Span.{Span}
 use Rattle.keyspace.specs.declared.row.Row.{Row}
 use Rattle.keyspace.specs.Fields.{TxnFields, TxnLimits}
-use Rattle.keyspace.specs.Tables.{range_told, txn_told, txns_from, txns_told, LiesWithin, AreRows, AreTables}
+use Rattle.keyspace.specs.Tables.{range_of_span, txn_of_row, txns_from, txns_of_tables, LiesWithin, AreRows, AreTables}
 use Rattle.keyspace.proofs.callers.Rows.{rows_rise}
 
 -- the rows before an index lie one after the other too, and end where the last of them ends
@@ -32,31 +32,31 @@ part_of_front spans n from to within =
     between_is (take n spans) from to ∙ ap (drop from) (take-take to n spans within) ∙ sym (between_is spans from to)
 
 module _ (buffer : List ℕ) (spans : List Span) where
-  told_of_front : (n from : ℕ) (rows : List Row) (to : ℕ) → AreRows from rows to → to ≤ n
+  reported_of_front : (n from : ℕ) (rows : List Row) (to : ℕ) → AreRows from rows to → to ≤ n
       → txns_from buffer (take n spans) from rows ≡ txns_from buffer spans from rows
-  told_of_front n from [] to are within = refl
-  told_of_front n from (row ∷ rows) to are within =
+  reported_of_front n from [] to are within = refl
+  reported_of_front n from (row ∷ rows) to are within =
       let middle = row.end - row.writes in
       let ends : row.end ≤ n = omega (arith, rows_rise row.end rows to are.1, within) in
-      let reads = ap (map (range_told buffer)) (part_of_front spans n from middle (omega (arith, ends))) in
-      let writes = ap (map (range_told buffer)) (part_of_front spans n middle row.end ends) in
-      let txn : txn_told buffer (take n spans) from row ≡ txn_told buffer spans from row =
+      let reads = ap (map (range_of_span buffer)) (part_of_front spans n from middle (omega (arith, ends))) in
+      let writes = ap (map (range_of_span buffer)) (part_of_front spans n middle row.end ends) in
+      let txn : txn_of_row buffer (take n spans) from row ≡ txn_of_row buffer spans from row =
       λ i. record { snapshot = row.snapshot; marked = row.marked; reads = reads i; writes = writes i } in
-      ap₂ ◌∷◌ txn (told_of_front n row.end rows to are.1 within)
+      ap₂ ◌∷◌ txn (reported_of_front n row.end rows to are.1 within)
 
-  told_before : (from : ℕ) (rows : List Row) (count : ℕ)
+  reported_before : (from : ℕ) (rows : List Row) (count : ℕ)
       → txns_from buffer spans from (take count rows) ≡ take count (txns_from buffer spans from rows)
-  told_before from [] zero = refl
-  told_before from [] (suc count) = refl
-  told_before from (row ∷ rows) zero = refl
-  told_before from (row ∷ rows) (suc count) =
-      ap (λ (txns : List TxnFields). txn_told buffer spans from row ∷ txns) (told_before row.end rows count)
+  reported_before from [] zero = refl
+  reported_before from [] (suc count) = refl
+  reported_before from (row ∷ rows) zero = refl
+  reported_before from (row ∷ rows) (suc count) =
+      ap (λ (txns : List TxnFields). txn_of_row buffer spans from row ∷ txns) (reported_before row.end rows count)
 
   -- what the tables of the first rows tell
-  pub told_front : (rows : List Row) (count middle : ℕ) → AreTables buffer spans rows → AreRows 0 (take count rows) middle
-      → txns_told buffer (take middle spans) (take count rows) ≡ take count (txns_told buffer spans rows)
-  told_front rows count middle tables front =
-      told_of_front middle 0 (take count rows) middle front (omega arith) ∙ told_before 0 rows count
+  pub reported_front : (rows : List Row) (count middle : ℕ) → AreTables buffer spans rows → AreRows 0 (take count rows) middle
+      → txns_of_tables buffer (take middle spans) (take count rows) ≡ take count (txns_of_tables buffer spans rows)
+  reported_front rows count middle tables front =
+      reported_of_front middle 0 (take count rows) middle front (omega arith) ∙ reported_before 0 rows count
 
   -- they are tables
   pub tables_front : (rows : List Row) (count middle : ℕ) → AreTables buffer spans rows → AreRows 0 (take count rows) middle
@@ -67,6 +67,6 @@ module _ (buffer : List ℕ) (spans : List Span) where
       record {
         spans_within = All-take (LiesWithin (length buffer)) middle spans tables.spans_within;
         rows_fit = subst (AreRows 0 (take count rows)) exact front;
-        holds = subst (All TxnLimits) (sym (told_front rows count middle tables front))
-            (All-take TxnLimits count (txns_told buffer spans rows) tables.holds);
+        holds = subst (All TxnLimits) (sym (reported_front rows count middle tables front))
+            (All-take TxnLimits count (txns_of_tables buffer spans rows) tables.holds);
       }

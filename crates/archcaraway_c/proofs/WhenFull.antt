@@ -15,29 +15,29 @@ module _ (w : WhenFull) (met : SetStop) (old new : SetState) where
   Refused = w ≡ when.Refuse → met ≡ ArenaFull → new ≡ old
 
 -- of the stops before and after
-pub met_behind : (w : WhenFull) (met : SetStop) (old new : SetState) (before after : Option SetStop) → before ≡ None
+pub met_after : (w : WhenFull) (met : SetStop) (old new : SetState) (before after : Option SetStop) → before ≡ None
     → after ≡ stop_after w met → Refused w met old new
     → MetNow w (record old { stop = before }) (record new { stop = after }) met
-met_behind when.Stop met old new before after none is refused = is
-met_behind when.Refuse Memory old new before after none is refused = is
-met_behind when.Refuse ArenaFull old new before after none is refused =
+met_after when.Stop met old new before after none is refused = is
+met_after when.Refuse Memory old new before after none is refused = is
+met_after when.Refuse ArenaFull old new before after none is refused =
     ap₂ (λ (set : SetState) (stop : Option SetStop). record set { stop = stop }) (refused refl refl) (is ∙ sym none)
 
 -- a set that has no stop after it has refused the batch
-goes_on_if : (w : WhenFull) (met : SetStop) → stop_after w met ≡ None → (w ≡ when.Refuse) × (met ≡ ArenaFull)
-goes_on_if when.Stop met e = absurd (cc)
-goes_on_if when.Refuse Memory e = absurd (cc)
-goes_on_if when.Refuse ArenaFull e = (refl, refl)
+continues_if : (w : WhenFull) (met : SetStop) → stop_after w met ≡ None → (w ≡ when.Refuse) × (met ≡ ArenaFull)
+continues_if when.Stop met e = absurd (cc)
+continues_if when.Refuse Memory e = absurd (cc)
+continues_if when.Refuse ArenaFull e = (refl, refl)
 
 -- and its parts are as they were
-pub parts_behind : (w : WhenFull) (met : SetStop) (old new : SetState) (last : ℤ) (before after : Option SetStop)
+pub parts_after : (w : WhenFull) (met : SetStop) (old new : SetState) (last : ℤ) (before after : Option SetStop)
     → AreSetParts old last before → before ≡ None → after ≡ stop_after w met → Refused w met old new
     → (ws : List Write) × Remembers new ws → AreSetParts new last after
-parts_behind w met old new last before after parts none is refused remembers =
-    let same = λ (e : after ≡ None). let how = goes_on_if w met (sym is ∙ e) in refused how.0 how.1 in
+parts_after w met old new last before after parts none is refused remembers =
+    let same = λ (e : after ≡ None). let how = continues_if w met (sym is ∙ e) in refused how.0 how.1 in
     record {
       resolved = λ e. ap (λ (set : SetState). set.resolved) (same e) ∙ parts.resolved none;
-      goes_on = λ e. ap (λ (set : SetState). set.stop) (same e) ∙ parts.goes_on none;
+      continues = λ e. ap (λ (set : SetState). set.stop) (same e) ∙ parts.continues none;
       remembers = remembers;
     }
 

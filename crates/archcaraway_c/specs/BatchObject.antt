@@ -41,8 +41,8 @@ abbrev pub IsRangeOf : List ℕ → KeySpan → Type 0
 IsRangeOf keys span = IsWithin (length keys) span × RangeHolds (range_given keys span)
 
 -- the span in a buffer that has so many bytes before these
-abbrev pub span_behind : ℕ → KeySpan → Span
-span_behind before span = record {
+abbrev pub span_after : ℕ → KeySpan → Span
+span_after before span = record {
   begin = before + span.begin;
   begin_length = span.begin_length;
   end = before + span.end;

@@ -29,23 +29,23 @@ given_length (Never version) = 0
 given_length (Held version) = 0
 
 -- What was given is this answer, or none: of a reply the version, and the frame at the front of the buffer.
-abbrev pub Tells : Given → List ℕ → Option Answer → Type 0
-Tells Nothing buffer told = told ≡ None
-Tells (Reply version count) buffer told =
-    (reply : ReplyValue) × (told ≡ Some (answer.Reply reply)) × (version ≡ reply.version) × (count ≤ length buffer)
+abbrev pub Reports : Given → List ℕ → Option Answer → Type 0
+Reports Nothing buffer reported = reported ≡ None
+Reports (Reply version count) buffer reported =
+    (reply : ReplyValue) × (reported ≡ Some (answer.Reply reply)) × (version ≡ reply.version) × (count ≤ length buffer)
     × SpellsReply (take count buffer) reply
-Tells (Never version) buffer told = told ≡ Some (answer.Never version)
-Tells (Held version) buffer told = told ≡ Some (answer.Held version)
+Reports (Never version) buffer reported = reported ≡ Some (answer.Never version)
+Reports (Held version) buffer reported = reported ≡ Some (answer.Held version)
 
 -- Why an answer isn't written to a buffer of this size: the frame needs more, or memory is refused. A reply that exceeds a frame
 -- is refused too.
 abbrev pub WriteRefuses : Option Answer → ℕ → Refusal → Type 0
-WriteRefuses told capacity (Buffer needed) =
+WriteRefuses reported capacity (Buffer needed) =
     (capacity < needed)
-    × ((reply : ReplyValue) × (bytes : List ℕ) × (told ≡ Some (answer.Reply reply)) × SpellsReply bytes reply
+    × ((reply : ReplyValue) × (bytes : List ℕ) × (reported ≡ Some (answer.Reply reply)) × SpellsReply bytes reply
     × (needed ≡ length bytes))
-WriteRefuses told capacity (Wire fault) = (fault ≡ wire.Memory) ⊎ (fault ≡ wire.Long)
-WriteRefuses told capacity (Stop stop) = ⊥
-WriteRefuses told capacity Version = ⊥
-WriteRefuses told capacity Argument = ⊥
-WriteRefuses told capacity Behind = ⊥
+WriteRefuses reported capacity (Wire fault) = (fault ≡ wire.Memory) ⊎ (fault ≡ wire.Long)
+WriteRefuses reported capacity (Stop stop) = ⊥
+WriteRefuses reported capacity Version = ⊥
+WriteRefuses reported capacity Argument = ⊥
+WriteRefuses reported capacity Behind = ⊥

@@ -19,7 +19,7 @@ use Rattle.wire.specs.declared.error.WireError.TheVariants as wire
 use Rattle.archcaraway_c.specs.declared.refusal.Refusal.{Refusal}
 use Rattle.archcaraway_c.specs.declared.refusal.Refusal.TheVariants.{Stop, Wire, Version, Argument, Buffer, Behind}
 use Rattle.archcaraway_c.specs.BatchObject.{IsBatchOf}
-use Rattle.archcaraway_c.specs.SetObject.{GoesOn, StopsAt}
+use Rattle.archcaraway_c.specs.SetObject.{Continues, StopsAt}
 use Rattle.archcaraway_c.specs.CoreObject.{CoreParts}
 use Rattle.archcaraway_c.specs.CoreObject.{StopsAt as CoreStopsAt}
 
@@ -38,7 +38,7 @@ pub record JudgesBatch (old new : SetState) (batch : Batch) (verdicts : List ℕ
   pub reply : Reply
   pub answered : verdicts ≡ verdict_numbers reply.entries
   pub judged : (ws : List Write) → MapCovers old.map ws → Judged old.window ws batch reply
-  pub goes_on : GoesOn old new batch reply
+  pub continues : Continues old new batch reply
 
 -- the same of the batch of this version with these transactions
 pub record Judges (old new : SetState) (version : ℤ) (txns : List TxnFields) (verdicts : List ℕ) : Type 0 where

@@ -22,11 +22,11 @@ use Rattle.archcaraway_c.specs.Bound.{most_reply_length}
 -- remembers some list of writes.
 pub record AreSetParts (set : SetState) (last : ℤ) (stop : Option SetStop) : Type 0 where
   pub resolved : stop ≡ None → set.resolved ≡ last
-  pub goes_on : stop ≡ None → set.stop ≡ None
+  pub continues : stop ≡ None → set.stop ≡ None
   pub remembers : (ws : List Write) × Remembers set ws
 
 -- The set continues after the batch, and covers also the writes that the reply commits.
-pub record GoesOn (old new : SetState) (batch : Batch) (reply : Reply) : Type 0 where
+pub record Continues (old new : SetState) (batch : Batch) (reply : Reply) : Type 0 where
   pub resolved : new.resolved ≡ batch.version
   pub window : new.window ≡ old.window
   pub limit : new.map.limit ≡ old.map.limit
@@ -38,7 +38,7 @@ pub record Replies (old new : SetState) (batch : Batch) (answer : List ℕ) : Ty
   pub reply : Reply
   pub answered : SpellsReply answer reply
   pub judged : (ws : List Write) → MapCovers old.map ws → Judged old.window ws batch reply
-  pub goes_on : GoesOn old new batch reply
+  pub continues : Continues old new batch reply
 
 -- the same of the batch of a frame
 pub record Resolves (old new : SetState) (frame answer : List ℕ) : Type 0 where

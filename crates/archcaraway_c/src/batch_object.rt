@@ -27,12 +27,13 @@ pub struct BatchObject {
 impl Model for BatchObject {
     ghost use Rattle.std.specs.Prelude.{◌≤◌, List, vec_len};
     ghost use Rattle.keyspace.specs.Fields.{TxnFields};
-    ghost use Rattle.keyspace.specs.Tables.{txns_told, AreTables};
+    ghost use Rattle.keyspace.specs.Tables.{txns_of_tables, AreTables};
     ghost use Rattle.keyspace.specs.declared.batch.TheConstants.{MAX_TXNS};
 
     ghost Value = { List TxnFields };
 
-    ghost view = { λ b. txns_told b.tables.buffer.items b.tables.spans.items b.tables.rows.items };
+    ghost view = { λ b. txns_of_tables b.tables.buffer.items b.tables.spans.items
+        b.tables.rows.items };
 
     ghost invariant = { λ b. AreTables b.tables.buffer.items b.tables.spans.items
         b.tables.rows.items

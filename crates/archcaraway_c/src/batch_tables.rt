@@ -3,12 +3,12 @@
 
 ghost use Rattle.std.specs.Prelude.{◌≡◌, ◌+◌, ◌-◌, ◌<◌, ◌≤◌, ◌≤ℤ◌, ◌^◌, [], ◌∷◌, ◌++◌, ℕ, pos};
 ghost use Rattle.std.specs.Prelude.{length, vec_len, map, take, All, OnOk, OnErr, IfOk};
-ghost use Rattle.keyspace.specs.Tables.{txns_told, AreTables, AreRows};
+ghost use Rattle.keyspace.specs.Tables.{txns_of_tables, AreTables, AreRows};
 ghost use Rattle.keyspace.specs.declared.batch.TheConstants.{MAX_TXNS};
 ghost use Rattle.keyspace.specs.declared.txn.TheConstants.{MAX_RANGES};
-ghost use Rattle.archcaraway_c.specs.BatchObject.{txn_given, IsWithin, IsRangeOf, span_behind};
+ghost use Rattle.archcaraway_c.specs.BatchObject.{txn_given, IsWithin, IsRangeOf, span_after};
 
-use crate::given_range::place_behind;
+use crate::given_range::place_after;
 use crate::key_span::KeySpan;
 use crate::moving::{push_rows, push_spans};
 use keyspace::{Row, Span};
@@ -66,9 +66,9 @@ impl BatchTables {
         requires writes { All (IsRangeOf keys.now) writes.now }
         ensures tables { OnOk result (AreTables self.new.buffer.items self.new.spans.items
             self.new.rows.items) }
-        ensures told { OnOk result (txns_told self.new.buffer.items self.new.spans.items
+        ensures reported { OnOk result (txns_of_tables self.new.buffer.items self.new.spans.items
             self.new.rows.items
-            ≡ txns_told self.old.buffer.items self.old.spans.items self.old.rows.items
+            ≡ txns_of_tables self.old.buffer.items self.old.spans.items self.old.rows.items
             ++ txn_given snapshot marked keys.now reads.now writes.now ∷ []) }
         ensures count { OnOk result (vec_len self.new.rows ≡ vec_len self.old.rows + 1) }
         ensures buffer { OnErr result (self.new.buffer.items ≡ self.old.buffer.items) }
@@ -103,9 +103,9 @@ impl BatchTables {
         requires writes { All (IsRangeOf keys.now) writes.now }
         ensures tables { OnOk result (AreTables self.new.buffer.items self.new.spans.items
             self.new.rows.items) }
-        ensures told { OnOk result (txns_told self.new.buffer.items self.new.spans.items
+        ensures reported { OnOk result (txns_of_tables self.new.buffer.items self.new.spans.items
             self.new.rows.items
-            ≡ txns_told self.old.buffer.items self.old.spans.items self.old.rows.items
+            ≡ txns_of_tables self.old.buffer.items self.old.spans.items self.old.rows.items
             ++ txn_given snapshot marked keys.now reads.now writes.now ∷ []) }
         ensures count { OnOk result (vec_len self.new.rows ≡ vec_len self.old.rows + 1) }
         ensures buffer { take (length self.old.buffer.items) self.new.buffer.items
@@ -139,10 +139,10 @@ impl BatchTables {
         requires few { vec_len self.old.rows + vec_len other.now.rows ≤ MAX_TXNS }
         ensures tables { OnOk result (AreTables self.new.buffer.items self.new.spans.items
             self.new.rows.items) }
-        ensures told { OnOk result (txns_told self.new.buffer.items self.new.spans.items
+        ensures reported { OnOk result (txns_of_tables self.new.buffer.items self.new.spans.items
             self.new.rows.items
-            ≡ txns_told self.old.buffer.items self.old.spans.items self.old.rows.items
-            ++ txns_told other.now.buffer.items other.now.spans.items other.now.rows.items) }
+            ≡ txns_of_tables self.old.buffer.items self.old.spans.items self.old.rows.items
+            ++ txns_of_tables other.now.buffer.items other.now.spans.items other.now.rows.items) }
         ensures count { OnOk result (vec_len self.new.rows
             ≡ vec_len self.old.rows + vec_len other.now.rows) }
         ensures buffer { OnErr result (self.new.buffer.items ≡ self.old.buffer.items) }
@@ -170,10 +170,10 @@ impl BatchTables {
         requires few { vec_len self.old.rows + vec_len other.now.rows ≤ MAX_TXNS }
         ensures tables { OnOk result (AreTables self.new.buffer.items self.new.spans.items
             self.new.rows.items) }
-        ensures told { OnOk result (txns_told self.new.buffer.items self.new.spans.items
+        ensures reported { OnOk result (txns_of_tables self.new.buffer.items self.new.spans.items
             self.new.rows.items
-            ≡ txns_told self.old.buffer.items self.old.spans.items self.old.rows.items
-            ++ txns_told other.now.buffer.items other.now.spans.items other.now.rows.items) }
+            ≡ txns_of_tables self.old.buffer.items self.old.spans.items self.old.rows.items
+            ++ txns_of_tables other.now.buffer.items other.now.spans.items other.now.rows.items) }
         ensures count { OnOk result (vec_len self.new.rows
             ≡ vec_len self.old.rows + vec_len other.now.rows) }
         ensures buffer { take (length self.old.buffer.items) self.new.buffer.items
@@ -198,9 +198,9 @@ impl BatchTables {
     pub fn drop_last(&mut self)
         requires tables { AreTables self.old.buffer.items self.old.spans.items self.old.rows.items }
         ensures tables { AreTables self.new.buffer.items self.new.spans.items self.new.rows.items }
-        ensures told { txns_told self.new.buffer.items self.new.spans.items self.new.rows.items
+        ensures reported { txns_of_tables self.new.buffer.items self.new.spans.items self.new.rows.items
             ≡ take (length self.old.rows.items - 1)
-            (txns_told self.old.buffer.items self.old.spans.items self.old.rows.items) }
+            (txns_of_tables self.old.buffer.items self.old.spans.items self.old.rows.items) }
         ensures rows { self.new.rows.items
             ≡ take (length self.old.rows.items - 1) self.old.rows.items }
     {
@@ -237,11 +237,11 @@ fn push_ranges(
     requires fits { before + bytes < 2 ^ 32 }
     requires within { All (IsWithin bytes) given.now }
     ensures pushed { OnOk result (spans.new.items
-        ≡ spans.old.items ++ map (span_behind before) given.now) }
+        ≡ spans.old.items ++ map (span_after before) given.now) }
     ensures front { take (length spans.old.items) spans.new.items ≡ spans.old.items }
 {
     for span in given {
-        spans.push(place_behind(before, bytes, span))?;
+        spans.push(place_after(before, bytes, span))?;
     }
     Ok(())
 }

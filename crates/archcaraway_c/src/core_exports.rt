@@ -6,7 +6,7 @@ ghost use Rattle.keyspace.specs.declared.batch.Batch.{Batch};
 ghost use Rattle.archcaraway_c.specs.BatchFrame.{IsFrame};
 ghost use Rattle.archcaraway_c.specs.Numbers.{AreCoreNumbers};
 ghost use Rattle.archcaraway_c.specs.Status.{stop_status, refusal_status, bytes_needed};
-ghost use Rattle.archcaraway_c.specs.Given.{Tells, given_kind, given_version, given_length};
+ghost use Rattle.archcaraway_c.specs.Given.{Reports, given_kind, given_version, given_length};
 ghost use Rattle.archcaraway_c.specs.CoreObject.{CoreParts, CoreRefuses, GiveRefuses, next_owed};
 ghost use Rattle.archcaraway_c.specs.CoreObject.{still_owed_count, maybe_stop_status};
 ghost use Rattle.archcaraway_c.specs.declared.given.Given.{Given};
@@ -92,10 +92,10 @@ pub extern "C" fn archcaraway_export_core_give(
     version: &mut i64,
     at: &mut *mut u8,
 ) -> i32
-    ensures told { result ≡ pos 0 → (given : Given) × (kind.new ≡ given_kind given)
+    ensures reported { result ≡ pos 0 → (given : Given) × (kind.new ≡ given_kind given)
         × (version.new ≡ given_version given)
         × (answer_length.new ≡ given_length given)
-        × Tells given answer.new (next_owed proxy core.value) }
+        × Reports given answer.new (next_owed proxy core.value) }
     ensures refused { result ≢ pos 0 → (refusal : Refusal) × (result ≡ refusal_status refusal)
         × (answer_length.new ≡ bytes_needed refusal) × (kind.new ≡ pos 0) × (version.new ≡ negsuc 0)
         × GiveRefuses core.value proxy (length answer.old) refusal }

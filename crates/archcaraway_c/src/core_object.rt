@@ -4,12 +4,12 @@ ghost use Rattle.std.specs.Prelude.{◌≡◌, ◌≢◌, IfSome, Err, drop, sli
 ghost use Rattle.std.specs.Prelude.{◌++◌, ℕ, List, [], length, replicate, None, Some, Ok, OnOk};
 ghost use Rattle.std.specs.Prelude.{IfOk, IfErr};
 ghost use Rattle.keyspace.specs.Run.{Step, Finish};
-ghost use Rattle.resolver.specs.Core.{Given as GivenSoFar, GoesOn};
+ghost use Rattle.resolver.specs.Core.{Given as GivenSoFar, Continues};
 ghost use Rattle.resolver.specs.declared.stop.Stop.{Stop as StopValue};
 ghost use Rattle.resolver.specs.Stands.{Stands};
 ghost use Rattle.archcaraway_c.specs.BatchFrame.{IsFrame, IsNoFrame};
 ghost use Rattle.archcaraway_c.specs.Numbers.{AreCoreNumbers};
-ghost use Rattle.archcaraway_c.specs.Given.{Tells};
+ghost use Rattle.archcaraway_c.specs.Given.{Reports};
 ghost use Rattle.archcaraway_c.specs.CoreObject.{Admits, IsGateFull, StopsAt, CoreRefuses};
 ghost use Rattle.archcaraway_c.specs.CoreObject.{GiveRefuses, still_owed, next_owed};
 ghost use Rattle.archcaraway_c.specs.CoreObject.{still_owed_count};
@@ -56,7 +56,7 @@ impl CoreObject {
     /// `Argument` if one of them is outside its range, and the stop `Memory` if memory is refused.
     pub fn new(alloc: Global, proxies: u32, window: i64, limit: u64) -> Result<Self, Refusal>
         ensures stands { IfOk result (λ object. Stands object.core [] (λ _. [])) }
-        ensures goes_on { IfOk result (λ object. object.core.stop ≡ None) }
+        ensures continues { IfOk result (λ object. object.core.stop ≡ None) }
         ensures waiting { IfOk result (λ object. object.waiting ≡ replicate proxies None) }
         ensures proxies { IfOk result (λ object. length object.core.owed ≡ proxies) }
         ensures window { IfOk result (λ object. object.core.set.window ≡ window) }
@@ -94,12 +94,12 @@ impl CoreObject {
     pub fn admit(&mut self, proxy: u32, frame: &[u8]) -> Result<(), Refusal>
         ensures admitted { IfOk result (λ _. (batch : Batch) × IsFrame frame.now batch
             × Admits self.old.core proxy batch self.new.core × (¬ IsGateFull self.old.core batch)) }
-        ensures goes_on { IfOk result (λ _. (self.old.core.stop ≡ None)
+        ensures continues { IfOk result (λ _. (self.old.core.stop ≡ None)
             × (self.new.core.stop ≡ None)) }
         ensures refused { IfErr result
             (λ refusal. CoreRefuses self.old self.new proxy frame.now refusal) }
         ensures waiting { self.new.waiting ≡ self.old.waiting }
-        ensures same { GoesOn self.old.core self.new.core }
+        ensures same { Continues self.old.core self.new.core }
     {
         let number = match self.known(proxy) {
             Ok(number) => number,
@@ -124,7 +124,7 @@ impl CoreObject {
         ensures finished { self.old.core.stop ≡ None → (log : List Step) (given : GivenSoFar)
             → Stands self.old.core log given
             → Stands self.new.core (log ++ Finish ∷ []) given }
-        ensures goes_on { IfOk result (λ _. (self.old.core.stop ≡ None)
+        ensures continues { IfOk result (λ _. (self.old.core.stop ≡ None)
             × (self.new.core.stop ≡ None)) }
         ensures refused { IfErr result (λ refusal. (stop : StopValue)
             × (refusal ≡ Refusal.Stop stop)
@@ -134,7 +134,7 @@ impl CoreObject {
         ensures memory { self.old.core.stop ≡ None
             → IfErr result (λ refusal. refusal ≡ Refusal.Stop Stop.Memory) }
         ensures waiting { self.new.waiting ≡ self.old.waiting }
-        ensures same { GoesOn self.old.core self.new.core }
+        ensures same { Continues self.old.core self.new.core }
     {
         if let Err(stop) = self.core.finish() {
             return Err(Refusal::Stop(stop));
@@ -147,7 +147,7 @@ impl CoreObject {
     /// all of these are still owed. `Wire` is `Memory` here, or `Long` for a reply that exceeds a
     /// frame; the reply to a batch that has a frame doesn't exceed one.
     pub fn give(&mut self, proxy: u32, buffer: &mut [u8]) -> Result<Given, Refusal>
-        ensures told { IfOk result (λ given. Tells given buffer.new (next_owed proxy self.old)) }
+        ensures reported { IfOk result (λ given. Reports given buffer.new (next_owed proxy self.old)) }
         ensures taken { IfOk result (λ _. still_owed proxy self.new
             ≡ drop 1 (still_owed proxy self.old)) }
         ensures refused { IfErr result
@@ -205,14 +205,14 @@ impl CoreObject {
     // Takes a batch of a proxy, or stops.
     fn take(&mut self, proxy: usize, batch: Batch) -> Result<(), Stop>
         requires known { proxy < length self.old.waiting }
-        requires goes_on { self.old.core.stop ≡ None }
+        requires continues { self.old.core.stop ≡ None }
         ensures admitted { IfOk result (λ _. Admits self.old.core proxy batch self.new.core) }
-        ensures goes_on { IfOk result (λ _. self.new.core.stop ≡ None) }
+        ensures continues { IfOk result (λ _. self.new.core.stop ≡ None) }
         ensures room { OnOk result (¬ IsGateFull self.old.core batch) }
         ensures stops { IfErr result (λ stop. StopsAt self.old.core self.new.core proxy batch
             stop) }
         ensures waiting { self.new.waiting ≡ self.old.waiting }
-        ensures same { GoesOn self.old.core self.new.core }
+        ensures same { Continues self.old.core self.new.core }
     {
         self.core.admit(proxy, batch)
     }

@@ -3,7 +3,7 @@
 ghost use Rattle.std.specs.Prelude.{◌≡◌, ◌+◌, ◌<◌, ◌≤◌, ◌^◌, length, slice_range, All, IfErr};
 ghost use Rattle.std.specs.Prelude.{IfSome, IfNone, OnOk};
 ghost use Rattle.std.specs.List.{Contains};
-ghost use Rattle.archcaraway_c.specs.BatchObject.{IsWithin, IsRangeOf, SpanRefuses, span_behind};
+ghost use Rattle.archcaraway_c.specs.BatchObject.{IsWithin, IsRangeOf, SpanRefuses, span_after};
 ghost use Rattle.archcaraway_c.specs.declared.key_span.KeySpan.{KeySpan as KeySpanValue};
 
 use crate::key_span::KeySpan;
@@ -57,10 +57,10 @@ fn key_at(keys: &[u8], from: usize, count: usize) -> Option<&[u8]>
 }
 
 /// Returns where the range lies in a buffer that has so many bytes before these.
-pub fn place_behind(before: usize, bytes: usize, span: &KeySpan) -> Span
+pub fn place_after(before: usize, bytes: usize, span: &KeySpan) -> Span
     requires fits { before + bytes < 2 ^ 32 }
     requires within { IsWithin bytes span.now }
-    ensures span { result ≡ span_behind before span.now }
+    ensures span { result ≡ span_after before span.now }
 {
     Span {
         begin: (before + span.begin) as u32,

@@ -145,7 +145,7 @@ impl SetObject {
 
     // Returns whether the version of the batch isn't above that of the batch resolved last.
     fn is_late(&self, batch: &Batch) -> bool
-        requires goes_on { self.now.stop ≡ None }
+        requires continues { self.now.stop ≡ None }
         ensures late { IsTrue result ↔ (batch.now.version ≤ℤ self.now.resolved) }
     {
         batch.version <= self.resolved
@@ -153,7 +153,7 @@ impl SetObject {
 
     // Resolves a batch and returns the frame of its reply, or stops, or refuses it.
     fn reply(&mut self, batch: &Batch, when_full: WhenFull) -> Result<Vec<u8>, Refusal>
-        requires goes_on { self.old.stop ≡ None }
+        requires continues { self.old.stop ≡ None }
         requires rising { self.old.resolved <ℤ batch.now.version }
         ensures replies { IfOk result (λ reply. Replies self.old self.new batch.now reply.items) }
         ensures short { IfOk result (λ reply. length reply.items ≤ most_reply_length batch.now) }
@@ -181,7 +181,7 @@ fn reply_to(
     batch: &Batch,
     when_full: WhenFull,
 ) -> Result<Vec<u8>, SetStop>
-    requires goes_on { set.old.stop ≡ None }
+    requires continues { set.old.stop ≡ None }
     requires rising { set.old.resolved <ℤ batch.now.version }
     requires remembers { (ws : List Write) × Remembers set.old ws }
     ensures replies { IfOk result (λ reply. Replies set.old set.new batch.now reply.items) }

@@ -3,7 +3,7 @@
 ghost use Rattle.std.specs.Prelude.{◌≡◌, ◌≤◌, ◌<◌, ◌⊎◌, length, replicate, vec_len, None, Some};
 ghost use Rattle.std.specs.Prelude.{IfOk, IfErr, option_to_list};
 ghost use Rattle.std.specs.List.{sum_by};
-ghost use Rattle.archcaraway_c.specs.Given.{Tells, WriteRefuses};
+ghost use Rattle.archcaraway_c.specs.Given.{Reports, WriteRefuses};
 
 use crate::given::Given;
 use crate::refusal::Refusal;
@@ -36,7 +36,7 @@ pub fn write_answer(
     answer: &Option<Answer>,
     buffer: &mut [u8],
 ) -> Result<Given, Refusal>
-    ensures told { IfOk result (λ given. Tells given buffer.new answer.now) }
+    ensures reported { IfOk result (λ given. Reports given buffer.new answer.now) }
     ensures refused { IfErr result
         (λ refusal. WriteRefuses answer.now (length buffer.old) refusal) }
 {
@@ -50,7 +50,7 @@ pub fn write_answer(
 
 // Writes the frame of a reply to the front of the buffer, and returns what is given.
 fn give_reply(alloc: Global, reply: &Reply, buffer: &mut [u8]) -> Result<Given, Refusal>
-    ensures told { IfOk result (λ given. Tells given buffer.new (Some (Answer.Reply reply.now))) }
+    ensures reported { IfOk result (λ given. Reports given buffer.new (Some (Answer.Reply reply.now))) }
     ensures refused { IfErr result
         (λ refusal. WriteRefuses (Some (Answer.Reply reply.now)) (length buffer.old) refusal) }
 {

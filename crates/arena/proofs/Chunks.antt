@@ -276,9 +276,9 @@ module _ {H : Type 0} where
       is_live-by (n == 65535) ls hs size width bytes i n refl paired is
 
   -- behind the lengths no slot is live
-  pub none_behind : (ls : List ℕ) (hs : List H) (size width : ℕ) (bytes : List ℕ) (i : ℕ)
+  pub none_after : (ls : List ℕ) (hs : List H) (size width : ℕ) (bytes : List ℕ) (i : ℕ)
       → length hs ≡ length ls → length ls ≤ i
       → is_some (held_at (slots_in ls hs size width bytes) i) ≡ false
-  none_behind ls hs size width bytes i paired behind =
+  none_after ls hs size width bytes i paired following =
       none_beyond (slots_of size) (entries_of ls hs) width bytes i
-      (omega (arith, behind, length-entries_of ls hs paired))
+      (omega (arith, following, length-entries_of ls hs paired))

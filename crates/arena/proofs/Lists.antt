@@ -109,7 +109,7 @@ pub row_new : (xs : List ℕ) (first k q : ℕ) → first ≤ q → q < first + 
     → is_member nat_eq (with_row xs first k) q ≡ true
 row_new xs first zero q from below = absurd (omega arith)
 row_new xs first (suc k) q from below =
-    by_case (same_or_other q first) (λ behind. row_new xs (suc first) k q behind (omega arith))
+    by_case (same_or_other q first) (λ following. row_new xs (suc first) k q following (omega arith))
   where
     by_case : (q ≡ first) ⊎ (q ≢ first)
         → (suc first ≤ q → is_member nat_eq (with_row xs (suc first) k) q ≡ true)
@@ -121,7 +121,7 @@ pub row_member : (xs : List ℕ) (first k q : ℕ) → is_member nat_eq (with_ro
     → (is_member nat_eq xs q ≡ true) ⊎ ((first ≤ q) × (q < first + k))
 row_member xs first zero q is = inl is
 row_member xs first (suc k) q is =
-    by_case (pushed (with_row xs (suc first) k) first q is) (λ behind. row_member xs (suc first) k q behind)
+    by_case (pushed (with_row xs (suc first) k) first q is) (λ following. row_member xs (suc first) k q following)
   where
     further : (is_member nat_eq xs q ≡ true) ⊎ ((suc first ≤ q) × (q < suc first + k))
         → (is_member nat_eq xs q ≡ true) ⊎ ((first ≤ q) × (q < first + suc k))
@@ -132,7 +132,7 @@ row_member xs first (suc k) q is =
         → (is_member nat_eq (with_row xs (suc first) k) q ≡ true
         → (is_member nat_eq xs q ≡ true) ⊎ ((suc first ≤ q) × (q < suc first + k)))
         → (is_member nat_eq xs q ≡ true) ⊎ ((first ≤ q) × (q < first + suc k))
-    by_case (inl behind) later = further (later behind)
+    by_case (inl following) later = further (later following)
     by_case (inr here) later = inr (omega arith, omega arith)
 
 pub row_distinct : (xs : List ℕ) (first k : ℕ) → IsDistinct nat_eq xs

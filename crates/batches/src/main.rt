@@ -5,11 +5,11 @@
 //! streams of the process.
 #![tactic(auto)]
 
-use batches_program::{Failure, Status, fail, run};
+use batches_program::{Failure, JobStatus, fail, run};
 use std::io::{BufWriter, IsTerminal};
 use wire::StdSink;
 
-fn main(rt: HostRuntime) -> Status {
+fn main(rt: HostRuntime) -> JobStatus {
     let watched = rt.stderr().is_terminal();
     let mut error = StdSink::new(rt.stderr());
     match BufWriter::new(rt.alloc(), rt.stdout()) {

@@ -7,7 +7,7 @@ use Rattle.keys.specs.declared.key.TheConstants.{MAX_KEY_LENGTH}
 use Rattle.keys.specs.declared.range.Range.{Range}
 use Rattle.keys.specs.Key.{IsBytes, IsKey, is_before, IsAtMost}
 use Rattle.keys.specs.Range.{IsEmpty, Meets}
-use Rattle.keys.proofs.callers.KeyHeads.{after_by_first, before_behind_first}
+use Rattle.keys.proofs.callers.KeyHeads.{after_by_first, before_after_first}
 use Rattle.keys.proofs.callers.KeyOrder.{before_at_most, at_most_before}
 use Rattle.keys.proofs.callers.Meeting.{before_unless_empty, meets_by_ends}
 use Rattle.wire.specs.Fields.{RangeFields, range_fields}
@@ -29,7 +29,7 @@ not_after (suc count) (byte ∷ key) bytes short =
       | inr most ↦
           let is : byte ≡ 255 = omega (arith, All-head (λ b. b < 256) byte key bytes, most) in
           subst (λ b. is_before (255 ∷ replicate count 255) (b ∷ key) ≡ false) (sym is)
-          (before_behind_first 255 (replicate count 255) key ∙ others)
+          (before_after_first 255 (replicate count 255) key ∙ others)
     ]
 
 at_most_greatest : (key : List ℕ) → IsKey key → IsAtMost key greatest_key

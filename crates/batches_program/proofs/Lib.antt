@@ -1,6 +1,6 @@
 mod Turning
 mod Failures
-mod Telling
+mod Reporting
 mod FramesRead
 mod Adding
 mod EveryKey

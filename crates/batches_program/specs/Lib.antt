@@ -1,8 +1,8 @@
 pub mod Turned
 pub mod Lines
 pub mod Failing
-pub mod Told
-pub mod Task
+pub mod ErrorText
+pub mod JobTask
 pub mod Opening
 pub mod Clipping
 pub mod Points

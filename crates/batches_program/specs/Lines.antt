@@ -11,8 +11,8 @@ use Rattle.wire.specs.NextFrame.{IsFrameOf}
 use Rattle.json_lines.specs.Batches.{batch_of}
 use Rattle.json_lines.specs.Replies.{reply_of}
 use Rattle.json_lines.specs.Written.{batch_line, reply_line}
-use Rattle.batches_program.specs.declared.form.Form.{Form}
-use Rattle.batches_program.specs.declared.form.Form.TheVariants.{Line, Table}
+use Rattle.batches_program.specs.declared.form.OutputForm.{OutputForm}
+use Rattle.batches_program.specs.declared.form.OutputForm.TheVariants.{Line, Table}
 use Rattle.batches_program.specs.declared.kind.Kind.{Kind}
 use Rattle.batches_program.specs.declared.kind.Kind.TheVariants.{Batches, Replies}
 
@@ -55,6 +55,6 @@ IsShown Batches frame table = (batch : Batch) × IsFrameOf frame batch
 IsShown Replies frame table = (reply : Reply) × SpellsReply frame reply
 
 -- what is printed of a frame
-abbrev pub IsPrinted : Kind → Form → List ℕ → List ℕ → Type 0
+abbrev pub IsPrinted : Kind → OutputForm → List ℕ → List ℕ → Type 0
 IsPrinted kind Line = BecomesLine kind
 IsPrinted kind (Table full) = IsShown kind

@@ -1,15 +1,15 @@
 //! A task done over any reader.
 
 ghost use Rattle.std.specs.Prelude.{◌≡◌, OnOk, None};
-ghost use Rattle.batches_program.specs.Task.{IsDone};
-ghost use Rattle.batches_program.specs.Told.{Tells, length_told};
+ghost use Rattle.batches_program.specs.JobTask.{IsDone};
+ghost use Rattle.batches_program.specs.ErrorText.{ReportsText, progress_length};
 
 use crate::decoder::decode;
 use crate::encoder::encode;
 use crate::failure::Failure;
 use crate::kind::Kind;
-use crate::progress::Progress;
-use crate::task::Task;
+use crate::progress::FileProgress;
+use crate::task::JobTask;
 use crate::viewer::show;
 use std::alloc::Global;
 use std::io::BufRead;
@@ -18,20 +18,20 @@ use wire::{Sink, StdSource};
 /// Does the task with what the reader gives, and flushes the output, after a failure too.
 pub fn convert<R: BufRead, O: Sink, E: Sink>(
     alloc: Global,
-    task: Task,
+    task: JobTask,
     kind: Kind,
     reader: &mut R,
     out: &mut O,
     error: &mut E,
-    progress: &mut Progress,
+    progress: &mut FileProgress,
 ) -> Result<(), Failure>
     ensures done { OnOk result
         (IsDone task kind (R.remaining reader.old) (O.given out.old) (O.given out.new)) }
     ensures ok { OnOk result (O.failures out.new ≡ O.failures out.old) }
-    ensures length { length_told progress.new ≡ length_told progress.old }
-    ensures told { Tells (E.given error.old) (E.given error.new) (E.failures error.old)
+    ensures length { progress_length progress.new ≡ progress_length progress.old }
+    ensures reported { ReportsText (E.given error.old) (E.given error.new) (E.failures error.old)
         (E.failures error.new) }
-    ensures quiet { length_told progress.old ≡ None → error.new ≡ error.old }
+    ensures quiet { progress_length progress.old ≡ None → error.new ≡ error.old }
 {
     let done = do_task(alloc, task, kind, reader, out, error, progress);
     let flushed = out.flush();
@@ -41,24 +41,24 @@ pub fn convert<R: BufRead, O: Sink, E: Sink>(
 
 fn do_task<R: BufRead, O: Sink, E: Sink>(
     alloc: Global,
-    task: Task,
+    task: JobTask,
     kind: Kind,
     reader: &mut R,
     out: &mut O,
     error: &mut E,
-    progress: &mut Progress,
+    progress: &mut FileProgress,
 ) -> Result<(), Failure>
     ensures done { OnOk result
         (IsDone task kind (R.remaining reader.old) (O.given out.old) (O.given out.new)) }
     ensures ok { OnOk result (O.failures out.new ≡ O.failures out.old) }
-    ensures length { length_told progress.new ≡ length_told progress.old }
-    ensures told { Tells (E.given error.old) (E.given error.new) (E.failures error.old)
+    ensures length { progress_length progress.new ≡ progress_length progress.old }
+    ensures reported { ReportsText (E.given error.old) (E.given error.new) (E.failures error.old)
         (E.failures error.new) }
-    ensures quiet { length_told progress.old ≡ None → error.new ≡ error.old }
+    ensures quiet { progress_length progress.old ≡ None → error.new ≡ error.old }
 {
     match task {
-        Task::Encode => encode(alloc, kind, reader, out, error, progress),
-        Task::Decode => decode(
+        JobTask::Encode => encode(alloc, kind, reader, out, error, progress),
+        JobTask::Decode => decode(
             alloc,
             kind,
             &mut StdSource::new(reader),
@@ -66,7 +66,7 @@ fn do_task<R: BufRead, O: Sink, E: Sink>(
             error,
             progress,
         ),
-        Task::Show { full } => show(
+        JobTask::Show { full } => show(
             alloc,
             kind,
             full,

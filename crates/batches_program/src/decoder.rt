@@ -4,17 +4,17 @@ ghost use Rattle.std.specs.Prelude.{◌≡◌, ◌≢◌, ◌<◌, ◌≤◌, If
 ghost use Rattle.wire.specs.FrameLength.{frame_length};
 ghost use Rattle.batches_program.specs.Failing.{FailsFrame, IsFailureOfFrame};
 ghost use Rattle.batches_program.specs.Lines.{IsBatchLine, IsReplyLine, BecomesLine};
-ghost use Rattle.batches_program.specs.Told.{Tells, length_told};
+ghost use Rattle.batches_program.specs.ErrorText.{ReportsText, progress_length};
 ghost use Rattle.batches_program.specs.Turned.{Stops, TurnsAll};
 ghost use Rattle.batches_program.specs.declared.failure.Failure.TheVariants.{Read, Write};
 ghost use Rattle.batches_program.specs.declared.kind.Kind.TheVariants.{Batches, Replies};
 
 use crate::failure::Failure;
-use crate::form::Form;
+use crate::form::OutputForm;
 use crate::frame::{batch_in, reply_in};
 use crate::kind::Kind;
 use crate::printer::print_frames;
-use crate::progress::Progress;
+use crate::progress::FileProgress;
 use json_lines::{write_batch, write_reply};
 use std::alloc::Global;
 use wire::{Sink, Source};
@@ -27,7 +27,7 @@ pub fn decode<R: Source, W: Sink, E: Sink>(
     reader: &mut R,
     writer: &mut W,
     error: &mut E,
-    progress: &mut Progress,
+    progress: &mut FileProgress,
 ) -> Result<(), Failure>
     ensures turned { OnOk result (TurnsAll (BecomesLine kind) (R.remaining reader.old)
         (W.given writer.old) (W.given writer.new)) }
@@ -36,12 +36,20 @@ pub fn decode<R: Source, W: Sink, E: Sink>(
     ensures read { IfErr result (λ e. e ≡ Read → R.failures reader.old < R.failures reader.new) }
     ensures write { IfErr result (λ e. e ≡ Write → W.failures writer.old < W.failures writer.new) }
     ensures ok { OnOk result (W.failures writer.new ≡ W.failures writer.old) }
-    ensures length { length_told progress.new ≡ length_told progress.old }
-    ensures told { Tells (E.given error.old) (E.given error.new) (E.failures error.old)
+    ensures length { progress_length progress.new ≡ progress_length progress.old }
+    ensures reported { ReportsText (E.given error.old) (E.given error.new) (E.failures error.old)
         (E.failures error.new) }
-    ensures quiet { length_told progress.old ≡ None → error.new ≡ error.old }
+    ensures quiet { progress_length progress.old ≡ None → error.new ≡ error.old }
 {
-    print_frames(alloc, kind, Form::Line, reader, writer, error, progress)
+    print_frames(
+        alloc,
+        kind,
+        OutputForm::Line,
+        reader,
+        writer,
+        error,
+        progress,
+    )
 }
 
 /// Returns the line of what a frame says, with its line feed.

@@ -7,14 +7,14 @@ ghost use Rattle.json.specs.Word.{is_space};
 ghost use Rattle.batches_program.specs.Lines.{IsBatchFrame, IsReplyFrame, IsFrame, BecomesFrame};
 ghost use Rattle.batches_program.specs.Lines.{is_blank};
 ghost use Rattle.batches_program.specs.Failing.{FailsLine, IsFailureOfLine};
-ghost use Rattle.batches_program.specs.Told.{Tells, length_told};
+ghost use Rattle.batches_program.specs.ErrorText.{ReportsText, progress_length};
 ghost use Rattle.batches_program.specs.Turned.{Stops, TurnsAll};
 ghost use Rattle.batches_program.specs.declared.failure.Failure.TheVariants.{Write};
 ghost use Rattle.batches_program.specs.declared.kind.Kind.TheVariants.{Batches, Replies};
 
 use crate::failure::Failure;
 use crate::kind::Kind;
-use crate::progress::Progress;
+use crate::progress::FileProgress;
 use json_lines::{Scratch, read_batch, read_reply};
 use std::alloc::Global;
 use std::io::BufRead;
@@ -29,7 +29,7 @@ pub fn encode<R: BufRead, W: Sink, E: Sink>(
     reader: &mut R,
     writer: &mut W,
     error: &mut E,
-    progress: &mut Progress,
+    progress: &mut FileProgress,
 ) -> Result<(), Failure>
     ensures turned { OnOk result (TurnsAll (BecomesFrame kind) (R.remaining reader.old)
         (W.given writer.old) (W.given writer.new)) }
@@ -37,10 +37,10 @@ pub fn encode<R: BufRead, W: Sink, E: Sink>(
         (R.remaining reader.old) (W.given writer.old) (W.given writer.new) e) }
     ensures write { IfErr result (λ e. e ≡ Write → W.failures writer.old < W.failures writer.new) }
     ensures ok { OnOk result (W.failures writer.new ≡ W.failures writer.old) }
-    ensures length { length_told progress.new ≡ length_told progress.old }
-    ensures told { Tells (E.given error.old) (E.given error.new) (E.failures error.old)
+    ensures length { progress_length progress.new ≡ progress_length progress.old }
+    ensures reported { ReportsText (E.given error.old) (E.given error.new) (E.failures error.old)
         (E.failures error.new) }
-    ensures quiet { length_told progress.old ≡ None → error.new ≡ error.old }
+    ensures quiet { progress_length progress.old ≡ None → error.new ≡ error.old }
 {
     let mut scratch = Scratch::new(alloc);
     let mut line = Vec::new(alloc);

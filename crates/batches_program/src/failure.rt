@@ -1,13 +1,13 @@
 //! Failures, and the text that reports them.
 
 ghost use Rattle.std.specs.Prelude.{◌≡◌, ◌≢◌, ◌⊎◌, IfOk, string_bytes};
-ghost use Rattle.batches_program.specs.Told.{IsLine, TellsLine};
+ghost use Rattle.batches_program.specs.ErrorText.{IsLine, ReportsLine};
 ghost use Rattle.batches_program.specs.declared.failure.Failure.TheVariants.{Memory, Read, Report};
 ghost use Rattle.batches_program.specs.declared.failure.Failure.TheVariants.{Write};
 
-use crate::status::Status;
+use crate::status::JobStatus;
 use batches_report::ReportError;
-use json_lines::{Cause, Refusal};
+use json_lines::{Cause, LineRefusal};
 use std::alloc::{AllocError, AllocFailed, Global};
 use std::io;
 use thiserror::Error;
@@ -18,7 +18,7 @@ use wire::{Failed, Sink, WireError, write_all};
 pub enum Failure {
     /// A line is refused.
     #[error("line {0}: {1}")]
-    Line(u64, Refusal),
+    Line(u64, LineRefusal),
     /// What a line says is too long for a frame.
     #[error("line {0}: longer as a frame than 4,194,304 bytes")]
     Long(u64),
@@ -63,13 +63,13 @@ pub enum Failure {
 
 impl Failure {
     /// Creates the failure of a refused line.
-    pub fn of_line(number: u64, refusal: Refusal) -> Self
+    pub fn of_line(number: u64, refusal: LineRefusal) -> Self
         ensures which { ((refusal.cause ≡ Cause.Memory) × (result ≡ Failure.Memory))
             ⊎ ((refusal.cause ≢ Cause.Memory) × (result ≡ Failure.Line number refusal)) }
     {
         match refusal.cause {
             Cause::Memory => Failure::Memory,
-            cause => Failure::Line(number, Refusal::new(refusal.place, cause)),
+            cause => Failure::Line(number, LineRefusal::new(refusal.place, cause)),
         }
     }
 
@@ -154,38 +154,38 @@ impl From<io::Error> for Failure {
 }
 
 /// Tells the failure in a line, and returns how the program ends. A failed write changes nothing.
-pub fn fail<E: Sink>(error: &mut E, alloc: Global, failure: &Failure) -> Status
-    ensures failed { result ≡ Status.Failed }
-    ensures told { TellsLine (E.given error.old) (E.given error.new) (E.failures error.old)
+pub fn fail<E: Sink>(error: &mut E, alloc: Global, failure: &Failure) -> JobStatus
+    ensures failed { result ≡ JobStatus.Failed }
+    ensures reported { ReportsLine (E.given error.old) (E.given error.new) (E.failures error.old)
         (E.failures error.new) }
 {
     match line_of(alloc, failure) {
-        Ok(line) => tell(error, line.as_bytes()),
-        Err(_) => tell(error, b"memory was refused\n"),
+        Ok(line) => report_line(error, line.as_bytes()),
+        Err(_) => report_line(error, b"memory was refused\n"),
     }
 }
 
 /// Tells the failure in a line that begins with the program and the name of the input, and returns
 /// how the program ends. A failed write changes nothing.
-pub fn fail_in<E: Sink>(error: &mut E, alloc: Global, name: &str, failure: &Failure) -> Status
-    ensures failed { result ≡ Status.Failed }
-    ensures told { TellsLine (E.given error.old) (E.given error.new) (E.failures error.old)
+pub fn fail_in<E: Sink>(error: &mut E, alloc: Global, name: &str, failure: &Failure) -> JobStatus
+    ensures failed { result ≡ JobStatus.Failed }
+    ensures reported { ReportsLine (E.given error.old) (E.given error.new) (E.failures error.old)
         (E.failures error.new) }
 {
     match line_in(alloc, name, failure) {
-        Ok(named) => tell(error, named.as_bytes()),
-        Err(_) => tell(error, b"memory was refused\n"),
+        Ok(named) => report_line(error, named.as_bytes()),
+        Err(_) => report_line(error, b"memory was refused\n"),
     }
 }
 
-fn tell<E: Sink>(error: &mut E, line: &[u8]) -> Status
+fn report_line<E: Sink>(error: &mut E, line: &[u8]) -> JobStatus
     requires line { IsLine line.now }
-    ensures failed { result ≡ Status.Failed }
-    ensures told { TellsLine (E.given error.old) (E.given error.new) (E.failures error.old)
+    ensures failed { result ≡ JobStatus.Failed }
+    ensures reported { ReportsLine (E.given error.old) (E.given error.new) (E.failures error.old)
         (E.failures error.new) }
 {
     let _ = write_all(error, line);
-    Status::Failed
+    JobStatus::Failed
 }
 
 // Returns the line of a failure, with its line feed.

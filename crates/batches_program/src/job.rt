@@ -1,7 +1,7 @@
 //! What the command line asks for.
 
 use crate::kind::Kind;
-use crate::task::Task;
+use crate::task::JobTask;
 
 /// The name of standard input, which is read instead of a file.
 pub const STANDARD_INPUT: &str = "-";
@@ -10,7 +10,7 @@ pub const STANDARD_INPUT: &str = "-";
 #[derive(Debug, Drop)]
 pub enum Job<'a> {
     /// Lines become frames, or frames lines or a table.
-    Convert(CommandLine<'a>),
+    Convert(JobLine<'a>),
     /// The batch that starts a chain at this version, 0 or more.
     Opening(i64),
     /// What the batches of files add up to.
@@ -40,8 +40,8 @@ pub enum Job<'a> {
 
 /// A conversion, and the file that it reads.
 #[derive(Debug, Drop)]
-pub struct CommandLine<'a> {
-    pub task: Task,
+pub struct JobLine<'a> {
+    pub task: JobTask,
     pub kind: Kind,
     /// The name of the file, or none for standard input.
     pub file: Option<&'a str>,

@@ -2,7 +2,7 @@
 
 ghost use Rattle.std.specs.Prelude.{◌≡◌, ◌<◌, length, OnOk};
 ghost use Rattle.serial.specs.Shards.{shards};
-ghost use Rattle.batches_program.specs.Told.{TellsLine};
+ghost use Rattle.batches_program.specs.ErrorText.{ReportsLine};
 
 use crate::clipper::clip_frames;
 use crate::counter::count_frames;
@@ -13,7 +13,7 @@ use crate::sample::{read_batches, split_points};
 use crate::stats::Stats;
 use crate::stats_json::json_of_stats;
 use crate::stats_text::text_of_stats;
-use crate::status::Status;
+use crate::status::JobStatus;
 use keyspace::Batch;
 use shards::SplitPoints;
 use std::fs::{File, Files};
@@ -33,11 +33,11 @@ pub fn print_stats<R: Files<File = File> + Input + AllocGlobal, O: Sink, E: Sink
     json: bool,
     out: &mut O,
     error: &mut E,
-) -> Status
-    ensures ok { result ≡ Status.Done → O.failures out.new ≡ O.failures out.old }
-    ensures quiet { result ≡ Status.Done → error.new ≡ error.old }
-    ensures told { result ≡ Status.Failed
-        → TellsLine (E.given error.old) (E.given error.new) (E.failures error.old)
+) -> JobStatus
+    ensures ok { result ≡ JobStatus.Done → O.failures out.new ≡ O.failures out.old }
+    ensures quiet { result ≡ JobStatus.Done → error.new ≡ error.old }
+    ensures reported { result ≡ JobStatus.Failed
+        → ReportsLine (E.given error.old) (E.given error.new) (E.failures error.old)
         (E.failures error.new) }
 {
     let alloc = rt.alloc();
@@ -61,11 +61,11 @@ pub fn print_points<R: Files<File = File> + Input + AllocGlobal, O: Sink, E: Sin
     resolvers: usize,
     out: &mut O,
     error: &mut E,
-) -> Status
-    ensures ok { result ≡ Status.Done → O.failures out.new ≡ O.failures out.old }
-    ensures quiet { result ≡ Status.Done → error.new ≡ error.old }
-    ensures told { result ≡ Status.Failed
-        → TellsLine (E.given error.old) (E.given error.new) (E.failures error.old)
+) -> JobStatus
+    ensures ok { result ≡ JobStatus.Done → O.failures out.new ≡ O.failures out.old }
+    ensures quiet { result ≡ JobStatus.Done → error.new ≡ error.old }
+    ensures reported { result ≡ JobStatus.Failed
+        → ReportsLine (E.given error.old) (E.given error.new) (E.failures error.old)
         (E.failures error.new) }
 {
     let alloc = rt.alloc();
@@ -85,11 +85,11 @@ pub fn write_clips<R: Files<File = File> + Input + AllocGlobal, O: Sink, E: Sink
     file: Option<&str>,
     out: &mut O,
     error: &mut E,
-) -> Status
-    ensures ok { result ≡ Status.Done → O.failures out.new ≡ O.failures out.old }
-    ensures quiet { result ≡ Status.Done → error.new ≡ error.old }
-    ensures told { result ≡ Status.Failed
-        → TellsLine (E.given error.old) (E.given error.new) (E.failures error.old)
+) -> JobStatus
+    ensures ok { result ≡ JobStatus.Done → O.failures out.new ≡ O.failures out.old }
+    ensures quiet { result ≡ JobStatus.Done → error.new ≡ error.old }
+    ensures reported { result ≡ JobStatus.Failed
+        → ReportsLine (E.given error.old) (E.given error.new) (E.failures error.old)
         (E.failures error.new) }
 {
     let alloc = rt.alloc();
@@ -102,7 +102,7 @@ pub fn write_clips<R: Files<File = File> + Input + AllocGlobal, O: Sink, E: Sink
         return fail_in(error, alloc, points, &Failure::NoShard(count));
     }
     match clip_file(rt, &split, shard, file, out) {
-        Ok(()) => Status::Done,
+        Ok(()) => JobStatus::Done,
         Err(Failure::Write) => fail_in(error, alloc, OUTPUT, &Failure::Write),
         Err(failure) => fail_in(error, alloc, file.unwrap_or(INPUT), &failure),
     }
@@ -114,16 +114,16 @@ pub fn print<R: AllocGlobal, O: Sink, E: Sink>(
     text: Result<Vec<u8>, Failure>,
     out: &mut O,
     error: &mut E,
-) -> Status
-    ensures ok { result ≡ Status.Done → O.failures out.new ≡ O.failures out.old }
-    ensures quiet { result ≡ Status.Done → error.new ≡ error.old }
-    ensures told { result ≡ Status.Failed
-        → TellsLine (E.given error.old) (E.given error.new) (E.failures error.old)
+) -> JobStatus
+    ensures ok { result ≡ JobStatus.Done → O.failures out.new ≡ O.failures out.old }
+    ensures quiet { result ≡ JobStatus.Done → error.new ≡ error.old }
+    ensures reported { result ≡ JobStatus.Failed
+        → ReportsLine (E.given error.old) (E.given error.new) (E.failures error.old)
         (E.failures error.new) }
 {
     match text {
         Ok(text) => match write_and_flush(out, &text) {
-            Ok(()) => Status::Done,
+            Ok(()) => JobStatus::Done,
             Err(_) => fail_in(error, rt.alloc(), OUTPUT, &Failure::Write),
         },
         Err(failure) => fail(error, rt.alloc(), &failure),

@@ -5,7 +5,7 @@ ghost use Rattle.std.specs.Io.KnownBytes.{IsAtEnd};
 ghost use Rattle.batches_program.specs.Points.{ArePointLines, IsPointLine, TakesPoint, point_lines};
 
 use crate::failure::Failure;
-use json_lines::{Refusal, put_key_form, read_key};
+use json_lines::{LineRefusal, put_key_form, read_key};
 use keys::Key;
 use shards::{SplitPoints, SplitPointsError};
 use std::alloc::{AllocError, Global};
@@ -69,7 +69,7 @@ fn point_of(alloc: Global, number: u64, line: &[u8]) -> Result<Key, Failure>
     }
 }
 
-fn key_of_line(alloc: Global, line: &[u8]) -> Result<Key, Refusal>
+fn key_of_line(alloc: Global, line: &[u8]) -> Result<Key, LineRefusal>
     ensures point { IfOk result (IsPointLine line.now) }
 {
     match line.split_last() {

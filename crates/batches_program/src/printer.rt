@@ -5,16 +5,16 @@ ghost use Rattle.std.specs.Io.KnownBytes.{Appends, Consumes, IsAtEnd};
 ghost use Rattle.wire.specs.FrameLength.{frame_length};
 ghost use Rattle.batches_program.specs.Failing.{FailsFrame, IsFailureOfFrame};
 ghost use Rattle.batches_program.specs.Lines.{IsPrinted};
-ghost use Rattle.batches_program.specs.Told.{Tells, length_told};
+ghost use Rattle.batches_program.specs.ErrorText.{ReportsText, progress_length};
 ghost use Rattle.batches_program.specs.Turned.{Stops, TurnsAll};
 ghost use Rattle.batches_program.specs.declared.failure.Failure.TheVariants.{Read, Write};
 
 use crate::decoder::line_of;
 use crate::failure::Failure;
-use crate::form::Form;
+use crate::form::OutputForm;
 use crate::frame::next_frame;
 use crate::kind::Kind;
-use crate::progress::Progress;
+use crate::progress::FileProgress;
 use crate::viewer::table_of;
 use std::alloc::Global;
 use wire::{Sink, Source, write_all};
@@ -24,11 +24,11 @@ use wire::{Sink, Source, write_all};
 pub fn print_frames<R: Source, W: Sink, E: Sink>(
     alloc: Global,
     kind: Kind,
-    form: Form,
+    form: OutputForm,
     reader: &mut R,
     writer: &mut W,
     error: &mut E,
-    progress: &mut Progress,
+    progress: &mut FileProgress,
 ) -> Result<(), Failure>
     ensures turned { OnOk result (TurnsAll (IsPrinted kind form) (R.remaining reader.old)
         (W.given writer.old) (W.given writer.new)) }
@@ -37,10 +37,10 @@ pub fn print_frames<R: Source, W: Sink, E: Sink>(
     ensures read { IfErr result (λ e. e ≡ Read → R.failures reader.old < R.failures reader.new) }
     ensures write { IfErr result (λ e. e ≡ Write → W.failures writer.old < W.failures writer.new) }
     ensures ok { OnOk result (W.failures writer.new ≡ W.failures writer.old) }
-    ensures length { length_told progress.new ≡ length_told progress.old }
-    ensures told { Tells (E.given error.old) (E.given error.new) (E.failures error.old)
+    ensures length { progress_length progress.new ≡ progress_length progress.old }
+    ensures reported { ReportsText (E.given error.old) (E.given error.new) (E.failures error.old)
         (E.failures error.new) }
-    ensures quiet { length_told progress.old ≡ None → error.new ≡ error.old }
+    ensures quiet { progress_length progress.old ≡ None → error.new ≡ error.old }
 {
     let mut frame = Vec::new(alloc);
     for number in 1..u64::MAX {
@@ -58,7 +58,7 @@ pub fn print_frames<R: Source, W: Sink, E: Sink>(
 fn print_next<R: Source, W: Sink>(
     alloc: Global,
     kind: Kind,
-    form: Form,
+    form: OutputForm,
     number: u64,
     reader: &mut R,
     writer: &mut W,
@@ -90,7 +90,7 @@ fn print_next<R: Source, W: Sink>(
 fn text_of(
     alloc: Global,
     kind: Kind,
-    form: Form,
+    form: OutputForm,
     number: u64,
     frame: &[u8],
 ) -> Result<Vec<u8>, Failure>
@@ -99,7 +99,7 @@ fn text_of(
     ensures fails { IfErr result (IsFailureOfFrame kind number frame.now) }
 {
     match form {
-        Form::Line => line_of(alloc, kind, number, frame),
-        Form::Table { full } => table_of(alloc, kind, full, number, frame),
+        OutputForm::Line => line_of(alloc, kind, number, frame),
+        OutputForm::Table { full } => table_of(alloc, kind, full, number, frame),
     }
 }

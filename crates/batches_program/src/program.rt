@@ -1,17 +1,17 @@
 //! What the command line asks for, done.
 
 ghost use Rattle.std.specs.Prelude.{◌≡◌, IsTrue, OnOk, not};
-ghost use Rattle.batches_program.specs.Told.{Tells, TellsLine};
+ghost use Rattle.batches_program.specs.ErrorText.{ReportsText, ReportsLine};
 
 use crate::converter::convert;
 use crate::failure::{Failure, fail};
-use crate::job::{CommandLine, Job};
+use crate::job::{Job, JobLine};
 use crate::jobs::{print_points, print_stats, write_clips};
 use crate::opening::write_opening;
-use crate::progress::{LONG_FILE, Progress};
+use crate::progress::{FileProgress, LONG_FILE};
 use crate::reporting::write_report;
-use crate::status::Status;
-use crate::words::{Stop, read_words};
+use crate::status::JobStatus;
+use crate::words::{ArgumentsStop, read_words};
 use std::alloc::Global;
 use std::fs::{File, Files};
 use std::io::BufReader;
@@ -26,11 +26,11 @@ pub fn run<R: Files<File = File> + Env + Input + AllocGlobal, O: Sink, E: Sink>(
     watched: bool,
     out: &mut O,
     error: &mut E,
-) -> Status
-    ensures ok { result ≡ Status.Done → O.failures out.new ≡ O.failures out.old }
-    ensures quiet { result ≡ Status.Done → IsTrue (not watched) → error.new ≡ error.old }
-    ensures told { result ≡ Status.Failed
-        → TellsLine (E.given error.old) (E.given error.new) (E.failures error.old)
+) -> JobStatus
+    ensures ok { result ≡ JobStatus.Done → O.failures out.new ≡ O.failures out.old }
+    ensures quiet { result ≡ JobStatus.Done → IsTrue (not watched) → error.new ≡ error.old }
+    ensures reported { result ≡ JobStatus.Failed
+        → ReportsLine (E.given error.old) (E.given error.new) (E.failures error.old)
         (E.failures error.new) }
 {
     let alloc = rt.alloc();
@@ -51,11 +51,11 @@ fn do_job<R: Files<File = File> + Input + AllocGlobal, O: Sink, E: Sink>(
     watched: bool,
     out: &mut O,
     error: &mut E,
-) -> Status
-    ensures ok { result ≡ Status.Done → O.failures out.new ≡ O.failures out.old }
-    ensures quiet { result ≡ Status.Done → IsTrue (not watched) → error.new ≡ error.old }
-    ensures told { result ≡ Status.Failed
-        → TellsLine (E.given error.old) (E.given error.new) (E.failures error.old)
+) -> JobStatus
+    ensures ok { result ≡ JobStatus.Done → O.failures out.new ≡ O.failures out.old }
+    ensures quiet { result ≡ JobStatus.Done → IsTrue (not watched) → error.new ≡ error.old }
+    ensures reported { result ≡ JobStatus.Failed
+        → ReportsLine (E.given error.old) (E.given error.new) (E.failures error.old)
         (E.failures error.new) }
 {
     match job {
@@ -79,29 +79,34 @@ fn do_job<R: Files<File = File> + Input + AllocGlobal, O: Sink, E: Sink>(
 // Does a conversion, and tells why if it can't.
 fn convert_file<R: Files<File = File> + Input + AllocGlobal, O: Sink, E: Sink>(
     rt: &R,
-    line: &CommandLine<'_>,
+    line: &JobLine<'_>,
     watched: bool,
     out: &mut O,
     error: &mut E,
-) -> Status
-    ensures ok { result ≡ Status.Done → O.failures out.new ≡ O.failures out.old }
-    ensures quiet { result ≡ Status.Done → IsTrue (not watched) → error.new ≡ error.old }
-    ensures told { result ≡ Status.Failed
-        → TellsLine (E.given error.old) (E.given error.new) (E.failures error.old)
+) -> JobStatus
+    ensures ok { result ≡ JobStatus.Done → O.failures out.new ≡ O.failures out.old }
+    ensures quiet { result ≡ JobStatus.Done → IsTrue (not watched) → error.new ≡ error.old }
+    ensures reported { result ≡ JobStatus.Failed
+        → ReportsLine (E.given error.old) (E.given error.new) (E.failures error.old)
         (E.failures error.new) }
 {
     match do_line(rt, line, watched, out, error) {
-        Ok(()) => Status::Done,
+        Ok(()) => JobStatus::Done,
         Err(failure) => fail(error, rt.alloc(), &failure),
     }
 }
 
 // Writes the batch that starts a chain at the version, and tells why if it can't.
-fn open_chain<O: Sink, E: Sink>(alloc: Global, version: i64, out: &mut O, error: &mut E) -> Status
-    ensures ok { result ≡ Status.Done → O.failures out.new ≡ O.failures out.old }
-    ensures quiet { result ≡ Status.Done → error.new ≡ error.old }
-    ensures told { result ≡ Status.Failed
-        → TellsLine (E.given error.old) (E.given error.new) (E.failures error.old)
+fn open_chain<O: Sink, E: Sink>(
+    alloc: Global,
+    version: i64,
+    out: &mut O,
+    error: &mut E,
+) -> JobStatus
+    ensures ok { result ≡ JobStatus.Done → O.failures out.new ≡ O.failures out.old }
+    ensures quiet { result ≡ JobStatus.Done → error.new ≡ error.old }
+    ensures reported { result ≡ JobStatus.Failed
+        → ReportsLine (E.given error.old) (E.given error.new) (E.failures error.old)
         (E.failures error.new) }
 {
     if version < 0 {
@@ -109,7 +114,7 @@ fn open_chain<O: Sink, E: Sink>(alloc: Global, version: i64, out: &mut O, error:
         return fail(error, alloc, &Failure::Memory);
     }
     match write_opening(alloc, version, out) {
-        Ok(()) => Status::Done,
+        Ok(()) => JobStatus::Done,
         Err(failure) => fail(error, alloc, &failure),
     }
 }
@@ -126,43 +131,48 @@ fn command_line<R: Env + AllocGlobal>(rt: &R) -> Result<Vec<String>, Failure> {
 }
 
 // Prints the text instead of doing anything, and returns how the program ends.
-fn end<O: Sink, E: Sink>(stop: &Stop, alloc: Global, out: &mut O, error: &mut E) -> Status
-    ensures ok { result ≡ Status.Done → O.failures out.new ≡ O.failures out.old }
-    ensures quiet { result ≡ Status.Done → error.new ≡ error.old }
-    ensures told { result ≡ Status.Failed
-        → TellsLine (E.given error.old) (E.given error.new) (E.failures error.old)
+fn end<O: Sink, E: Sink>(
+    stop: &ArgumentsStop,
+    alloc: Global,
+    out: &mut O,
+    error: &mut E,
+) -> JobStatus
+    ensures ok { result ≡ JobStatus.Done → O.failures out.new ≡ O.failures out.old }
+    ensures quiet { result ≡ JobStatus.Done → error.new ≡ error.old }
+    ensures reported { result ≡ JobStatus.Failed
+        → ReportsLine (E.given error.old) (E.given error.new) (E.failures error.old)
         (E.failures error.new) }
 {
     match stop {
-        Stop::Shown(text) => match write_and_flush(out, text.as_bytes()) {
-            Ok(()) => Status::Done,
+        ArgumentsStop::Shown(text) => match write_and_flush(out, text.as_bytes()) {
+            Ok(()) => JobStatus::Done,
             Err(Failed) => fail(error, alloc, &Failure::Write),
         },
-        Stop::Refused(text) => {
+        ArgumentsStop::Refused(text) => {
             let _ = write_all(error, text.as_bytes());
-            Status::Usage
+            JobStatus::Usage
         }
-        Stop::Memory => fail(error, alloc, &Failure::Memory),
+        ArgumentsStop::Memory => fail(error, alloc, &Failure::Memory),
     }
 }
 
 // Opens what is to be read, and does the task.
 fn do_line<R: Files<File = File> + Input + AllocGlobal, O: Sink, E: Sink>(
     rt: &R,
-    line: &CommandLine<'_>,
+    line: &JobLine<'_>,
     watched: bool,
     out: &mut O,
     error: &mut E,
 ) -> Result<(), Failure>
     ensures ok { OnOk result (O.failures out.new ≡ O.failures out.old) }
-    ensures told { Tells (E.given error.old) (E.given error.new) (E.failures error.old)
+    ensures reported { ReportsText (E.given error.old) (E.given error.new) (E.failures error.old)
         (E.failures error.new) }
     ensures quiet { IsTrue (not watched) → error.new ≡ error.old }
 {
     let alloc = rt.alloc();
     let Some(name) = line.file else {
         let mut reader = rt.reader();
-        let mut progress = Progress::new(alloc, None);
+        let mut progress = FileProgress::new(alloc, None);
         return convert(
             alloc,
             line.task,
@@ -178,7 +188,7 @@ fn do_line<R: Files<File = File> + Input + AllocGlobal, O: Sink, E: Sink>(
     };
     let length = if watched { length_of(&file) } else { None };
     let mut reader = BufReader::new(alloc, file)?;
-    let mut progress = Progress::new(alloc, length);
+    let mut progress = FileProgress::new(alloc, length);
     let done = convert(
         alloc,
         line.task,

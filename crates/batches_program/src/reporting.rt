@@ -1,14 +1,14 @@
 //! A page of what batches and the replies to them add up to.
 
 ghost use Rattle.std.specs.Prelude.{◌≡◌};
-ghost use Rattle.batches_program.specs.Told.{TellsLine};
+ghost use Rattle.batches_program.specs.ErrorText.{ReportsLine};
 
 use crate::failure::{Failure, fail_in};
 use crate::job::STANDARD_INPUT;
 use crate::jobs::{open, print, shown};
-use crate::status::Status;
+use crate::status::JobStatus;
 use crate::tallying::{tally_batches, tally_replies};
-use batches_report::{Inputs, Tally, page_of};
+use batches_report::{ReportInputs, Tally, page_of};
 use std::fs;
 use std::fs::{File, Files, Metadata, OpenOptions};
 use std::os::unix::fs::MetadataExt;
@@ -27,11 +27,11 @@ pub fn write_report<R: Files<File = File> + Input + AllocGlobal, O: Sink, E: Sin
     page: Option<&str>,
     out: &mut O,
     error: &mut E,
-) -> Status
-    ensures ok { result ≡ Status.Done → O.failures out.new ≡ O.failures out.old }
-    ensures quiet { result ≡ Status.Done → error.new ≡ error.old }
-    ensures told { result ≡ Status.Failed
-        → TellsLine (E.given error.old) (E.given error.new) (E.failures error.old)
+) -> JobStatus
+    ensures ok { result ≡ JobStatus.Done → O.failures out.new ≡ O.failures out.old }
+    ensures quiet { result ≡ JobStatus.Done → error.new ≡ error.old }
+    ensures reported { result ≡ JobStatus.Failed
+        → ReportsLine (E.given error.old) (E.given error.new) (E.failures error.old)
         (E.failures error.new) }
 {
     let alloc = rt.alloc();
@@ -55,14 +55,14 @@ fn save<R: Files<File = File> + AllocGlobal, E: Sink>(
     replies: &[&str],
     text: Result<Vec<u8>, Failure>,
     error: &mut E,
-) -> Status
-    ensures quiet { result ≡ Status.Done → error.new ≡ error.old }
-    ensures told { result ≡ Status.Failed
-        → TellsLine (E.given error.old) (E.given error.new) (E.failures error.old)
+) -> JobStatus
+    ensures quiet { result ≡ JobStatus.Done → error.new ≡ error.old }
+    ensures reported { result ≡ JobStatus.Failed
+        → ReportsLine (E.given error.old) (E.given error.new) (E.failures error.old)
         (E.failures error.new) }
 {
     match write_file(rt, name, files, replies, text) {
-        Ok(()) => Status::Done,
+        Ok(()) => JobStatus::Done,
         Err(failure) => fail_in(error, rt.alloc(), name, &failure),
     }
 }
@@ -133,7 +133,11 @@ fn is_file_of<R: Files>(rt: &R, page: &Metadata, name: &str) -> bool {
     }
 }
 
-fn text_of_page<R: AllocGlobal>(rt: &R, tally: &Tally, inputs: Inputs) -> Result<Vec<u8>, Failure> {
+fn text_of_page<R: AllocGlobal>(
+    rt: &R,
+    tally: &Tally,
+    inputs: ReportInputs,
+) -> Result<Vec<u8>, Failure> {
     let page = page_of(rt.alloc(), tally, inputs)?;
     Ok(page.into_bytes())
 }
@@ -144,8 +148,8 @@ fn tally_files<'a, R: Files<File = File> + Input + AllocGlobal>(
     files: &[&'a str],
     replies: &[&'a str],
     tally: &mut Tally,
-) -> Result<Inputs, (&'a str, Failure)> {
-    let mut inputs = Inputs {
+) -> Result<ReportInputs, (&'a str, Failure)> {
+    let mut inputs = ReportInputs {
         batches: 0,
         replies: 0,
     };

@@ -2,7 +2,7 @@
 
 /// What is done with the input.
 #[derive(Clone, Copy, Debug, PartialEq, Eq)]
-pub enum Task {
+pub enum JobTask {
     /// Lines become frames.
     Encode,
     /// Frames become lines.

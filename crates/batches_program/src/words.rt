@@ -1,16 +1,16 @@
 //! The words of the command line.
 
 use crate::command::command;
-use crate::job::{CommandLine, Job, STANDARD_INPUT};
+use crate::job::{Job, JobLine, STANDARD_INPUT};
 use crate::kind::Kind;
-use crate::task::Task;
+use crate::task::JobTask;
 use clap::ArgMatches;
 use clap::error::ErrorKind;
 use std::alloc::{AllocError, Global};
 
 /// Why nothing is done.
 #[derive(Debug, Drop)]
-pub enum Stop {
+pub enum ArgumentsStop {
     /// Help or the version was asked for: the text for standard output.
     Shown(String),
     /// The command line was refused: the text for standard error.
@@ -18,14 +18,14 @@ pub enum Stop {
     Memory,
 }
 
-impl From<AllocError> for Stop {
-    fn from(_refused: AllocError) -> Stop {
-        Stop::Memory
+impl From<AllocError> for ArgumentsStop {
+    fn from(_refused: AllocError) -> ArgumentsStop {
+        ArgumentsStop::Memory
     }
 }
 
 /// Reads the words of the command line, of which the first is the program's name.
-pub fn read_words<'a>(alloc: Global, words: &'a [String]) -> Result<Job<'a>, Stop> {
+pub fn read_words<'a>(alloc: Global, words: &'a [String]) -> Result<Job<'a>, ArgumentsStop> {
     match command(alloc)?.try_get_matches_from(words) {
         Ok(matches) => job_of(alloc, &matches),
         Err(error) => Err(stop_of(alloc, &error)?),
@@ -33,32 +33,32 @@ pub fn read_words<'a>(alloc: Global, words: &'a [String]) -> Result<Job<'a>, Sto
 }
 
 // Returns what the program makes of an error of `clap`.
-fn stop_of(alloc: Global, error: &clap::Error) -> Result<Stop, AllocError> {
+fn stop_of(alloc: Global, error: &clap::Error) -> Result<ArgumentsStop, AllocError> {
     if error.kind() == ErrorKind::OutOfMemory {
-        return Ok(Stop::Memory);
+        return Ok(ArgumentsStop::Memory);
     }
     let text = error.to_string(alloc)?;
     if error.use_stderr() {
-        Ok(Stop::Refused(text))
+        Ok(ArgumentsStop::Refused(text))
     } else {
-        Ok(Stop::Shown(text))
+        Ok(ArgumentsStop::Shown(text))
     }
 }
 
 // Reads what was matched. `clap` itself refuses a line without a subcommand or a required option,
 // and numbers outside their ranges.
-fn job_of<'a>(alloc: Global, matches: &ArgMatches<'a>) -> Result<Job<'a>, Stop> {
+fn job_of<'a>(alloc: Global, matches: &ArgMatches<'a>) -> Result<Job<'a>, ArgumentsStop> {
     let Some((name, matches)) = matches.subcommand() else {
-        return Err(Stop::Memory);
+        return Err(ArgumentsStop::Memory);
     };
     if name == "opening" {
-        opening_of(matches).ok_or(Stop::Memory)
+        opening_of(matches).ok_or(ArgumentsStop::Memory)
     } else if name == "stats" {
         stats_of(alloc, matches)
     } else if name == "split-points" {
         split_points_of(alloc, matches)
     } else if name == "clip" {
-        clip_of(matches).ok_or(Stop::Memory)
+        clip_of(matches).ok_or(ArgumentsStop::Memory)
     } else if name == "report" {
         report_of(alloc, matches)
     } else {
@@ -66,13 +66,13 @@ fn job_of<'a>(alloc: Global, matches: &ArgMatches<'a>) -> Result<Job<'a>, Stop> 
     }
 }
 
-fn line_of<'a>(name: &str, matches: &ArgMatches<'a>) -> CommandLine<'a> {
+fn line_of<'a>(name: &str, matches: &ArgMatches<'a>) -> JobLine<'a> {
     let task = if name == "encode" {
-        Task::Encode
+        JobTask::Encode
     } else if name == "decode" {
-        Task::Decode
+        JobTask::Decode
     } else {
-        Task::Show {
+        JobTask::Show {
             full: matches.get_flag("full"),
         }
     };
@@ -81,7 +81,7 @@ fn line_of<'a>(name: &str, matches: &ArgMatches<'a>) -> CommandLine<'a> {
     } else {
         Kind::Batches
     };
-    CommandLine {
+    JobLine {
         task,
         kind,
         file: file_of(matches),
@@ -92,16 +92,16 @@ fn opening_of<'a>(matches: &ArgMatches<'a>) -> Option<Job<'a>> {
     Some(Job::Opening(matches.get_one("version")?))
 }
 
-fn stats_of<'a>(alloc: Global, matches: &ArgMatches<'a>) -> Result<Job<'a>, Stop> {
+fn stats_of<'a>(alloc: Global, matches: &ArgMatches<'a>) -> Result<Job<'a>, ArgumentsStop> {
     Ok(Job::Stats {
         files: files_of(alloc, matches)?,
         json: matches.get_flag("json"),
     })
 }
 
-fn split_points_of<'a>(alloc: Global, matches: &ArgMatches<'a>) -> Result<Job<'a>, Stop> {
+fn split_points_of<'a>(alloc: Global, matches: &ArgMatches<'a>) -> Result<Job<'a>, ArgumentsStop> {
     let Some(resolvers) = matches.get_one("resolvers") else {
-        return Err(Stop::Memory);
+        return Err(ArgumentsStop::Memory);
     };
     Ok(Job::SplitPoints {
         files: files_of(alloc, matches)?,
@@ -117,9 +117,9 @@ fn clip_of<'a>(matches: &ArgMatches<'a>) -> Option<Job<'a>> {
     })
 }
 
-fn report_of<'a>(alloc: Global, matches: &ArgMatches<'a>) -> Result<Job<'a>, Stop> {
+fn report_of<'a>(alloc: Global, matches: &ArgMatches<'a>) -> Result<Job<'a>, ArgumentsStop> {
     let Some(replies) = matches.get_strs("replies") else {
-        return Err(Stop::Memory);
+        return Err(ArgumentsStop::Memory);
     };
     Ok(Job::Report {
         files: files_of(alloc, matches)?,

@@ -5,22 +5,22 @@ use Rattle.std.proofs.lemmas.List.{take_more}
 use Rattle.std.proofs.lemmas.List.Elements.{All-append, All-cons, All-nil, filter_more}
 use Rattle.batches_report.specs.Bins.{IsWithin}
 use Rattle.batches_report.specs.Totals.{is_between, rows_between}
-use Rattle.batches_report.specs.declared.row.Row.{Row}
+use Rattle.batches_report.specs.declared.row.TxnRow.{TxnRow}
 
-between_more : (first last : ℤ) (rows : List Row) (i : ℕ) (row : Row) (b : Bool) → i < length rows → row ≡ get_or rows i row
+between_more : (first last : ℤ) (rows : List TxnRow) (i : ℕ) (row : TxnRow) (b : Bool) → i < length rows → row ≡ get_or rows i row
     → is_between first last row ≡ b
     → rows_between first last (take (i + 1) rows) ≡ rows_between first last (take i rows) ++ cond b (row ∷ []) []
 between_more first last rows i row b within is test =
     filter_more (is_between first last) rows i row within
-    ∙ ap (λ (r : Row). rows_between first last (take i rows) ++ cond (is_between first last r) (r ∷ []) []) (sym is)
+    ∙ ap (λ (r : TxnRow). rows_between first last (take i rows) ++ cond (is_between first last r) (r ∷ []) []) (sym is)
     ∙ ap (λ x. rows_between first last (take i rows) ++ cond x (row ∷ []) []) test
 
-pub between_one : (first last : ℤ) (rows : List Row) (i : ℕ) (row : Row) → i < length rows → row ≡ get_or rows i row
+pub between_one : (first last : ℤ) (rows : List TxnRow) (i : ℕ) (row : TxnRow) → i < length rows → row ≡ get_or rows i row
     → is_between first last row ≡ true
     → rows_between first last (take (i + 1) rows) ≡ rows_between first last (take i rows) ++ row ∷ []
 between_one first last rows i row within is test = between_more first last rows i row true within is test
 
-pub between_none : (first last : ℤ) (rows : List Row) (i : ℕ) (row : Row) → i < length rows → row ≡ get_or rows i row
+pub between_none : (first last : ℤ) (rows : List TxnRow) (i : ℕ) (row : TxnRow) → i < length rows → row ≡ get_or rows i row
     → is_between first last row ≡ false
     → rows_between first last (take (i + 1) rows) ≡ rows_between first last (take i rows)
 between_none first last rows i row within is test =
@@ -30,7 +30,7 @@ wider : (least greatest lower higher v : ℤ) → lower ≤ℤ least → greates
     → (lower ≤ℤ v) × (v ≤ℤ higher)
 wider least greatest lower higher v below above within = (omega (arith, ints), omega (arith, ints))
 
-pub within_more : (least greatest lower higher : ℤ) (rows : List Row) (i : ℕ) (d : Row) → i < length rows
+pub within_more : (least greatest lower higher : ℤ) (rows : List TxnRow) (i : ℕ) (d : TxnRow) → i < length rows
     → lower ≤ℤ least → greatest ≤ℤ higher → lower ≤ℤ (get_or rows i d).version → (get_or rows i d).version ≤ℤ higher
     → All (IsWithin least greatest) (take i rows) → All (IsWithin lower higher) (take (i + 1) rows)
 within_more least greatest lower higher rows i d inside below above from to so_far =

@@ -6,7 +6,7 @@ use Rattle.std.proofs.lemmas.List.Elements.{All-append, All-cons, All-nil}
 use Rattle.std.proofs.lemmas.List.Sums.{sum_by_push}
 use Rattle.batches_report.specs.Bins.{IsBinOf, IsInOne, IsWithin}
 use Rattle.batches_report.specs.declared.bins.Bin.{Bin}
-use Rattle.batches_report.specs.declared.row.Row.{Row}
+use Rattle.batches_report.specs.declared.row.TxnRow.{TxnRow}
 
 abbrev pub has : ℤ → Bin → Bool
 has version bin = int_le bin.first version && int_le version bin.last
@@ -50,16 +50,16 @@ parts_more bins new bin least first next is part from same up after =
     (part_more least bins bin part_first (omega (arith, ints, same, from)) (omega (arith, ints, same, up))))
 
 -- the bins with the last one
-pub parts_all : (rows : List Row) (bins new : List Bin) (bin : Bin) (least low high first : ℤ) → new ≡ bins ++ bin ∷ []
+pub parts_all : (rows : List TxnRow) (bins new : List Bin) (bin : Bin) (least low high first : ℤ) → new ≡ bins ++ bin ∷ []
     → Part least first bins → least ≤ℤ first → bin.first ≡ first → first ≤ℤ bin.last → least ≤ℤ low → high ≤ℤ bin.last
     → All (IsWithin low high) rows → All (IsInOne new) rows
 parts_all rows bins new bin least low high first is part from same up begins ends within = λ k d less.
-    let whole = parts_more bins new bin least first (bin.last +ℤ pos 1) is part from same up refl in
+    let entire = parts_more bins new bin least first (bin.last +ℤ pos 1) is part from same up refl in
     let v = (get_or rows k d).version in
     let inside = within k d less in
-    whole.counted v ∙ all_of least (bin.last +ℤ pos 1) v (omega (arith, ints, inside.0, begins)) (omega (arith, ints, inside.1, ends))
+    entire.counted v ∙ all_of least (bin.last +ℤ pos 1) v (omega (arith, ints, inside.0, begins)) (omega (arith, ints, inside.1, ends))
 
-pub totals_more : (rows : List Row) (bins new : List Bin) (bin : Bin) → new ≡ bins ++ bin ∷ [] → All (IsBinOf rows) bins
+pub totals_more : (rows : List TxnRow) (bins new : List Bin) (bin : Bin) → new ≡ bins ++ bin ∷ [] → All (IsBinOf rows) bins
     → IsBinOf rows bin → All (IsBinOf rows) new
 totals_more rows bins new bin is before one =
     subst (All (IsBinOf rows)) (sym is)

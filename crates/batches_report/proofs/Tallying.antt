@@ -10,7 +10,7 @@ use Rattle.batches_report.specs.Answered.{Answered, AreLeft, answered, answered_
 use Rattle.batches_report.specs.JudgedTxns.{Fits, JudgedTxn, txns_in, txns_of}
 use Rattle.batches_report.specs.Rows.{row_of}
 use Rattle.batches_report.specs.Tallied.{Counts, IsTally}
-use Rattle.batches_report.specs.declared.row.Row.{Row}
+use Rattle.batches_report.specs.declared.row.TxnRow.{TxnRow}
 use Rattle.batches_report.specs.declared.tally.Tally.{Tally}
 use Rattle.batches_report.specs.declared.txn_tally.TxnTally.{TxnTally}
 
@@ -66,7 +66,7 @@ tally_answered rs bs b r old new tally some left fits rows txns =
     ∙ ap (λ (t : List JudgedTxn). txns_in before ++ t) (append-nil (txns_of b r)) in record {
       left = left_last rs bs b new left;
       fit = subst (All Fits) (sym more) (All-append Fits before (a ∷ []) tally.fit one);
-      rows = rows ∙ ap (λ (t : List Row). t ++ row_of b r ∷ []) tally.rows
+      rows = rows ∙ ap (λ (t : List TxnRow). t ++ row_of b r ∷ []) tally.rows
           ∙ sym (map_push (λ (x : Answered). row_of x.batch x.reply) before a)
           ∙ ap (map (λ (x : Answered). row_of x.batch x.reply)) (sym more);
       txns = subst (λ (js : List JudgedTxn). Counts js new.txns) (sym (ap txns_in more ∙ all_txns)) (txns (txns_in before) tally.txns);

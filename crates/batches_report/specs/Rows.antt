@@ -3,9 +3,9 @@ use Rattle.std.specs.Prelude.{ℕ, List, length, count_by}
 use Rattle.keyspace.specs.declared.batch.Batch.{Batch}
 use Rattle.keyspace.specs.declared.reply.Reply.{Reply}
 use Rattle.batches_report.specs.JudgedTxns.{is_conflict, is_reported, is_too_old}
-use Rattle.batches_report.specs.declared.row.Row.{Row}
+use Rattle.batches_report.specs.declared.row.TxnRow.{TxnRow}
 
-abbrev pub row_of : Batch → Reply → Row
+abbrev pub row_of : Batch → Reply → TxnRow
 row_of b r = record {
   version = b.version;
   txns = length b.txns;

@@ -3,7 +3,7 @@
 ghost use Rattle.std.specs.Prelude.{◌≡◌, ◌≤ℤ◌, [], All, IfOk, IfSome, IfNone};
 ghost use Rattle.batches_report.specs.Bins.{IsBinOf, IsInOne, IsWithin};
 
-use crate::row::Row;
+use crate::row::TxnRow;
 use crate::totals::{Totals, totals_between};
 use std::alloc::{AllocError, Global};
 
@@ -20,7 +20,7 @@ pub struct Bin {
 
 /// Divides the versions from the least to the greatest one into up to 60 parts, all but the last of
 /// one width, and adds up the batches of each.
-pub fn bins_of(alloc: Global, rows: &[Row]) -> Result<Vec<Bin>, AllocError>
+pub fn bins_of(alloc: Global, rows: &[TxnRow]) -> Result<Vec<Bin>, AllocError>
     ensures totals { IfOk result (λ bins. All (IsBinOf rows.now) bins.items) }
     ensures parts { IfOk result (λ bins. All (IsInOne bins.items) rows.now) }
 {
@@ -54,7 +54,7 @@ fn last_of(first: i64, more: i64, greatest: i64) -> i64
 }
 
 // Returns the least and the greatest version.
-fn versions_of(rows: &[Row]) -> Option<(i64, i64)>
+fn versions_of(rows: &[TxnRow]) -> Option<(i64, i64)>
     ensures within { IfSome result (λ ends. All (IsWithin ends.0 ends.1) rows.now) }
     ensures ordered { IfSome result (λ ends. ends.0 ≤ℤ ends.1) }
     ensures none { IfNone result (rows.now ≡ []) }

@@ -16,13 +16,13 @@ const MOST_HOT: usize = 20;
 
 /// What was read, and not only counted where batches and replies meet.
 #[derive(Clone, Copy, Debug, PartialEq, Eq)]
-pub struct Inputs {
+pub struct ReportInputs {
     pub batches: u64,
     pub replies: u64,
 }
 
 /// Returns the page of a tally.
-pub fn page_of(alloc: Global, tally: &Tally, inputs: Inputs) -> Result<String, AllocError> {
+pub fn page_of(alloc: Global, tally: &Tally, inputs: ReportInputs) -> Result<String, AllocError> {
     let totals = totals_between(&tally.rows, i64::MIN, i64::MAX);
     let bins = bins_of(alloc, &tally.rows)?;
     let hot = hottest(alloc, &tally.txns.heat, MOST_HOT)?;
@@ -39,7 +39,7 @@ pub fn page_of(alloc: Global, tally: &Tally, inputs: Inputs) -> Result<String, A
     Ok(out)
 }
 
-fn put_inputs(out: &mut String, inputs: Inputs, totals: &Totals) -> Result<(), AllocError> {
+fn put_inputs(out: &mut String, inputs: ReportInputs, totals: &Totals) -> Result<(), AllocError> {
     let counted = totals.batches as u64;
     let batches = inputs.batches.saturating_sub(counted);
     let replies = inputs.replies.saturating_sub(counted);
@@ -78,8 +78,8 @@ fn put_verdict(out: &mut String, name: &str, count: usize, all: usize) -> Result
 }
 
 /// Appends a share in percent.
-pub fn put_share(out: &mut String, part: usize, whole: usize) -> Result<(), AllocError> {
-    match share_of(part, whole) {
+pub fn put_share(out: &mut String, part: usize, entire: usize) -> Result<(), AllocError> {
+    match share_of(part, entire) {
         Some(tenths) => write!(out, "{}.{} %", tenths / 10, tenths % 10),
         None => out.push_str("none"),
     }

@@ -8,7 +8,7 @@ use keyspace::{Batch, Entry, Reply, Verdict};
 
 /// How the transactions of a batch were judged, counted.
 #[derive(Clone, Copy, Debug, PartialEq, Eq)]
-pub struct Row {
+pub struct TxnRow {
     /// The version of the batch.
     pub version: i64,
     pub txns: usize,
@@ -18,13 +18,13 @@ pub struct Row {
     pub reported: usize,
 }
 
-impl Row {
+impl TxnRow {
     /// Counts what the reply says of a batch.
-    pub fn of(batch: &Batch, reply: &Reply) -> Row
+    pub fn of(batch: &Batch, reply: &Reply) -> TxnRow
         ensures row { result ≡ row_of batch.now reply.now }
     {
         let entries = reply.entries.as_slice();
-        Row {
+        TxnRow {
             version: batch.version,
             txns: batch.txns.len(),
             conflicts: conflicts_in(entries),

@@ -3,7 +3,7 @@
 use crate::ages::covered;
 use crate::page::put_share;
 use crate::plots::scaled;
-use crate::row::Row;
+use crate::row::TxnRow;
 use crate::top::Hot;
 use crate::totals::{Totals, batches_of_size};
 use std::alloc::AllocError;
@@ -104,7 +104,7 @@ fn put_window(out: &mut String, window: i64, count: usize, all: usize) -> Result
 }
 
 /// Appends how many batches have how many transactions.
-pub fn put_sizes(out: &mut String, rows: &[Row]) -> Result<(), AllocError> {
+pub fn put_sizes(out: &mut String, rows: &[TxnRow]) -> Result<(), AllocError> {
     out.push_str("<h2>Batch sizes</h2>\n<table>\n")?;
     out.push_str("<tr><th>transactions</th><th>batches</th><th>share</th><th></th></tr>\n")?;
     let all = rows.len();

@@ -6,7 +6,7 @@ ghost use Rattle.keyspace.specs.declared.reply.Reply.{Reply as ReplyValue};
 
 use crate::error::ReportError;
 use crate::left::Left;
-use crate::row::Row;
+use crate::row::TxnRow;
 use crate::txn_tally::TxnTally;
 use keyspace::{Batch, Reply};
 use std::alloc::Global;
@@ -18,7 +18,7 @@ pub struct Tally {
     /// The replies whose batches haven't come.
     pub left: Left,
     /// The batches that have replies.
-    pub rows: Vec<Row>,
+    pub rows: Vec<TxnRow>,
     /// Their transactions.
     pub txns: TxnTally,
 }
@@ -78,7 +78,7 @@ impl Tally {
         if reply.entries.len() != batch.txns.len() {
             return Err(ReportError::Unfit(batch.version));
         }
-        self.rows.push(Row::of(batch, reply))?;
+        self.rows.push(TxnRow::of(batch, reply))?;
         self.txns.add_batch(alloc, batch, reply)
     }
 }

@@ -1,10 +1,10 @@
 //! Sums over batches.
 
 ghost use Rattle.std.specs.Prelude.{◌≡◌, ◌∷◌, ◌++◌, [], List, count_by};
-ghost use Rattle.batches_report.specs.declared.row.Row.{Row as RowValue};
+ghost use Rattle.batches_report.specs.declared.row.TxnRow.{TxnRow as RowValue};
 ghost use Rattle.batches_report.specs.Totals.{has_size, is_between, rows_between, totals_of};
 
-use crate::row::Row;
+use crate::row::TxnRow;
 
 /// What some batches add up to. A sum of more than 64 bits is `usize::MAX`.
 #[derive(Clone, Copy, Debug, PartialEq, Eq)]
@@ -17,7 +17,7 @@ pub struct Totals {
 }
 
 /// Returns what the batches with versions from the first to the last one add up to.
-pub fn totals_between(rows: &[Row], first: i64, last: i64) -> Totals
+pub fn totals_between(rows: &[TxnRow], first: i64, last: i64) -> Totals
     ensures totals { result ≡ totals_of (rows_between first last rows.now) }
 {
     let mut totals = Totals {
@@ -35,7 +35,7 @@ pub fn totals_between(rows: &[Row], first: i64, last: i64) -> Totals
     totals
 }
 
-fn is_between(row: &Row, first: i64, last: i64) -> bool
+fn is_between(row: &TxnRow, first: i64, last: i64) -> bool
     ensures exact { result ≡ is_between first last row.now }
 {
     first <= row.version && row.version <= last
@@ -43,7 +43,7 @@ fn is_between(row: &Row, first: i64, last: i64) -> bool
 
 impl Totals {
     // Adds a batch.
-    fn add(&mut self, row: &Row)
+    fn add(&mut self, row: &TxnRow)
         ensures added { (before : List RowValue) → self.old ≡ totals_of before
             → self.new ≡ totals_of (before ++ row.now ∷ []) }
     {
@@ -56,7 +56,7 @@ impl Totals {
 }
 
 /// Returns how many batches have from `least` to `most` transactions.
-pub fn batches_of_size(rows: &[Row], least: usize, most: usize) -> usize
+pub fn batches_of_size(rows: &[TxnRow], least: usize, most: usize) -> usize
     ensures count { result ≡ count_by (has_size least most) rows.now }
 {
     rows.iter()

@@ -65,7 +65,7 @@ impl Gate {
         ensures full { IsErrAnd result (λ e. e.0 ≡ ChainError.GateFull)
             ↔ (length self.old ≡ MAX_HELD) }
         ensures unchanged { OnErr result (self.new ≡ self.old) }
-        ensures handed_back { IfErr result (λ e. e.1 ≡ batch) }
+        ensures returned { IfErr result (λ e. e.1 ≡ batch) }
     {
         if self.held() == MAX_HELD {
             return Err((ChainError::GateFull, batch));

@@ -75,20 +75,20 @@ AllBefore-later version later (r ∷ rs) far all =
     (below_far r.version version later all.0 far, AllBefore-later version later rs far all.1)
 
 -- each has a lesser version than each that is still expected
-abbrev pub Behind : List Reply → List Reply → Type 0
-Behind rs [] = ⊤
-Behind rs (e ∷ es) = AllBefore e.version rs × Behind rs es
+abbrev pub After : List Reply → List Reply → Type 0
+After rs [] = ⊤
+After rs (e ∷ es) = AllBefore e.version rs × After rs es
 
-Behind-none : (es : List Reply) → Behind [] es
-Behind-none [] = tt
-Behind-none (e ∷ es) = (tt, Behind-none es)
+After-none : (es : List Reply) → After [] es
+After-none [] = tt
+After-none (e ∷ es) = (tt, After-none es)
 
-Behind-more : (version : ℤ) (rs ss es : List Reply) → AllBefore version ss → NoneBefore version_of_reply version es
-    → Behind rs es → Behind (rs ++ ss) es
-Behind-more version rs ss [] all far behind = tt
-Behind-more version rs ss (e ∷ es) all far behind = (
-  AllBefore-append e.version rs ss behind.0 (AllBefore-later version e.version ss far.0 all),
-  Behind-more version rs ss es all far.1 behind.1,
+After-more : (version : ℤ) (rs ss es : List Reply) → AllBefore version ss → NoneBefore version_of_reply version es
+    → After rs es → After (rs ++ ss) es
+After-more version rs ss [] all far after = tt
+After-more version rs ss (e ∷ es) all far after = (
+  AllBefore-append e.version rs ss after.0 (AllBefore-later version e.version ss far.0 all),
+  After-more version rs ss es all far.1 after.1,
 )
 
 -- what is found behind those that are before the version
@@ -105,12 +105,12 @@ passed-all : (r : Reply) (rs : List Reply) (o : Option (Reply × List Reply))
 passed-all r rs None = refl
 passed-all r rs (Some found) = refl
 
-first_of-behind : (version : ℤ) (rs ys : List Reply) → AllBefore version rs
+first_of-after : (version : ℤ) (rs ys : List Reply) → AllBefore version rs
     → first_of version (rs ++ ys) ≡ passed_all rs (first_of version ys)
-first_of-behind version [] ys all = sym (passed_all-none (first_of version ys))
-first_of-behind version (r ∷ rs) ys all =
+first_of-after version [] ys all = sym (passed_all-none (first_of version ys))
+first_of-after version (r ∷ rs) ys all =
     cond-false _ _ _ (not_equal r.version version all.0)
-    ∙ ap (passed r) (first_of-behind version rs ys all.1)
+    ∙ ap (passed r) (first_of-after version rs ys all.1)
     ∙ passed-all r rs (first_of version ys)
 
 -- nothing is found above
@@ -133,10 +133,10 @@ found_none version r rs none rise other =
     ∙ ap (passed r) (first_of-above version r.version rs high rise.0)
 
 -- what an expected reply is matched with, behind those that were passed over
-matched_behind : (e : Reply) (rs ys : List Reply) (go_on : List Reply → List Difference) (o : Option (Reply × List Reply))
-    → matched_with e (rs ++ ys) go_on (passed_all rs o) ≡ matched_with e ys (λ zs. go_on (rs ++ zs)) o
-matched_behind e rs ys go_on None = refl
-matched_behind e rs ys go_on (Some found) = refl
+matched_after : (e : Reply) (rs ys : List Reply) (continue_with : List Reply → List Difference) (o : Option (Reply × List Reply))
+    → matched_with e (rs ++ ys) continue_with (passed_all rs o) ≡ matched_with e ys (λ zs. continue_with (rs ++ zs)) o
+matched_after e rs ys continue_with None = refl
+matched_after e rs ys continue_with (Some found) = refl
 
 -- how many at the front are before the version
 abbrev pub front : ℤ → List Reply → ℕ
@@ -173,13 +173,13 @@ Rise-drop zero rs rise = rise
 Rise-drop (suc n) [] rise = tt
 Rise-drop (suc n) (r ∷ rs) rise = Rise-drop n rs rise.1
 
-front_behind : (version : ℤ) (rs : List Reply) → Rise version_of_reply rs
+front_after : (version : ℤ) (rs : List Reply) → Rise version_of_reply rs
     → NoneBefore version_of_reply version (drop (front version rs) rs)
-front_behind version [] rise = tt
-front_behind version (r ∷ rs) rise =
+front_after version [] rise = tt
+front_after version (r ∷ rs) rise =
     elim (cases_Bool (int_lt r.version version)) [
       | inl below ↦ subst (λ (n : ℕ). NoneBefore version_of_reply version (drop n (r ∷ rs))) (sym (front-more version r rs below))
-          (front_behind version rs rise.1)
+          (front_after version rs rise.1)
       | inr far ↦ subst (λ (n : ℕ). NoneBefore version_of_reply version (drop n (r ∷ rs))) (sym (front-none version r rs far))
           (far, NoneBefore-lower version r.version rs far rise.0)
     ]
@@ -188,93 +188,93 @@ front_behind version (r ∷ rs) rise =
 pub record HasMatched (expected recorded : List Reply) (index : ℕ) (rest : List Reply) (found passed_over : List Difference) :
     Type 0 where
   pub skipped : List Reply
-  pub told : passed_over ≡ map unexpected skipped
-  pub behind : Behind skipped (drop index expected)
+  pub reported : passed_over ≡ map unexpected skipped
+  pub after : After skipped (drop index expected)
   pub left : Rise version_of_reply (drop index expected)
   pub rises : Rise version_of_reply rest
-  pub goes_on : found ++ matched (drop index expected) (skipped ++ rest) ≡ matched expected recorded
+  pub continues : found ++ matched (drop index expected) (skipped ++ rest) ≡ matched expected recorded
 
 pub matched_none : (expected recorded : List Reply) → Rise version_of_reply expected → Rise version_of_reply recorded
     → HasMatched expected recorded 0 recorded [] []
 matched_none expected recorded left rises = record {
   skipped = [];
-  told = refl;
-  behind = Behind-none expected;
+  reported = refl;
+  after = After-none expected;
   left = left;
   rises = rises;
-  goes_on = refl;
+  continues = refl;
 }
 
 -- what goes on behind those that this reply passes over
-abbrev pub GoesOn : Reply → List Reply → List Reply → List Difference → List Difference → Type 0
-GoesOn e recorded rest before now = (go_on : List Reply → List Difference)
-    → now ++ go_on rest ≡ before ++ matched_with e recorded go_on (first_of e.version recorded)
+abbrev pub Continues : Reply → List Reply → List Reply → List Difference → List Difference → Type 0
+Continues e recorded rest before now = (continue_with : List Reply → List Difference)
+    → now ++ continue_with rest ≡ before ++ matched_with e recorded continue_with (first_of e.version recorded)
 
 pub matched_step : (expected recorded rest rest' : List Reply) (index : ℕ) (found found' passed_over : List Difference)
     (e : Reply) (es : List Reply) → drop index expected ≡ e ∷ es → drop (suc index) expected ≡ es
     → HasMatched expected recorded index rest found passed_over → Rise version_of_reply rest'
-    → GoesOn e (drop (front e.version rest) rest) rest' found found'
+    → Continues e (drop (front e.version rest) rest) rest' found found'
     → HasMatched expected recorded (suc index) rest' found' (passed_over ++ map unexpected (take (front e.version rest) rest))
 matched_step expected recorded rest rest' index found found' passed_over e es here next had rises goes =
     let n = front e.version rest in
     let before = take n rest in
     let others = drop n rest in
     let skipped = had.skipped ++ before in
-    let behind : Behind had.skipped (e ∷ es) = subst (Behind had.skipped) here had.behind in
+    let after : After had.skipped (e ∷ es) = subst (After had.skipped) here had.after in
     let left : Rise version_of_reply (e ∷ es) = subst (Rise version_of_reply) here had.left in
-    let all = AllBefore-append e.version had.skipped before behind.0 (front_before e.version rest) in
-    let whole : had.skipped ++ rest ≡ skipped ++ others =
+    let all = AllBefore-append e.version had.skipped before after.0 (front_before e.version rest) in
+    let entire : had.skipped ++ rest ≡ skipped ++ others =
     ap (λ (l : List Reply). had.skipped ++ l) (sym (take-append-drop n rest)) ∙ sym (append_assoc had.skipped before others) in
     let so_far : found ++ matched (e ∷ es) (skipped ++ others) ≡ matched expected recorded =
-    subst (λ (l : List Reply). found ++ matched (e ∷ es) l ≡ matched expected recorded) whole
-    (subst (λ (l : List Reply). found ++ matched l (had.skipped ++ rest) ≡ matched expected recorded) here had.goes_on) in
-    let go_on : List Reply → List Difference = λ zs. matched es (skipped ++ zs) in
+    subst (λ (l : List Reply). found ++ matched (e ∷ es) l ≡ matched expected recorded) entire
+    (subst (λ (l : List Reply). found ++ matched l (had.skipped ++ rest) ≡ matched expected recorded) here had.continues) in
+    let continue_with : List Reply → List Difference = λ zs. matched es (skipped ++ zs) in
     let step : found' ++ matched es (skipped ++ rest') ≡ found ++ matched (e ∷ es) (skipped ++ others) =
-    goes go_on
+    goes continue_with
     ∙ ap (λ (ds : List Difference). found ++ ds)
-    (sym (matched_behind e skipped others (matched es) (first_of e.version others))
-    ∙ ap (matched_with e (skipped ++ others) (matched es)) (sym (first_of-behind e.version skipped others all))) in
+    (sym (matched_after e skipped others (matched es) (first_of e.version others))
+    ∙ ap (matched_with e (skipped ++ others) (matched es)) (sym (first_of-after e.version skipped others all))) in
     record {
       skipped = skipped;
-      told = ap (λ (ds : List Difference). ds ++ map unexpected before) had.told ∙ sym (map-append unexpected had.skipped before);
-      behind = subst (Behind skipped) (sym next) (Behind-more e.version had.skipped before es (front_before e.version rest) left.0 behind.1);
+      reported = ap (λ (ds : List Difference). ds ++ map unexpected before) had.reported ∙ sym (map-append unexpected had.skipped before);
+      after = subst (After skipped) (sym next) (After-more e.version had.skipped before es (front_before e.version rest) left.0 after.1);
       left = subst (Rise version_of_reply) (sym next) left.1;
       rises = rises;
-      goes_on = subst (λ (l : List Reply). found' ++ matched l (skipped ++ rest') ≡ matched expected recorded) (sym next) (step ∙ so_far);
+      continues = subst (λ (l : List Reply). found' ++ matched l (skipped ++ rest') ≡ matched expected recorded) (sym next) (step ∙ so_far);
     }
 
 pub matched_all : (expected recorded rest : List Reply) (index : ℕ) (found passed_over : List Difference)
     → length expected ≤ index → HasMatched expected recorded index rest found passed_over
     → found ++ (passed_over ++ map unexpected rest) ≡ matched expected recorded
 matched_all expected recorded rest index found passed_over end had =
-    ap (λ (ds : List Difference). found ++ (ds ++ map unexpected rest)) had.told
+    ap (λ (ds : List Difference). found ++ (ds ++ map unexpected rest)) had.reported
     ∙ ap (λ (ds : List Difference). found ++ ds) (sym (map-append unexpected had.skipped rest))
     ∙ subst (λ (l : List Reply). found ++ matched l (had.skipped ++ rest) ≡ matched expected recorded)
-    (drop_of_length-le expected end) had.goes_on
+    (drop_of_length-le expected end) had.continues
 
 -- one turn: those before the reply are passed over, and it is matched with what follows
 pub matched_turn : (expected recorded rest rest' before others : List Reply) (index n : ℕ)
     (found found' passed_over passed_over' : List Difference) (e : Reply)
     → index < length expected → e ≡ get_or expected index e → n ≡ front e.version rest → before ≡ take n rest → others ≡ drop n rest
     → passed_over' ≡ passed_over ++ map unexpected before → HasMatched expected recorded index rest found passed_over
-    → Rise version_of_reply rest' → GoesOn e others rest' found found'
+    → Rise version_of_reply rest' → Continues e others rest' found found'
     → HasMatched expected recorded (index + 1) rest' found' passed_over'
 matched_turn expected recorded rest rest' before others index n found found' passed_over passed_over' e inside is count front_is back_is pushed had rises goes =
     let here : drop index expected ≡ e ∷ drop (suc index) expected =
     drop-cons expected index e inside ∙ ap (λ (r : Reply). r ∷ drop (suc index) expected) (sym is) in
     let passed_is = pushed ∙ ap (λ (l : List Reply). passed_over ++ map unexpected l)
     (front_is ∙ ap (λ (k : ℕ). take k rest) count) in
-    let goes' = subst (λ (l : List Reply). GoesOn e l rest' found found')
+    let goes' = subst (λ (l : List Reply). Continues e l rest' found found')
     (back_is ∙ ap (λ (k : ℕ). drop k rest) count) goes in
     rw add-one (subst (HasMatched expected recorded (suc index) rest' found') (sym passed_is)
     (matched_step expected recorded rest rest' index found found' passed_over e (drop (suc index) expected) here refl had rises goes'))
 
 -- what isn't before the version, of what is left behind those that are
-pub behind_front : (version : ℤ) (rest others : List Reply) (n : ℕ) → n ≡ front version rest → others ≡ drop n rest
+pub after_front : (version : ℤ) (rest others : List Reply) (n : ℕ) → n ≡ front version rest → others ≡ drop n rest
     → Rise version_of_reply rest → NoneBefore version_of_reply version others × Rise version_of_reply others
-behind_front version rest others n count back_is rises =
+after_front version rest others n count back_is rises =
     let others_are = back_is ∙ ap (λ (k : ℕ). drop k rest) count in (
-      subst (NoneBefore version_of_reply version) (sym others_are) (front_behind version rest rises),
+      subst (NoneBefore version_of_reply version) (sym others_are) (front_after version rest rises),
       subst (Rise version_of_reply) (sym others_are) (Rise-drop (front version rest) rest rises),
     )
 
@@ -290,18 +290,18 @@ found_empty version (r ∷ rs) empty = absurd (omega arith)
 
 -- nothing is found, and the reply is told as missing
 missed : (e : Reply) (recorded : List Reply) (before now : List Difference) → first_of e.version recorded ≡ None
-    → now ≡ before ++ missing e ∷ [] → GoesOn e recorded recorded before now
+    → now ≡ before ++ missing e ∷ [] → Continues e recorded recorded before now
 missed e recorded before now none is =
-    λ go_on. ap (λ (ds : List Difference). ds ++ go_on recorded) is
-    ∙ append_assoc before (missing e ∷ []) (go_on recorded)
-    ∙ ap (λ (o : Option (Reply × List Reply)). before ++ matched_with e recorded go_on o) (sym none)
+    λ continue_with. ap (λ (ds : List Difference). ds ++ continue_with recorded) is
+    ∙ append_assoc before (missing e ∷ []) (continue_with recorded)
+    ∙ ap (λ (o : Option (Reply × List Reply)). before ++ matched_with e recorded continue_with o) (sym none)
 
 pub missed_first : (e : Reply) (recorded : List Reply) (r : Reply) (others : List Reply) (before now : List Difference)
     → recorded ≡ r ∷ others → NoneBefore version_of_reply e.version recorded → Rise version_of_reply recorded
-    → (r.version ≡ e.version → ⊥) → now ≡ before ++ missing e ∷ [] → GoesOn e recorded recorded before now
-missed_first e recorded r others before now is none rise other told =
-    missed e recorded before now (found_in e.version recorded r others is none rise other) told
+    → (r.version ≡ e.version → ⊥) → now ≡ before ++ missing e ∷ [] → Continues e recorded recorded before now
+missed_first e recorded r others before now is none rise other reported =
+    missed e recorded before now (found_in e.version recorded r others is none rise other) reported
 
 pub missed_empty : (e : Reply) (recorded : List Reply) (before now : List Difference)
-    → length recorded ≡ 0 → now ≡ before ++ missing e ∷ [] → GoesOn e recorded recorded before now
-missed_empty e recorded before now empty told = missed e recorded before now (found_empty e.version recorded empty) told
+    → length recorded ≡ 0 → now ≡ before ++ missing e ∷ [] → Continues e recorded recorded before now
+missed_empty e recorded before now empty reported = missed e recorded before now (found_empty e.version recorded empty) reported

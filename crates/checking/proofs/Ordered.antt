@@ -58,9 +58,9 @@ module _ {X : Type 0} (version : X → ℤ) where
       → put_in_order version (b ∷ bs) a ≡ a ∷ b ∷ bs
   put_in_order-before a b bs h = cond-true _ _ _ h
 
-  put_in_order-behind : (a b : X) (bs : List X) → earlier a b ≡ false
+  put_in_order-after : (a b : X) (bs : List X) → earlier a b ≡ false
       → put_in_order version (b ∷ bs) a ≡ b ∷ put_in_order version bs a
-  put_in_order-behind a b bs h = cond-false _ _ _ h
+  put_in_order-after a b bs h = cond-false _ _ _ h
 
   NoneBelow-lower : (low a : X) (bs : List X) → earlier a low ≡ false → NoneBelow earlier order a bs
       → NoneBelow earlier order low bs
@@ -73,7 +73,7 @@ module _ {X : Type 0} (version : X → ℤ) where
   NoneBelow-put low a (b ∷ bs) le none =
       elim (cases_Bool (earlier a b)) [
         | inl before ↦ subst (NoneBelow earlier order low) (sym (put_in_order-before a b bs before)) (le, none)
-        | inr behind ↦ subst (NoneBelow earlier order low) (sym (put_in_order-behind a b bs behind)) (
+        | inr after ↦ subst (NoneBelow earlier order low) (sym (put_in_order-after a b bs after)) (
           none.0,
           NoneBelow-put low a bs le none.1,
         )
@@ -87,9 +87,9 @@ module _ {X : Type 0} (version : X → ℤ) where
             let le = order.one_way a b before in
             subst (Rises earlier order) (sym (put_in_order-before a b bs before))
             ((le, NoneBelow-lower a b bs le rises.0), rises)
-        | inr behind ↦
-            subst (Rises earlier order) (sym (put_in_order-behind a b bs behind))
-            (NoneBelow-put b a bs behind rises.0, Rises-put a bs rises.1)
+        | inr after ↦
+            subst (Rises earlier order) (sym (put_in_order-after a b bs after))
+            (NoneBelow-put b a bs after rises.0, Rises-put a bs rises.1)
       ]
 
   -- none of the list ties with x, which ties with an earlier one
@@ -128,8 +128,8 @@ module _ {X : Type 0} (version : X → ℤ) where
                   ∙ ap (λ l. filter p (b ∷ bs) ++ l) (filter-dropped p a [] without)
                   ∙ append-nil (filter p (b ∷ bs)))
             ]
-        | inr behind ↦
-            ap (filter p) (put_in_order-behind a b bs behind)
+        | inr after ↦
+            ap (filter p) (put_in_order-after a b bs after)
             ∙ ap (λ l. cond (p b) (b ∷ l) l) (filter-put x a bs rises.1)
       ]
 

@@ -69,8 +69,8 @@ first_of version (reply ∷ replies) =
 
 -- An expected reply is matched with what is found for it, and the next ones with the others.
 abbrev pub matched_with : Reply → List Reply → (List Reply → List Difference) → Option (Reply × List Reply) → List Difference
-matched_with reply recorded go_on None = missing reply ∷ go_on recorded
-matched_with reply recorded go_on (Some found) = reply_differences reply found.0 ++ go_on found.1
+matched_with reply recorded continue_with None = missing reply ∷ continue_with recorded
+matched_with reply recorded continue_with (Some found) = reply_differences reply found.0 ++ continue_with found.1
 
 -- Each expected reply, in turn, is matched with the first recorded one of its version that is left. What is left in the end
 -- is unexpected.

@@ -39,7 +39,7 @@ fn compare_entries(
     found: &[Entry],
     differences: &mut Vec<Difference>,
 ) -> Result<(), AllocError>
-    requires alike { length expected.now ≡ length found.now }
+    requires equal { length expected.now ≡ length found.now }
     ensures differences { OnOk result
         (differences.new.items ≡ differences.old.items
         ++ entry_differences version 0 expected.now found.now) }

@@ -77,9 +77,9 @@ fn match_first<'a>(
 ) -> Result<&'a [Reply], AllocError>
     requires from { NoneBefore version_of_reply reply.now.version recorded.now }
     requires rise { Rise version_of_reply recorded.now }
-    ensures matched { IfOk result (λ rest. (go_on : List ReplyValue → List DifferenceValue)
-        → differences.new.items ++ go_on rest.now
-        ≡ differences.old.items ++ matched_with reply.now recorded.now go_on
+    ensures matched { IfOk result (λ rest. (continue_with : List ReplyValue → List DifferenceValue)
+        → differences.new.items ++ continue_with rest.now
+        ≡ differences.old.items ++ matched_with reply.now recorded.now continue_with
         (first_of reply.now.version recorded.now)) }
     ensures rises { IfOk result (λ rest. Rise version_of_reply rest.now) }
 {

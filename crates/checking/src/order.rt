@@ -9,15 +9,15 @@ use std::alloc::{AllocError, Global};
 /// What has a version.
 pub trait Versioned {
     // The version of this item.
-    ghost version_told: { Self → ℤ };
+    ghost item_version: { Self → ℤ };
 
     /// Returns the version.
     fn version(&self) -> i64
-        ensures version { result ≡ version_told self.now };
+        ensures version { result ≡ item_version self.now };
 }
 
 impl Versioned for Reply {
-    ghost version_told = { λ reply. reply.version };
+    ghost item_version = { λ reply. reply.version };
 
     fn version(&self) -> i64 {
         self.version
@@ -28,8 +28,8 @@ impl Versioned for Reply {
 /// for up to 20 items. After an error, which says that memory was refused, their order is
 /// unspecified.
 pub fn sort_by_version<T: Versioned>(alloc: Global, items: &mut [T]) -> Result<(), AllocError>
-    ensures sorted { OnOk result (items.new ≡ in_order_by T.version_told items.old) }
-    ensures rises { OnOk result (Rise T.version_told items.new) }
+    ensures sorted { OnOk result (items.new ≡ in_order_by T.item_version items.old) }
+    ensures rises { OnOk result (Rise T.item_version items.new) }
     ensures count { length items.new ≡ length items.old }
     ensures few { length items.old ≤ 20 → IsOk result }
 {

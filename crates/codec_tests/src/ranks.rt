@@ -1,7 +1,7 @@
 //! The ranks of a batch's ranges, if a growth is refused.
 
 use crate::rows::expect;
-use keys::{MAX_RANKED, Ranks};
+use keys::{GapRuns, MAX_RANKED};
 use keyspace::Txns;
 use std::alloc::Global;
 use std::test::Fail;
@@ -18,7 +18,7 @@ fn show_ranks(alloc: Global, txns: &Txns) -> Result<String, Unmade> {
         return Err(Unmade::Beyond("ranges"));
     }
     let mut text = String::from_str(alloc, "order")?;
-    let (ranks, order) = Ranks::with_order(alloc, &ranges)?;
+    let (ranks, order) = GapRuns::with_order(alloc, &ranges)?;
     for index in &order {
         if *index as usize >= ranges.len() {
             return Err(Unmade::Beyond("order"));

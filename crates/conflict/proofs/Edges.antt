@@ -16,9 +16,9 @@ pub edge_below : (window : ℤ) (b : Batch) → pos 1 ≤ℤ window → edge win
 edge_below window b least = grind (arith, ints, least, b.natural)
 
 -- as the code hands it on
-pub edge_handed : (window given : ℤ) (b : Batch) → SFits w64 window → SFits w64 given
+pub edge_passed : (window given : ℤ) (b : Batch) → SFits w64 window → SFits w64 given
     → given ≡ edge (to_z w64 (of_z w64 window)) b → to_z w64 (of_z w64 given) ≡ edge window b
-edge_handed window given b window_fits fits is =
+edge_passed window given b window_fits fits is =
     to_z-of_z w64 given fits ∙ is ∙ ap (λ w. edge w b) (to_z-of_z w64 window window_fits)
 
 pub at_most : (a b : ℤ) → a <ℤ b → a ≤ℤ b

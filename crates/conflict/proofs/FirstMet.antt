@@ -40,9 +40,9 @@ use Rattle.keyspace.specs.Writes.{counted}
 use Rattle.keyspace.specs.Judge.{meets_earlier, places_from, in_conflict_at}
 use Rattle.keyspace.proofs.callers.Judging.{entry_same}
 use Rattle.conflict.specs.InBatch.{first_met, unless_met, by_verdict, in_batch}
-use Rattle.keys.specs.Ranks.{HaveBegin, run_or_none}
+use Rattle.keys.specs.GapRuns.{HaveBegin, run_or_none}
 use Rattle.conflict.specs.Gaps.{SomeMarked}
-use Rattle.conflict.specs.Written.{AreWrittenGaps, RunsTellOverlap, TellRuns}
+use Rattle.conflict.specs.Written.{AreWrittenGaps, RunsDetermineOverlap, AreRunsOf}
 use Rattle.conflict.proofs.Written.{any_marked_is_met}
 
 module _ {X Y : Type 0} (Yes No : Y → Type 0) (f : X → Y) (test : X → Bool) where
@@ -85,8 +85,8 @@ module _ {X Y : Type 0} (Yes No : Y → Type 0) (f : X → Y) (test : X → Bool
   first_passes [] tested (Some i) first = absurd (omega (arith, first.0))
   first_passes (x ∷ xs) tested r first = first_in x (x ∷ xs) (omega arith) tested r first
 
-module _ (keys : List (List ℕ)) (tells : RunsTellOverlap) (marks : List Bool) (written : List Range)
-    (told : AreWrittenGaps keys marks written) (have : All (HaveBegin keys) written) where
+module _ (keys : List (List ℕ)) (determines : RunsDetermineOverlap) (marks : List Bool) (written : List Range)
+    (determined : AreWrittenGaps keys marks written) (have : All (HaveBegin keys) written) where
   abbrev SomeIn : ℕ × ℕ → Type 0
   SomeIn r = SomeMarked marks r.0 r.1
 
@@ -94,22 +94,22 @@ module _ (keys : List (List ℕ)) (tells : RunsTellOverlap) (marks : List Bool) 
       → AreTested SomeIn (λ r. ¬ SomeIn r) (run_or_none keys) (meets_earlier written) ranges
   marked_tests ranges begins i d inside =
       let range = get_or ranges i d in (
-        λ some. sym (any_marked_is_met keys tells marks written range true (begins i d inside)
-            (λ _. some, λ _. refl) told have),
-        λ none. sym (any_marked_is_met keys tells marks written range false (begins i d inside)
-            (λ t. absurd (true≢false (sym t)), λ some. absurd (none some)) told have),
+        λ some. sym (any_marked_is_met keys determines marks written range true (begins i d inside)
+            (λ _. some, λ _. refl) determined have),
+        λ none. sym (any_marked_is_met keys determines marks written range false (begins i d inside)
+            (λ t. absurd (true≢false (sym t)), λ some. absurd (none some)) determined have),
       )
 
   -- the first run with a marked gap is that of the first range that overlaps a written one
-  pub first_marked : (runs : List (ℕ × ℕ)) (ranges : List Range) → TellRuns keys runs ranges → (r : Option ℕ)
+  pub first_marked : (runs : List (ℕ × ℕ)) (ranges : List Range) → AreRunsOf keys runs ranges → (r : Option ℕ)
       → MatchOption r (AllWithin (λ r. ¬ SomeIn r) runs 0 (length runs))
       (λ i. (i < length runs) × HoldsAt SomeIn runs i × AllWithin (λ r. ¬ SomeIn r) runs 0 i)
       → r ≡ position (meets_earlier written) ranges
-  first_marked runs ranges tell r first =
+  first_marked runs ranges determine r first =
       first_passes SomeIn (λ r. ¬ SomeIn r) (run_or_none keys) (meets_earlier written) ranges
-      (marked_tests ranges tell.have_begins) r
+      (marked_tests ranges determine.have_begins) r
       (subst (λ (rs : List (ℕ × ℕ)). MatchOption r (AllWithin (λ r. ¬ SomeIn r) rs 0 (length rs))
-      (λ i. (i < length rs) × HoldsAt SomeIn rs i × AllWithin (λ r. ¬ SomeIn r) rs 0 i)) tell.are_runs first)
+      (λ i. (i < length rs) × HoldsAt SomeIn rs i × AllWithin (λ r. ¬ SomeIn r) rs 0 i)) determine.are_runs first)
 
 -- the first place, by the position
 first_place : (i : ℕ) (test : Range → Bool) (ranges : List Range)

@@ -14,10 +14,10 @@ use Rattle.conflict.specs.Gaps.{HasBit, IsInRun, IsInWord}
 not_eqb : (a b : ℕ) → IsTrue (not (eqb a b)) ↔ (a ≢ b)
 not_eqb a b = elim (eqb_tells a b) [
   | inl same ↦ (
-    λ told. absurd (let contrary : false ≡ true = sym (ap not same.0) ∙ told in cc),
+    λ determined. absurd (let contrary : false ≡ true = sym (ap not same.0) ∙ determined in cc),
     λ differ. absurd (differ same.1),
   )
-  | inr other ↦ (λ told. other.1, λ differ. ap not other.0)
+  | inr other ↦ (λ determined. other.1, λ differ. ap not other.0)
 ]
 
 -- a word that isn't 0 has a bit

@@ -53,21 +53,21 @@ use Rattle.keys.proofs.callers.Booleans.{false_unless}
 use Rattle.keyspace.proofs.callers.Judging.{range_hit_from_test, test_from_range_hit}
 use Rattle.stepmap.specs.StepMap.{Steps}
 use Rattle.stepmap.specs.Covers.{MapCovers, IsAbove}
-use Rattle.stepmap.specs.Laws.{TellsHits}
+use Rattle.stepmap.specs.Laws.{DeterminesHits}
 use Rattle.conflict.specs.Asking.{is_settled, true_places}
 
 false_is_true : false ≡ true → ⊥
 false_is_true e = cc
 
-pub exceeds_is_hit : TellsHits → (m : Steps) (ws : List Write) (t : Txn) (range : Range) (b : Bool)
+pub exceeds_is_hit : DeterminesHits → (m : Steps) (ws : List Write) (t : Txn) (range : Range) (b : Bool)
     → MapCovers m ws
     → m.edge ≤ℤ t.snapshot → (IsTrue b ↔ IsAbove m range t.snapshot) → b ≡ is_hit ws t range
-exceeds_is_hit tells m ws t range true covers late above =
-    sym (test_from_range_hit ws t range ((tells m ws range t.snapshot covers late).0 (above.0 refl)))
-exceeds_is_hit tells m ws t range false covers late above =
+exceeds_is_hit determines m ws t range true covers late above =
+    sym (test_from_range_hit ws t range ((determines m ws range t.snapshot covers late).0 (above.0 refl)))
+exceeds_is_hit determines m ws t range false covers late above =
     sym (false_unless (is_hit ws t range)
     (λ hit. false_is_true
-    (above.1 ((tells m ws range t.snapshot covers late).1 (range_hit_from_test ws t range hit)))))
+    (above.1 ((determines m ws range t.snapshot covers late).1 (range_hit_from_test ws t range hit)))))
 
 -- some hit is true, as a search for it says
 pub any_true : (hits : List Bool) → list_any (λ hit. beq hit true) hits ≡ list_any (λ hit. hit) hits
@@ -110,8 +110,8 @@ module _ (ws : List Write) (t : Txn) (hits : List Bool) where
   -- where none is true, they don't settle the transaction
   pub none_hit : (is_settled t hits ≡ false → hits ≡ map (is_hit ws t) t.reads) → list_any (λ hit. hit) hits ≡ false
       → list_any (is_hit ws t) t.reads ≡ false
-  none_hit whole none =
-      sym (any_of_hits (is_hit ws t) t.reads) ∙ sym (ap (list_any (λ hit. hit)) (whole unsettled)) ∙ none
+  none_hit entire none =
+      sym (any_of_hits (is_hit ws t) t.reads) ∙ sym (ap (list_any (λ hit. hit)) (entire unsettled)) ∙ none
     where
       and_false : (a : Bool) → (a && false) ≡ false
       and_false true = refl
@@ -130,9 +130,9 @@ module _ (ws : List Write) (t : Txn) (hits : List Bool) where
       ∙ ap (λ b. b || list_any (λ hit. hit) others) some
 
   -- they don't settle a marked transaction
-  pub marked_whole : (is_settled t hits ≡ false → hits ≡ map (is_hit ws t) t.reads) → t.marked ≡ true
+  pub marked_entire : (is_settled t hits ≡ false → hits ≡ map (is_hit ws t) t.reads) → t.marked ≡ true
       → hits ≡ map (is_hit ws t) t.reads
-  marked_whole whole marked = whole (ap (λ b. not b && list_any (λ hit. hit) hits) marked)
+  marked_entire entire marked = entire (ap (λ b. not b && list_any (λ hit. hit) hits) marked)
 
 -- the places of the hits are those of the ranges that pass the test
 pub places_of_hits : (i : ℕ) (test : Range → Bool) (ranges : List Range)

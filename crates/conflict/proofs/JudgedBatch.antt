@@ -19,8 +19,8 @@ length-in_batches written (t ∷ ts) (e ∷ es) same =
     suc_same h = omega (arith, h)
 
 -- a vector that was changed in place as a slice
-pub changed_whole : {X : Type 0} (after before : List X) (n : ℕ) → length after ≡ n
+pub changed_entire : {X : Type 0} (after before : List X) (n : ℕ) → length after ≡ n
     → take n (after ++ drop (length after) before) ≡ after
-changed_whole after before n long =
+changed_entire after before n long =
     ap (λ m. take m (after ++ drop (length after) before)) (sym long)
     ∙ take-append_seam after (drop (length after) before)

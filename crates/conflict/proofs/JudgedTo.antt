@@ -32,12 +32,12 @@ use Rattle.keyspace.specs.declared.reply.Verdict.{Verdict}
 use Rattle.keyspace.specs.declared.reply.Verdict.TheVariants.{Conflict, TooOld, Committed}
 use Rattle.keyspace.specs.declared.reply.Entry.{Entry}
 use Rattle.keyspace.specs.Writes.{counted, committed}
-use Rattle.keys.specs.Ranks.{HaveBegin}
+use Rattle.keys.specs.GapRuns.{HaveBegin}
 use Rattle.keyspace.specs.BatchRanges.{ranges_of_txn, ranges_in}
 use Rattle.conflict.specs.InBatch.{in_batch, in_batches}
-use Rattle.conflict.specs.Written.{AreWrittenGaps, TellRuns}
+use Rattle.conflict.specs.Written.{AreWrittenGaps, AreRunsOf}
 use Rattle.conflict.proofs.Parts.{all_split}
-use Rattle.conflict.proofs.Told.{told_count, told_split}
+use Rattle.conflict.proofs.RunsOfRanges.{determined_count, determined_split}
 use Rattle.conflict.proofs.Written.{no_more_written}
 use Rattle.conflict.proofs.FirstMet.{none_counted, closed_entry}
 
@@ -57,21 +57,21 @@ all_counted P Committed ranges all = all
 all_counted P TooOld ranges all = All-nil P
 all_counted P Conflict ranges all = All-nil P
 
-module _ (keys : List (List ℕ)) (whole : List Entry) where
+module _ (keys : List (List ℕ)) (entire : List Entry) where
   -- The transactions ts are judged, with entries ds, and what the batch makes of us and es is still to come. The runs
   -- are those of the ranges of us.
   pub record JudgedTo (runs : List (ℕ × ℕ)) (marks : List Bool) (ts : List Txn) (ds : List Entry) (us : List Txn)
       (es : List Entry) : Type 0 where
-    pub judged : ds ++ in_batches (committed ts ds) us es ≡ whole
+    pub judged : ds ++ in_batches (committed ts ds) us es ≡ entire
     pub marked : AreWrittenGaps keys marks (committed ts ds)
     pub have_begins : All (HaveBegin keys) (committed ts ds)
-    pub left : TellRuns keys runs (ranges_in us)
+    pub left : AreRunsOf keys runs (ranges_in us)
 
   module _ (runs : List (ℕ × ℕ)) (marks : List Bool) (ts us : List Txn) (ds es : List Entry) (t : Txn) (e : Entry)
       (so_far : JudgedTo runs marks ts ds (t ∷ us) (e ∷ es)) where
-    left_split : TellRuns keys (take (length (ranges_of_txn t)) runs) (ranges_of_txn t)
-        × TellRuns keys (drop (length (ranges_of_txn t)) runs) (ranges_in us)
-    left_split = told_split keys runs (ranges_of_txn t) (ranges_in us) so_far.left
+    left_split : AreRunsOf keys (take (length (ranges_of_txn t)) runs) (ranges_of_txn t)
+        × AreRunsOf keys (drop (length (ranges_of_txn t)) runs) (ranges_in us)
+    left_split = determined_split keys runs (ranges_of_txn t) (ranges_in us) so_far.left
 
     -- one more is judged, and what it writes is marked
     one_more_judged : (d : Entry) (new : List Bool) → length ts ≡ length ds
@@ -106,14 +106,14 @@ module _ (keys : List (List ℕ)) (whole : List Entry) where
       txns_left = drop_more txns i t inside ∙ ap (λ u. u ∷ drop (i + 1) txns) (sym is_next)
 
       -- the runs of the next one
-      pub next_told : TellRuns keys (take (length (ranges_of_txn t)) runs) (ranges_of_txn t)
-      next_told =
-          (told_split keys runs (ranges_of_txn t) (ranges_in (drop (i + 1) txns)) (rw txns_left at so_far.left)).0
+      pub next_determined : AreRunsOf keys (take (length (ranges_of_txn t)) runs) (ranges_of_txn t)
+      next_determined =
+          (determined_split keys runs (ranges_of_txn t) (ranges_in (drop (i + 1) txns)) (rw txns_left at so_far.left)).0
 
       -- there are as many runs
       pub next_within : length (ranges_of_txn t) ≤ length runs
       next_within =
-          let few = told_count keys (take (length (ranges_of_txn t)) runs) (ranges_of_txn t) next_told in
+          let few = determined_count keys (take (length (ranges_of_txn t)) runs) (ranges_of_txn t) next_determined in
           omega (arith, few, length-take (length (ranges_of_txn t)) runs)
 
       module _ (default : Entry) (same : length entries ≡ length txns) where
@@ -144,8 +144,8 @@ module _ (keys : List (List ℕ)) (whole : List Entry) where
         pub closed_judged : (e.verdict ≡ Committed → ⊥)
             → JudgedBelow (i + 1) (drop (length (ranges_of_txn t)) runs) marks txns (set entries i e)
         closed_judged closed =
-            next_judged e marks (λ written told have. closed_entry written t e closed)
-            (λ written told have. no_more_written keys marks written _ (none_counted e.verdict t.writes closed) told)
+            next_judged e marks (λ written determined have. closed_entry written t e closed)
+            (λ written determined have. no_more_written keys marks written _ (none_counted e.verdict t.writes closed) determined)
 
   -- once all are judged
   nothing_left : (written : List Range) (txns : List Txn) → in_batches written txns [] ≡ []
@@ -153,7 +153,7 @@ module _ (keys : List (List ℕ)) (whole : List Entry) where
   nothing_left written (t ∷ txns) = refl
 
   pub judged_all : (i : ℕ) (runs : List (ℕ × ℕ)) (marks : List Bool) (txns : List Txn) (entries : List Entry)
-      → JudgedBelow i runs marks txns entries → length entries ≤ i → entries ≡ whole
+      → JudgedBelow i runs marks txns entries → length entries ≤ i → entries ≡ entire
   judged_all i runs marks txns entries so_far end =
       let written = committed (take i txns) (take i entries) in
       sym (ap (λ es. take i entries ++ in_batches written (drop i txns) es) (drop_all i entries end)

@@ -2,10 +2,10 @@
 use Rattle.std.proofs.Common.{◌≡◌, ℕ, suc, ◌+◌, ◌-◌, ◌<◌, ◌≤◌, true, false, List, [], ◌∷◌, ◌++◌, length, get_or, set, take, refl, sym, ap, ◌∙◌, arith}
 use Rattle.std.proofs.Math.Seq.{take-suc-set}
 use Rattle.std.proofs.lemmas.List.{length-set, take_all, take_more}
-use Rattle.conflict.specs.declared.union.Span.{Span}
+use Rattle.conflict.specs.declared.union.UnitedSpan.{UnitedSpan}
 
 -- the spans before the last, and that one
-pub last_of : (spans : List Span) (n : ℕ) (last : Span) → n ≡ length spans → 0 < n → last ≡ get_or spans (n - 1) last
+pub last_of : (spans : List UnitedSpan) (n : ℕ) (last : UnitedSpan) → n ≡ length spans → 0 < n → last ≡ get_or spans (n - 1) last
     → spans ≡ take (n - 1) spans ++ last ∷ []
 last_of spans n last count some is =
     let all : length spans ≤ n - 1 + 1 = omega (arith, count, some) in
@@ -13,7 +13,7 @@ last_of spans n last count some is =
     ∙ ap (λ x. take (n - 1) spans ++ x ∷ []) (sym is)
 
 -- another one in its place
-pub set_last : (spans : List Span) (n : ℕ) (last : Span) → n ≡ length spans → 0 < n
+pub set_last : (spans : List UnitedSpan) (n : ℕ) (last : UnitedSpan) → n ≡ length spans → 0 < n
     → set spans (n - 1) last ≡ take (n - 1) spans ++ last ∷ []
 set_last spans n last count some =
     let all : length (set spans (n - 1) last) ≤ suc (n - 1) =
@@ -22,6 +22,6 @@ set_last spans n last count some =
     ∙ take-suc-set spans (n - 1) last (omega (arith, count, some))
 
 -- there is none
-pub no_spans : (spans : List Span) (n : ℕ) → n ≡ length spans → (0 < n → false ≡ true) → spans ≡ []
+pub no_spans : (spans : List UnitedSpan) (n : ℕ) → n ≡ length spans → (0 < n → false ≡ true) → spans ≡ []
 no_spans [] n count none = refl
 no_spans (x ∷ spans) n count none = let e : false ≡ true = none (omega (arith, count)) in cc

@@ -8,7 +8,7 @@ pub mod NamedQuery
 pub mod Questions
 pub mod Overlap
 pub mod Parts
-pub mod Told
+pub mod RunsOfRanges
 pub mod Written
 pub mod FirstMet
 pub mod JudgedTo

@@ -47,43 +47,43 @@ own_picked t e =
     ∙ counted_if e.verdict t.writes
 
 -- what is marked as written is a write range
-abbrev Tells : Bool → Bool → Type 0
-Tells mark is_write = mark ≡ true → is_write ≡ true
+abbrev Determines : Bool → Bool → Type 0
+Determines mark is_write = mark ≡ true → is_write ≡ true
 
-tell-append : (marks more writes others : List Bool) → AllZip Tells marks writes → AllZip Tells more others
-    → AllZip Tells (marks ++ more) (writes ++ others)
-tell-append [] more [] others first second = second
-tell-append [] more (w ∷ writes) others first second = absurd first
-tell-append (m ∷ marks) more [] others first second = absurd first
-tell-append (m ∷ marks) more (w ∷ writes) others first second =
-    (first.0, tell-append marks more writes others first.1 second)
+determine-append : (marks more writes others : List Bool) → AllZip Determines marks writes → AllZip Determines more others
+    → AllZip Determines (marks ++ more) (writes ++ others)
+determine-append [] more [] others first second = second
+determine-append [] more (w ∷ writes) others first second = absurd first
+determine-append (m ∷ marks) more [] others first second = absurd first
+determine-append (m ∷ marks) more (w ∷ writes) others first second =
+    (first.0, determine-append marks more writes others first.1 second)
 
 -- all are write ranges, or none is
-tell-replicate : (n : ℕ) (mark is_write : Bool) → Tells mark is_write → AllZip Tells (replicate n mark) (replicate n is_write)
-tell-replicate zero mark is_write tells = tt
-tell-replicate (suc n) mark is_write tells = (tells, tell-replicate n mark is_write tells)
+determine-replicate : (n : ℕ) (mark is_write : Bool) → Determines mark is_write → AllZip Determines (replicate n mark) (replicate n is_write)
+determine-replicate zero mark is_write determines = tt
+determine-replicate (suc n) mark is_write determines = (determines, determine-replicate n mark is_write determines)
 
-own_tell : (t : Txn) (e : Entry) → AllZip Tells (own_marks t e) (marks_of_txn t)
-own_tell t e =
-    tell-append (replicate (length t.reads) false) (replicate (length t.writes) (counts e.verdict))
+own_determine : (t : Txn) (e : Entry) → AllZip Determines (own_marks t e) (marks_of_txn t)
+own_determine t e =
+    determine-append (replicate (length t.reads) false) (replicate (length t.writes) (counts e.verdict))
     (replicate (length t.reads) false) (replicate (length t.writes) true)
-    (tell-replicate (length t.reads) false false (λ same. same))
-    (tell-replicate (length t.writes) (counts e.verdict) true (λ _. refl))
+    (determine-replicate (length t.reads) false false (λ same. same))
+    (determine-replicate (length t.writes) (counts e.verdict) true (λ _. refl))
 
 -- by the index
-pub told_at : (marks writes : List Bool) → AllZip Tells marks writes → (index : ℕ) → get_or marks index false ≡ true
+pub determined_at : (marks writes : List Bool) → AllZip Determines marks writes → (index : ℕ) → get_or marks index false ≡ true
     → get_or writes index false ≡ true
-told_at [] [] all index marked = cc
-told_at [] (w ∷ writes) all index marked = absurd all
-told_at (m ∷ marks) [] all index marked = absurd all
-told_at (m ∷ marks) (w ∷ writes) all zero marked = all.0 marked
-told_at (m ∷ marks) (w ∷ writes) all (suc index) marked = told_at marks writes all.1 index marked
+determined_at [] [] all index marked = cc
+determined_at [] (w ∷ writes) all index marked = absurd all
+determined_at (m ∷ marks) [] all index marked = absurd all
+determined_at (m ∷ marks) (w ∷ writes) all zero marked = all.0 marked
+determined_at (m ∷ marks) (w ∷ writes) all (suc index) marked = determined_at marks writes all.1 index marked
 
 -- The marks are those of the ranges of the first transactions.
 pub record AreMarksOf (marks : List Bool) (txns : List Txn) (entries : List Entry) : Type 0 where
   pub written : picked marks (ranges_in txns) ≡ committed txns entries
   pub count : length marks ≡ length (ranges_in txns)
-  pub tell : AllZip Tells marks (write_marks txns)
+  pub determine : AllZip Determines marks (write_marks txns)
 
 marks_push : (marks : List Bool) (ts : List Txn) (es : List Entry) (t : Txn) (e : Entry) → length ts ≡ length es
     → AreMarksOf marks ts es → AreMarksOf (marks ++ own_marks t e) (ts ++ t ∷ []) (es ++ e ∷ [])
@@ -103,8 +103,8 @@ marks_push marks ts es t e same were =
         length-append (ranges_in ts) (ranges_of_txn t),
         were.count,
       );
-      tell = subst (AllZip Tells (marks ++ own_marks t e)) (flat_map_more marks_of_txn [] ts t)
-          (tell-append marks (own_marks t e) (write_marks ts) (marks_of_txn t) were.tell (own_tell t e));
+      determine = subst (AllZip Determines (marks ++ own_marks t e)) (flat_map_more marks_of_txn [] ts t)
+          (determine-append marks (own_marks t e) (write_marks ts) (marks_of_txn t) were.determine (own_determine t e));
     }
 
 -- so are those of one transaction more
@@ -141,7 +141,7 @@ marked_to-init marks n txns entries is count =
     record {
       size = size ∙ count;
       within = omega arith;
-      front = record { written = refl; count = refl; tell = tt };
+      front = record { written = refl; count = refl; determine = tt };
       rest = is ∙ ap (λ m. replicate m false) left;
     }
 
@@ -167,13 +167,13 @@ in_parts : (marks : List Bool) (end reads writes : ℕ) → end + reads + writes
 in_parts marks end reads writes room rest =
     let left = length marks - (end + reads + writes) in
     let sum : length marks - end ≡ reads + (writes + left) = omega (arith, room) in
-    let behind : drop end marks ≡ replicate reads false ++ (replicate writes false ++ replicate left false) =
+    let following : drop end marks ≡ replicate reads false ++ (replicate writes false ++ replicate left false) =
     rest
     ∙ ap (λ n. replicate n false) sum
     ∙ sym (replicate-append-replicate reads (writes + left) false)
     ∙ ap (λ ms. replicate reads false ++ ms) (sym (replicate-append-replicate writes left false)) in
     sym (take-append-drop end marks)
-    ∙ ap (λ ms. take end marks ++ ms) behind
+    ∙ ap (λ ms. take end marks ++ ms) following
     ∙ sym (append_assoc (take end marks) (replicate reads false) (replicate writes false ++ replicate left false))
 
 -- Marks of which a part is set, by the begin and the length of that part.
@@ -236,7 +236,7 @@ marked_to-next marks new end reads writes txns entries i t e inside same at_t at
     ap (λ n. replicate n false ++ replicate writes mark) is_reads
     ∙ ap (λ n. replicate (length t.reads) false ++ replicate n mark) is_writes in
     let now = take end marks ++ own_marks t e in
-    let whole : new ≡ now ++ replicate left false =
+    let entire : new ≡ now ++ replicate left false =
     is
     ∙ either
     ∙ sym (append_assoc before (replicate writes mark) (replicate left false))
@@ -253,7 +253,7 @@ marked_to-next marks new end reads writes txns entries i t e inside same at_t at
     ) in
     let size : length new ≡ length marks = omega (
       arith,
-      ap length whole,
+      ap length entire,
       length-append now (replicate left false),
       count,
       length-replicate left false,
@@ -263,8 +263,8 @@ marked_to-next marks new end reads writes txns entries i t e inside same at_t at
       size = size ∙ were.size;
       within = omega (arith, size, room);
       front = marks_next (take end marks) (take finish new) txns entries i t e inside same at_t at_e
-          (ap (take finish) whole ∙ take_at now (replicate left false) finish count) were.front;
-      rest = ap (drop finish) whole
+          (ap (take finish) entire ∙ take_at now (replicate left false) finish count) were.front;
+      rest = ap (drop finish) entire
           ∙ drop_at now (replicate left false) finish count
           ∙ ap (λ n. replicate (n - finish) false) (sym size);
     }

@@ -3,15 +3,15 @@ use Rattle.std.proofs.Common.{ℕ, List, subst}
 use Rattle.std.specs.Prelude.{IsTrue, All, Any}
 use Rattle.keys.specs.declared.range.Range.{Range}
 use Rattle.keys.specs.Range.{Meets, ranges_meet}
-use Rattle.keys.specs.Ranks.{HaveBegin, run}
+use Rattle.keys.specs.GapRuns.{HaveBegin, run}
 use Rattle.keys.specs.Gaps.{HasGap}
-use Rattle.keys.specs.Laws.{RunsTellMeeting}
+use Rattle.keys.specs.Laws.{RunsDetermineMeeting}
 use Rattle.keys.proofs.callers.Meeting.{meets_from_test, test_from_meets}
 use Rattle.keyspace.specs.Judge.{meets_earlier}
 use Rattle.keyspace.proofs.callers.Judging.{any_from_test, test_from_any}
-use Rattle.conflict.specs.Written.{RunsTellOverlap}
+use Rattle.conflict.specs.Written.{RunsDetermineOverlap}
 
-module _ (meeting : RunsTellMeeting) where
+module _ (meeting : RunsDetermineMeeting) where
   abbrev GapOfSome : List (List ℕ) → Range → List Range → Type 0
   GapOfSome keys a ranges =
       (gap : ℕ) × HasGap (run keys a) gap × Any (λ range. HasGap (run keys range) gap) ranges
@@ -32,6 +32,6 @@ module _ (meeting : RunsTellMeeting) where
       test_from_any (Meets a) (ranges_meet a) ranges (test_from_meets a)
       (s.0, s.1, s.2, s.3, (meeting keys a s.1 ha hb).1 (g.0, g.1, s.4))
 
-  pub runs_tell_overlap : RunsTellOverlap
-  runs_tell_overlap keys a ranges ha all =
+  pub runs_determine_overlap : RunsDetermineOverlap
+  runs_determine_overlap keys a ranges ha all =
       (gap_from_overlap keys a ranges ha all, overlap_from_gap keys a ranges ha all)

@@ -11,8 +11,8 @@ use Rattle.keyspace.specs.Writes.{Write}
 use Rattle.keyspace.specs.Judge.{is_hit, is_too_old}
 use Rattle.stepmap.specs.StepMap.{Steps}
 use Rattle.stepmap.specs.Covers.{MapCovers}
-use Rattle.stepmap.specs.Laws.{TellsHits}
-use Rattle.conflict.specs.declared.asking.Part.{Part}
+use Rattle.stepmap.specs.Laws.{DeterminesHits}
+use Rattle.conflict.specs.declared.asking.AnswerCounts.{AnswerCounts}
 use Rattle.conflict.specs.Asking.{asked_at, is_settled, first_asked, then_asked, all_first, all_then, all_parts, AreAnswers, AreHits}
 use Rattle.conflict.proofs.InBatch.{late_unless_old}
 use Rattle.conflict.proofs.Hits.{exceeds_is_hit}
@@ -58,28 +58,28 @@ module _ (oldest : ℤ) (ts : List Txn) (i : ℕ) (t : Txn) (inside : i < length
       (all_then oldest (drop (i + 1) ts) (drop (length (first_asked oldest t)) hits))
       ∙ ap (λ us. done ++ all_then oldest us hits) (sym (txns_left ts i t inside is_next))
 
-  pub parts_more : (done : List Part) (hits : List Bool) (part : Part)
+  pub parts_more : (done : List AnswerCounts) (hits : List Bool) (part : AnswerCounts)
       → part.first ≡ length (first_asked oldest t)
       → part.others ≡ length (then_asked oldest t (take (length (first_asked oldest t)) hits))
       → (done ++ part ∷ []) ++ all_parts oldest (drop (i + 1) ts) (drop (length (first_asked oldest t)) hits)
       ≡ done ++ all_parts oldest (drop i ts) hits
   parts_more done hits part first others =
       let rest = all_parts oldest (drop (i + 1) ts) (drop (length (first_asked oldest t)) hits) in
-      let Made : ℕ → ℕ → Part = λ m n. record { first = m; others = n } in
+      let Made : ℕ → ℕ → AnswerCounts = λ m n. record { first = m; others = n } in
       let is : part ≡ Made (length (first_asked oldest t)) (length (then_asked oldest t (take (length (first_asked oldest t)) hits))) =
       ap (λ m. Made m part.others) first ∙ ap (Made (length (first_asked oldest t))) others in
       append_assoc done (part ∷ []) rest ∙ ap (λ p. done ++ p ∷ rest) is
       ∙ ap (λ us. done ++ all_parts oldest us hits) (sym (txns_left ts i t inside is_next))
 
   -- the part of the next transaction comes before those after it
-  module _ (parts : List Part) (hits : List Bool) (left : drop i parts ≡ all_parts oldest (drop i ts) hits) where
-    abbrev own_part : Part
+  module _ (parts : List AnswerCounts) (hits : List Bool) (left : drop i parts ≡ all_parts oldest (drop i ts) hits) where
+    abbrev own_part : AnswerCounts
     own_part = record {
       first = length (first_asked oldest t);
       others = length (then_asked oldest t (take (length (first_asked oldest t)) hits));
     }
 
-    abbrev later_parts : List Part
+    abbrev later_parts : List AnswerCounts
     later_parts = all_parts oldest (drop (i + 1) ts) (drop (length (first_asked oldest t)) hits)
 
     parts_left : drop i parts ≡ own_part ∷ later_parts
@@ -88,10 +88,10 @@ module _ (oldest : ℤ) (ts : List Txn) (i : ℕ) (t : Txn) (inside : i < length
     pub part_within : i < length parts
     part_within = omega (arith, length-drop i parts, ap length parts_left)
 
-    next_parts : (part : Part) → get_or parts i part ∷ drop (i + 1) parts ≡ own_part ∷ later_parts
+    next_parts : (part : AnswerCounts) → get_or parts i part ∷ drop (i + 1) parts ≡ own_part ∷ later_parts
     next_parts part = sym (drop_more parts i part part_within) ∙ parts_left
 
-    pub part_at : (part : Part) → get_or parts i part
+    pub part_at : (part : AnswerCounts) → get_or parts i part
         ≡ record {
           first = length (first_asked oldest t);
           others = length (then_asked oldest t (take (length (first_asked oldest t)) hits));
@@ -150,7 +150,7 @@ module _ (m : Steps) (snapshot : ℤ) (ranges : List Range) (others : List (Rang
 
 -- What is left of the questions begins with those of the next transaction, and so do the answers.
 module _ (m : Steps) (oldest : ℤ) (ts : List Txn) (i : ℕ) (t : Txn) (inside : i < length ts)
-    (is_next : t ≡ get_or ts i t) (firsts : List Bool) (told : AreAnswers m (all_first oldest (drop i ts)) firsts) where
+    (is_next : t ≡ get_or ts i t) (firsts : List Bool) (determined : AreAnswers m (all_first oldest (drop i ts)) firsts) where
   abbrev ranges : List Range
   ranges = first_asked oldest t
 
@@ -158,7 +158,7 @@ module _ (m : Steps) (oldest : ℤ) (ts : List Txn) (i : ℕ) (t : Txn) (inside 
   own = take (length ranges) firsts
 
   left : AreAnswers m (asked_at t.snapshot ranges ++ all_first oldest (drop (i + 1) ts)) firsts
-  left = subst (λ us. AreAnswers m (all_first oldest us) firsts) (txns_left ts i t inside is_next) told
+  left = subst (λ us. AreAnswers m (all_first oldest us) firsts) (txns_left ts i t inside is_next) determined
 
   pub first_own : AreAnswers m (asked_at t.snapshot (first_asked oldest t)) (take (length (first_asked oldest t)) firsts)
   first_own = own_answers m t.snapshot ranges (all_first oldest (drop (i + 1) ts)) firsts left
@@ -169,14 +169,14 @@ module _ (m : Steps) (oldest : ℤ) (ts : List Txn) (i : ℕ) (t : Txn) (inside 
   pub first_within : length (first_asked oldest t) ≤ length firsts
   first_within = own_within m t.snapshot ranges (all_first oldest (drop (i + 1) ts)) firsts left
 
-  module _ (others : List Bool) (others_told : AreAnswers m (all_then oldest (drop i ts) firsts) others) where
+  module _ (others : List Bool) (others_determined : AreAnswers m (all_then oldest (drop i ts) firsts) others) where
     abbrev other_ranges : List Range
     other_ranges = then_asked oldest t own
 
     others_left : AreAnswers m
         (asked_at t.snapshot other_ranges ++ all_then oldest (drop (i + 1) ts) (drop (length ranges) firsts)) others
     others_left =
-        subst (λ us. AreAnswers m (all_then oldest us firsts) others) (txns_left ts i t inside is_next) others_told
+        subst (λ us. AreAnswers m (all_then oldest us firsts) others) (txns_left ts i t inside is_next) others_determined
 
     pub other_own : AreAnswers m (asked_at t.snapshot (then_asked oldest t (take (length (first_asked oldest t)) firsts)))
         (take (length (then_asked oldest t (take (length (first_asked oldest t)) firsts))) others)
@@ -197,9 +197,9 @@ pub answers_few : (m : Steps) (oldest : ℤ) (t : Txn) (first others : List Bool
     → AreAnswers m (asked_at t.snapshot (first_asked oldest t)) first
     → AreAnswers m (asked_at t.snapshot (then_asked oldest t first)) others
     → length first + length others ≤ length t.reads
-answers_few m oldest t first others told others_told =
-    let count = zip_count _ (asked_at t.snapshot (first_asked oldest t)) first told in
-    let others_count = zip_count _ (asked_at t.snapshot (then_asked oldest t first)) others others_told in
+answers_few m oldest t first others determined others_determined =
+    let count = zip_count _ (asked_at t.snapshot (first_asked oldest t)) first determined in
+    let others_count = zip_count _ (asked_at t.snapshot (then_asked oldest t first)) others others_determined in
     let long : length (asked_at t.snapshot (first_asked oldest t)) ≡ length (first_asked oldest t) =
     length-map (first_asked oldest t) (λ range. (range, t.snapshot)) in
     let others_long : length (asked_at t.snapshot (then_asked oldest t first)) ≡ length (then_asked oldest t first) =
@@ -215,28 +215,28 @@ answers_few m oldest t first others told others_told =
     parts_few false false [] = omega arith
     parts_few false false (r ∷ rs) = omega arith
 
-hits_told : TellsHits → (m : Steps) (ws : List Write) (t : Txn) → MapCovers m ws → (ranges : List Range) (bs : List Bool)
+hits_determined : DeterminesHits → (m : Steps) (ws : List Write) (t : Txn) → MapCovers m ws → (ranges : List Range) (bs : List Bool)
     → (0 < length ranges → m.edge ≤ℤ t.snapshot)
     → AreAnswers m (map (λ range. (range, t.snapshot)) ranges) bs → bs ≡ map (is_hit ws t) ranges
-hits_told tells m ws t covers [] [] late answers = refl
-hits_told tells m ws t covers [] (b ∷ bs) late answers = absurd answers
-hits_told tells m ws t covers (range ∷ ranges) [] late answers = absurd answers
-hits_told tells m ws t covers (range ∷ ranges) (b ∷ bs) late answers =
+hits_determined determines m ws t covers [] [] late answers = refl
+hits_determined determines m ws t covers [] (b ∷ bs) late answers = absurd answers
+hits_determined determines m ws t covers (range ∷ ranges) [] late answers = absurd answers
+hits_determined determines m ws t covers (range ∷ ranges) (b ∷ bs) late answers =
     let now = late (omega arith) in
-    ap (λ hit. hit ∷ bs) (exceeds_is_hit tells m ws t range b covers now answers.0)
-    ∙ ap (λ hits. is_hit ws t range ∷ hits) (hits_told tells m ws t covers ranges bs (λ some. now) answers.1)
+    ap (λ hit. hit ∷ bs) (exceeds_is_hit determines m ws t range b covers now answers.0)
+    ∙ ap (λ hits. is_hit ws t range ∷ hits) (hits_determined determines m ws t covers ranges bs (λ some. now) answers.1)
 
 -- the answers of a transaction say what the writes hit, where the step map covers these
-pub hits_from_answers : TellsHits → (m : Steps) (ws : List Write) (oldest : ℤ) (t : Txn) (first others : List Bool)
+pub hits_from_answers : DeterminesHits → (m : Steps) (ws : List Write) (oldest : ℤ) (t : Txn) (first others : List Bool)
     → MapCovers m ws → m.edge ≤ℤ oldest
     → AreAnswers m (asked_at t.snapshot (first_asked oldest t)) first
     → AreAnswers m (asked_at t.snapshot (then_asked oldest t first)) others
     → AreHits oldest ws t (first ++ others)
-hits_from_answers tells m ws oldest t first others covers below told others_told = λ young.
+hits_from_answers determines m ws oldest t first others covers below determined others_determined = λ young.
     let late = late_unless_old oldest m.edge t young below in
     by_settled (first_hits young late) late (is_settled t first) refl
     (subst (λ old. AreAnswers m (asked_at t.snapshot (cond (old || is_settled t first) [] (drop 1 t.reads))) others)
-    young others_told)
+    young others_determined)
   where
     some_reads : (reads : List Range) → 0 < length (take 1 reads) → 0 < length reads
     some_reads [] some = some
@@ -257,9 +257,9 @@ hits_from_answers tells m ws oldest t first others covers below told others_told
 
     first_hits : is_too_old oldest t ≡ false → (0 < length t.reads → m.edge ≤ℤ t.snapshot)
         → first ≡ map (is_hit ws t) (take 1 t.reads)
-    first_hits young late = hits_told tells m ws t covers (take 1 t.reads) first
+    first_hits young late = hits_determined determines m ws t covers (take 1 t.reads) first
         (λ some. late (some_reads t.reads some))
-        (subst (λ old. AreAnswers m (asked_at t.snapshot (cond old [] (take 1 t.reads))) first) young told)
+        (subst (λ old. AreAnswers m (asked_at t.snapshot (cond old [] (take 1 t.reads))) first) young determined)
 
     by_settled : first ≡ map (is_hit ws t) (take 1 t.reads) → (0 < length t.reads → m.edge ≤ℤ t.snapshot)
         → (settled : Bool) → is_settled t first ≡ settled
@@ -276,7 +276,7 @@ hits_from_answers tells m ws oldest t first others covers below told others_told
           λ is. absurd (true≢false (sym settled ∙ sym (ap (is_settled t) alone) ∙ is)),
         )
     by_settled firsts late false settled answers =
-        let then = hits_told tells m ws t covers (drop 1 t.reads) others (λ some. late (some_later t.reads some)) answers in
-        let whole : first ++ others ≡ map (is_hit ws t) t.reads =
+        let then = hits_determined determines m ws t covers (drop 1 t.reads) others (λ some. late (some_later t.reads some)) answers in
+        let entire : first ++ others ≡ map (is_hit ws t) t.reads =
         ap (λ bs. bs ++ others) firsts ∙ ap (λ bs. map (is_hit ws t) (take 1 t.reads) ++ bs) then ∙ both_parts t.reads in
-        (([], append-nil (first ++ others) ∙ whole), λ is. whole)
+        (([], append-nil (first ++ others) ∙ entire), λ is. entire)

@@ -51,30 +51,30 @@ module _ (ranked_as : Range → Range) where
 
   -- tests that agree on each range agree on all
   module _ (test : Range → Bool) where
-    any_alike : (reads : List Range) → All (λ r. test (ranked_as r) ≡ test r) reads
+    any_equal : (reads : List Range) → All (λ r. test (ranked_as r) ≡ test r) reads
         → list_any test (map ranked_as reads) ≡ list_any test reads
-    any_alike [] same = refl
-    any_alike (r ∷ reads) same =
+    any_equal [] same = refl
+    any_equal (r ∷ reads) same =
         ap₂ (λ a b. a || b) (All-head (λ x. test (ranked_as x) ≡ test x) r reads same)
-        (any_alike reads (All-tail (λ x. test (ranked_as x) ≡ test x) r reads same))
+        (any_equal reads (All-tail (λ x. test (ranked_as x) ≡ test x) r reads same))
 
-    places_alike : (i : ℕ) (reads : List Range) → All (λ r. test (ranked_as r) ≡ test r) reads
+    places_equal : (i : ℕ) (reads : List Range) → All (λ r. test (ranked_as r) ≡ test r) reads
         → places_from i test (map ranked_as reads) ≡ places_from i test reads
-    places_alike i [] same = refl
-    places_alike i (r ∷ reads) same =
+    places_equal i [] same = refl
+    places_equal i (r ∷ reads) same =
         ap₂ (λ b places. cond b (i ∷ places) places) (All-head (λ x. test (ranked_as x) ≡ test x) r reads same)
-        (places_alike (i + 1) reads (All-tail (λ x. test (ranked_as x) ≡ test x) r reads same))
+        (places_equal (i + 1) reads (All-tail (λ x. test (ranked_as x) ≡ test x) r reads same))
 
   -- so a transaction is judged the same way
-  in_batch_alike : (written : List Range) (t : Txn) (e : Entry)
+  in_batch_equal : (written : List Range) (t : Txn) (e : Entry)
       → All (λ r. meets_earlier written (ranked_as r) ≡ meets_earlier written r) t.reads
       → in_batch written (ranked_txn t) e ≡ in_batch written t e
-  in_batch_alike written t e same = by e.verdict
+  in_batch_equal written t e same = by e.verdict
     where
       by : (v : Verdict) → by_verdict v written (ranked_txn t) e ≡ by_verdict v written t e
       by Committed =
           ap₂ (λ met places. cond met (in_conflict_at (cond t.marked (take 1 places) [])) e)
-          (any_alike (meets_earlier written) t.reads same) (places_alike (meets_earlier written) 0 t.reads same)
+          (any_equal (meets_earlier written) t.reads same) (places_equal (meets_earlier written) 0 t.reads same)
       by TooOld = refl
       by Conflict = refl
 
@@ -89,8 +89,8 @@ unmet : (a b : Range) → ¬ Meets a b → ranges_meet a b ≡ false
 unmet a b none = by (ranges_meet a b) refl
   where
     by : (v : Bool) → ranges_meet a b ≡ v → v ≡ false
-    by true told = absurd (none (meets_from_test a b told))
-    by false told = refl
+    by true determined = absurd (none (meets_from_test a b determined))
+    by false determined = refl
 
 none_met : (range : Range) (written : List Range) → All (λ w. ¬ Meets range w) written
     → meets_earlier written range ≡ false
@@ -101,35 +101,35 @@ none_met range (w ∷ written) none =
 
 -- what holds of the written ranges of the batch that these are among
 module _ (ranked_as : Range → Range) (all : List Range) where
-  met_alike : (written : List Range) (range : Range) → All (Contains all) written
+  met_equal : (written : List Range) (range : Range) → All (Contains all) written
       → IsRankedAs all range (ranked_as range)
       → meets_earlier written (ranked_as range) ≡ meets_earlier written range
-  met_alike written range among (inl same) = ap (meets_earlier written) same
-  met_alike written range among (inr (empty, none)) =
+  met_equal written range among (inl same) = ap (meets_earlier written) same
+  met_equal written range among (inr (empty, none)) =
       none_met (ranked_as range) written
       (λ k d lt met. ((meets_by_ends (ranked_as range) (get_or written k d)).0 met).0 empty)
       ∙ sym (none_met range written
       (λ k d lt. All-contains (λ w. ¬ Meets range w) all (get_or written k d) none (among k d lt)))
 
-  pub batches_alike : (written : List Range) (txns : List Txn) (entries : List Entry) → All (Contains all) written
+  pub batches_equal : (written : List Range) (txns : List Txn) (entries : List Entry) → All (Contains all) written
       → All (Contains all) (writes_in txns) → All (λ w. ranked_as w ≡ w) (writes_in txns)
       → All (λ r. IsRankedAs all r (ranked_as r)) (ranges_in txns)
       → in_batches written (ranked_txns ranked_as txns) entries ≡ in_batches written txns entries
-  batches_alike written [] entries among writes itself ranked = refl
-  batches_alike written (t ∷ txns) [] among writes itself ranked = refl
-  batches_alike written (t ∷ txns) (e ∷ entries) among writes itself ranked =
+  batches_equal written [] entries among writes itself ranked = refl
+  batches_equal written (t ∷ txns) [] among writes itself ranked = refl
+  batches_equal written (t ∷ txns) (e ∷ entries) among writes itself ranked =
       let d = in_batch written t e in
       let own = all_split (Contains all) t.writes (writes_in txns) writes in
       let stay = all_split (λ w. ranked_as w ≡ w) t.writes (writes_in txns) itself in
       let as_ranked = all_split (λ r. IsRankedAs all r (ranked_as r)) (ranges_of_txn t) (ranges_in txns) ranked in
       let reads = (all_split (λ r. IsRankedAs all r (ranked_as r)) t.reads t.writes as_ranked.0).0 in
-      let same = in_batch_alike ranked_as written t e
-      (λ k i lt. met_alike written (get_or t.reads k i) among (reads k i lt)) in
+      let same = in_batch_equal ranked_as written t e
+      (λ k i lt. met_equal written (get_or t.reads k i) among (reads k i lt)) in
       ap₂ (λ (x : Entry) (ws : List Range).
       x ∷ in_batches (written ++ counted x.verdict ws) (ranked_txns ranked_as txns) entries) same
       (map_itself ranked_as t.writes stay.0)
       ∙ ap (λ rest. d ∷ rest)
-      (batches_alike (written ++ counted d.verdict t.writes) txns entries
+      (batches_equal (written ++ counted d.verdict t.writes) txns entries
       (All-append (Contains all) written (counted d.verdict t.writes) among
       (all_counted (Contains all) d.verdict t.writes own.0))
       own.1 stay.1 as_ranked.1)

@@ -8,7 +8,7 @@ use Rattle.keys.specs.declared.range.Range.{Range}
 use Rattle.stepmap.specs.StepMap.{Steps, lengths}
 use Rattle.stepmap.specs.Boundary.{below, from_on, value_at}
 use Rattle.stepmap.specs.Writing.{closed_at, after_write}
-use Rattle.conflict.specs.declared.union.Span.{Span}
+use Rattle.conflict.specs.declared.union.UnitedSpan.{UnitedSpan}
 use Rattle.conflict.specs.Union.{Spans, AreSpanned}
 
 -- the first i elements, and the next
@@ -25,7 +25,7 @@ map_next f xs i x at =
     ∙ map-append f (take i xs) (x ∷ [])
 
 -- there are as many ranges as spans
-pub spanned_count : (ranges : List Range) (spans : List Span) (united : List Range) → AreSpanned ranges spans united
+pub spanned_count : (ranges : List Range) (spans : List UnitedSpan) (united : List Range) → AreSpanned ranges spans united
     → length united ≡ length spans
 spanned_count ranges [] [] s = refl
 spanned_count ranges [] (u ∷ united) s = absurd s
@@ -33,8 +33,8 @@ spanned_count ranges (x ∷ spans) [] s = absurd s
 spanned_count ranges (x ∷ spans) (u ∷ united) s = ap suc (spanned_count ranges spans united s.1)
 
 -- the range of a span
-pub span_at : (ranges : List Range) (spans : List Span) (united : List Range) → AreSpanned ranges spans united
-    → (i : ℕ) (span : Span) → slice_get spans i ≡ Some span
+pub span_at : (ranges : List Range) (spans : List UnitedSpan) (united : List Range) → AreSpanned ranges spans united
+    → (i : ℕ) (span : UnitedSpan) → slice_get spans i ≡ Some span
     → (range : Range) × (slice_get united i ≡ Some range) × Spans ranges span range
 span_at ranges [] united s i span at = cc
 span_at ranges (x ∷ spans) [] s i span at = absurd s
@@ -43,21 +43,21 @@ span_at ranges (x ∷ spans) (u ∷ united) s zero span at =
 span_at ranges (x ∷ spans) (u ∷ united) s (suc i) span at = span_at ranges spans united s.1 i span at
 
 -- the same by an index within
-pub spanned_at : (ranges : List Range) (spans : List Span) (united : List Range) → AreSpanned ranges spans united
-    → (i : ℕ) (d : Span) → i < length spans
+pub spanned_at : (ranges : List Range) (spans : List UnitedSpan) (united : List Range) → AreSpanned ranges spans united
+    → (i : ℕ) (d : UnitedSpan) → i < length spans
     → (range : Range) × (slice_get united i ≡ Some range) × Spans ranges (get_or spans i d) range
 spanned_at ranges spans united s i d inside =
     span_at ranges spans united s i (get_or spans i d) (slice_get-get_or spans i d inside)
 
 -- the last span and its range, and the others
-pub record LastSpanned (ranges : List Range) (front : List Span) (last : Span) (united : List Range) : Type 0 where
+pub record LastSpanned (ranges : List Range) (front : List UnitedSpan) (last : UnitedSpan) (united : List Range) : Type 0 where
   pub ranges_front : List Range
   pub range : Range
   pub is : united ≡ ranges_front ++ range ∷ []
   pub spanned : AreSpanned ranges front ranges_front
   pub spans : Spans ranges last range
 
-pub last_spanned : (ranges : List Range) (front : List Span) (last : Span) (united : List Range)
+pub last_spanned : (ranges : List Range) (front : List UnitedSpan) (last : UnitedSpan) (united : List Range)
     → AreSpanned ranges (front ++ last ∷ []) united → LastSpanned ranges front last united
 last_spanned ranges [] last [] s = absurd s
 last_spanned ranges [] last (u ∷ []) s =
@@ -75,7 +75,7 @@ last_spanned ranges (x ∷ front) last (u ∷ united) s =
     }
 
 -- one more
-pub spanned_push : (ranges : List Range) (spans : List Span) (united : List Range) (span : Span) (range : Range)
+pub spanned_push : (ranges : List Range) (spans : List UnitedSpan) (united : List Range) (span : UnitedSpan) (range : Range)
     → AreSpanned ranges spans united → Spans ranges span range
     → AreSpanned ranges (spans ++ span ∷ []) (united ++ range ∷ [])
 spanned_push ranges [] [] span range s one = (one, tt)
@@ -85,7 +85,7 @@ spanned_push ranges (x ∷ spans) (u ∷ united) span range s one =
     (s.0, spanned_push ranges spans united span range s.1 one)
 
 -- two ranges that a span names have the same keys
-module _ {ranges : List Range} {span : Span} {a b : Range} (sa : Spans ranges span a) (sb : Spans ranges span b) where
+module _ {ranges : List Range} {span : UnitedSpan} {a b : Range} (sa : Spans ranges span a) (sb : Spans ranges span b) where
   some_same : {X : Type 0} (o : Option X) (x y : X) → o ≡ Some x → o ≡ Some y → x ≡ y
   some_same o x y ex ey = cc
 

@@ -7,10 +7,10 @@ use Rattle.conflict.specs.declared.when_full.WhenFull.TheVariants.{Stop, Refuse}
 use Rattle.conflict.specs.ConflictSet.{stop_after}
 
 -- a refused batch is no reason
-pub refused_goes_on : (w : WhenFull) (s : SetStop) → w ≡ Refuse → s ≡ ArenaFull → stop_after w s ≡ None
-refused_goes_on Refuse ArenaFull w s = refl
-refused_goes_on Refuse Memory w s = absurd (cc)
-refused_goes_on Stop s w e = absurd (cc)
+pub refused_continues : (w : WhenFull) (s : SetStop) → w ≡ Refuse → s ≡ ArenaFull → stop_after w s ≡ None
+refused_continues Refuse ArenaFull w s = refl
+refused_continues Refuse Memory w s = absurd (cc)
+refused_continues Stop s w e = absurd (cc)
 
 -- memory always is
 pub memory_stops : (w : WhenFull) (s : SetStop) → s ≡ Memory → stop_after w s ≡ Some Memory

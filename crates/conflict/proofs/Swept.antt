@@ -32,13 +32,13 @@ module _ (edge : ℤ) (before mid now : Steps) (ws : List Write) (ranges : List 
       → (r ≡ end.Stopped → rest now + (3 * n + 10) ≡ rest mid)
       → IsSwept edge before now ws ranges
   swept_on same (inl ends) stay r round front fewer = inl (stay ends)
-  swept_on same (inr goes_on) stay end.Round round front fewer =
+  swept_on same (inr continues) stay end.Round round front fewer =
       round_ended before.round refl
-      (subst (λ o. Ends now.boundaries ws (round_edge edge o)) goes_on.0
+      (subst (λ o. Ends now.boundaries ws (round_edge edge o)) continues.0
       (subst (λ e. Ends now.boundaries ws (round_edge e mid.round)) same (round refl)))
       (front refl)
-  swept_on same (inr goes_on) stay end.Stopped round front fewer =
-      inr (inr (united.0, united.1, omega (arith, fewer refl, goes_on.1, united.2)))
+  swept_on same (inr continues) stay end.Stopped round front fewer =
+      inr (inr (united.0, united.1, omega (arith, fewer refl, continues.1, united.2)))
 
 -- raising the edge leaves the round as it is
 pub since_raised : (old raised mid : Steps) (edge : ℤ) (ws : List Write) (n : ℕ) → raised.edge ≡ edge
@@ -47,5 +47,5 @@ pub since_raised : (old raised mid : Steps) (edge : ℤ) (ws : List Write) (n : 
     → Ends mid.boundaries ws edge ⊎ ((mid.round ≡ old.round) × (rest mid ≤ rest old + 2 * n))
 since_raised old raised mid edge ws n same round left (inl ends) =
     inl (subst (λ e. Ends mid.boundaries ws e) same ends)
-since_raised old raised mid edge ws n same round left (inr goes_on) =
-    inr (goes_on.0 ∙ round, omega (arith, goes_on.1, left))
+since_raised old raised mid edge ws n same round left (inr continues) =
+    inr (continues.0 ∙ round, omega (arith, continues.1, left))

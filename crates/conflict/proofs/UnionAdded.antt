@@ -7,7 +7,7 @@ use Rattle.std.proofs.lemmas.List.Elements.{All-contains, All-head, All-nil, All
 use Rattle.std.proofs.lemmas.List.Quantifiers.{Any-push}
 use Rattle.keys.specs.Key.{IsBefore, IsAtMost}
 use Rattle.keys.specs.Range.{Holds, IsEmpty, is_filled}
-use Rattle.keys.specs.Ranks.{IsBeginIn}
+use Rattle.keys.specs.GapRuns.{IsBeginIn}
 use Rattle.keys.specs.declared.range.Range.{Range}
 use Rattle.keys.proofs.callers.KeyOrder.{at_most_itself, before_at_most, before_at_most_same, before_or_at_most, at_most_trans, not_both}
 use Rattle.keys.proofs.callers.Meeting.{before_unless_empty}
@@ -15,7 +15,7 @@ use Rattle.keys.proofs.callers.SomeElement.{Any-longer, Any-push_cases}
 use Rattle.stepmap.specs.Writing.{AreApart}
 use Rattle.stepmap.specs.Counting.{filled_count}
 use Rattle.stepmap.specs.Uniting.{IsEndIn, Unites}
-use Rattle.conflict.specs.declared.union.Span.{Span}
+use Rattle.conflict.specs.declared.union.UnitedSpan.{UnitedSpan}
 use Rattle.conflict.specs.Union.{AreSpanned, AreUnited, Spans}
 use Rattle.conflict.proofs.Parts.{all_split}
 use Rattle.conflict.proofs.Spanned.{LastSpanned, last_spanned, spanned_push}
@@ -23,10 +23,10 @@ use Rattle.conflict.proofs.Spanned.{LastSpanned, last_spanned, spanned_push}
 -- one more range behind the last
 apart_push : (us : List Range) (last range : Range) → AreApart (us ++ last ∷ []) → IsBefore last.end range.begin
     → IsBefore range.begin range.end → AreApart ((us ++ last ∷ []) ++ range ∷ [])
-apart_push [] last range apart behind filled = (apart, behind, filled)
-apart_push (u ∷ []) last range apart behind filled = (apart.0, apart.1, (apart.2, behind, filled))
-apart_push (u ∷ v ∷ us) last range apart behind filled =
-    (apart.0, apart.1, apart_push (v ∷ us) last range apart.2 behind filled)
+apart_push [] last range apart following filled = (apart, following, filled)
+apart_push (u ∷ []) last range apart following filled = (apart.0, apart.1, (apart.2, following, filled))
+apart_push (u ∷ v ∷ us) last range apart following filled =
+    (apart.0, apart.1, apart_push (v ∷ us) last range apart.2 following filled)
 
 -- the last one may end later
 apart_wider : (us : List Range) (last wider : Range) → last.begin ≡ wider.begin → IsAtMost last.end wider.end
@@ -111,9 +111,9 @@ wider_holds : {last range wider : Range} → Widens last range wider → (key : 
 wider_holds {last} {range} {wider} w key = (
   λ held. elim (before_or_at_most key last.end) [
     | inl before ↦ inl (subst (λ k. IsAtMost k key) (sym w.begins) held.0, before)
-    | inr behind ↦ elim w.one_of [
-      | inl same ↦ absurd (not_both key last.end (subst (IsBefore key) same held.1) behind)
-      | inr same ↦ inr (at_most_trans range.begin last.end key w.near behind, subst (IsBefore key) same held.1)
+    | inr following ↦ elim w.one_of [
+      | inl same ↦ absurd (not_both key last.end (subst (IsBefore key) same held.1) following)
+      | inr same ↦ inr (at_most_trans range.begin last.end key w.near following, subst (IsBefore key) same held.1)
     ]
   ],
   λ either. elim either [
@@ -192,7 +192,7 @@ united_none ranges = record {
 -- the spans after the range at the index was added
 module _ (ranges : List Range) (index : ℕ) (range : Range) (at : slice_get ranges index ≡ Some range)
     (some : ¬ IsEmpty range) (added : List Range) where
-  abbrev alone : Span
+  abbrev alone : UnitedSpan
   alone = record { begin = index; end = index }
 
   spans_alone : Spans ranges alone range
@@ -218,7 +218,7 @@ module _ (ranges : List Range) (index : ℕ) (range : Range) (at : slice_get ran
       no_ranges [] s = refl
       no_ranges (u ∷ us) s = absurd s
 
-  module _ (front : List Span) (last : Span) (ending : Range) (ends_at : slice_get ranges last.end ≡ Some ending)
+  module _ (front : List UnitedSpan) (last : UnitedSpan) (ending : Range) (ends_at : slice_get ranges last.end ≡ Some ending)
       (were : AreUnited ranges (front ++ last ∷ []) added) where
     spanned : LastSpanned ranges front last were.united
     spanned = last_spanned ranges front last were.united were.spanned
@@ -243,12 +243,12 @@ module _ (ranges : List Range) (index : ℕ) (range : Range) (at : slice_get ran
         (parts.0, All-head (λ u. IsBeginIn added u.begin) spanned.range [] parts.1)
 
     -- as one more
-    pub united_behind : IsBefore ending.end range.begin
+    pub united_after : IsBefore ending.end range.begin
         → AreUnited ranges ((front ++ last ∷ []) ++ alone ∷ []) (added ++ range ∷ [])
-    united_behind behind =
+    united_after following =
         let us = spanned.ranges_front ++ spanned.range ∷ [] in
         let apart = apart_push spanned.ranges_front spanned.range range unites.apart
-        (subst (λ key. IsBefore key range.begin) same_end behind) filled in
+        (subst (λ key. IsBefore key range.begin) same_end following) filled in
         record {
           united = us ++ range ∷ [];
           spanned = spanned_push ranges (front ++ last ∷ []) us alone range
@@ -266,7 +266,7 @@ module _ (ranges : List Range) (index : ℕ) (range : Range) (at : slice_get ran
           subst (λ key. IsAtMost key range.begin) there.4.1
           (All-contains (λ e. IsAtMost e.begin range.begin) added there.1 earlier (there.0, there.2, there.3))
 
-      widened : (wider : Range) (span : Span) → Widens spanned.range range wider → Spans ranges span wider
+      widened : (wider : Range) (span : UnitedSpan) → Widens spanned.range range wider → Spans ranges span wider
           → AreUnited ranges (front ++ span ∷ []) (added ++ range ∷ [])
       widened wider span w spans = record {
         united = spanned.ranges_front ++ wider ∷ [];

@@ -9,7 +9,7 @@ use Rattle.std.proofs.lemmas.List.Sorted.{Contains-permutation, IsPermutation-sy
 use Rattle.std.proofs.lemmas.List.Sums.{sum_by-append, sum_by-cons}
 use Rattle.keys.specs.Key.{IsAtMost}
 use Rattle.keys.specs.Range.{Holds, IsEmpty, is_filled}
-use Rattle.keys.specs.Ranks.{BeginsFirst, filled_from}
+use Rattle.keys.specs.GapRuns.{BeginsFirst, filled_from}
 use Rattle.keys.specs.declared.range.Range.{Range}
 use Rattle.keys.proofs.callers.KeyOrder.{not_both}
 use Rattle.keys.proofs.callers.Meeting.{before_unless_empty}
@@ -199,7 +199,7 @@ count_filter (r ∷ rs) =
     by false empty rest = omega (arith, rest)
 
 -- ranges of which as many aren't empty, and which have the same properties
-record AreAlike (rs qs : List Range) : Type 1 where
+record HaveSameHeads (rs qs : List Range) : Type 1 where
   there : (P : Range → Type 0) → ((r : Range) → P r → ¬ IsEmpty r) → Any P rs → Any P qs
   back : (P : Range → Type 0) → ((r : Range) → P r → ¬ IsEmpty r) → Any P qs → Any P rs
   count : filled_count rs ≡ filled_count qs
@@ -208,19 +208,19 @@ holds_some : (key : List ℕ) (r : Range) → Holds r key → ¬ IsEmpty r
 holds_some key r held empty = not_both key r.end held.1 (subst (λ k. IsAtMost k key) empty held.0)
 
 -- what unites the ones unites the others
-unites_alike : (us rs qs : List Range) → AreAlike rs qs → Unites us rs → Unites us qs
-unites_alike us rs qs alike was =
+unites_equal : (us rs qs : List Range) → HaveSameHeads rs qs → Unites us rs → Unites us qs
+unites_equal us rs qs equal was =
     let end : (key : List ℕ) → IsEndIn rs key → IsEndIn qs key =
-    λ key there. alike.there (λ r. ¬ IsEmpty r × ((r.begin ≡ key) ⊎ (r.end ≡ key))) (λ r e. e.0) there in
+    λ key there. equal.there (λ r. ¬ IsEmpty r × ((r.begin ≡ key) ⊎ (r.end ≡ key))) (λ r e. e.0) there in
     record {
       apart = was.apart;
       holds = λ key bytes. (
-        λ held. alike.there (λ r. Holds r key) (holds_some key) ((was.holds key bytes).0 held),
-        λ held. (was.holds key bytes).1 (alike.back (λ r. Holds r key) (holds_some key) held),
+        λ held. equal.there (λ r. Holds r key) (holds_some key) ((was.holds key bytes).0 held),
+        λ held. (was.holds key bytes).1 (equal.back (λ r. Holds r key) (holds_some key) held),
       );
       ends = All-weaker (λ u. IsEndIn rs u.begin × IsEndIn rs u.end) (λ u. IsEndIn qs u.begin × IsEndIn qs u.end)
           (λ u e. (end u.begin e.0, end u.end e.1)) us was.ends;
-      few = omega (arith, was.few, alike.count);
+      few = omega (arith, was.few, equal.count);
     }
 
 -- what gives nothing may be left out
@@ -255,7 +255,7 @@ unites_picked marks ranges order us are =
     left_out f are.chosen (unchosen marks ranges order are) (filled_from 0 ranges)
     ∙ listed_filled f 0 marks ranges (λ k. let none : 0 + k ≡ k = omega arith in ap f none) in
     let back = IsPermutation-sym filled order moved in
-    unites_alike us (listed marks ranges order) (picked marks ranges) (record {
+    unites_equal us (listed marks ranges order) (picked marks ranges) (record {
       there = λ P some a. any_filtered P (picked marks ranges) (subst (Any P) all
           (any_from f P filled (any_moved (λ i. Any P (f i)) order filled back (any_in f P order a))));
       back = λ P some a. any_from f P order (any_moved (λ i. Any P (f i)) filled order moved

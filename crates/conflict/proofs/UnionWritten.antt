@@ -11,7 +11,7 @@ use Rattle.stepmap.specs.Writing.{AreApart}
 use Rattle.stepmap.specs.Uniting.{Unites}
 use Rattle.stepmap.specs.Counting.{live_count}
 use Rattle.stepmap.specs.Laws.{ApartWriteInTurn, CountedAlong, IsWriting, IsWritten}
-use Rattle.conflict.specs.declared.union.Span.{Span}
+use Rattle.conflict.specs.declared.union.UnitedSpan.{UnitedSpan}
 use Rattle.conflict.specs.Union.{AreSpanned}
 use Rattle.stepmap.specs.declared.error.StepError.{StepError}
 use Rattle.stepmap.specs.declared.error.StepError.TheVariants as step
@@ -41,7 +41,7 @@ apart_same (u ∷ t ∷ us) (v ∷ w ∷ vs) same apart = (
 )
 
 -- those that the same spans name are alike
-spanned_same : (ranges : List Range) (spans : List Span) (us vs : List Range) → AreSpanned ranges spans us
+spanned_same : (ranges : List Range) (spans : List UnitedSpan) (us vs : List Range) → AreSpanned ranges spans us
     → AreSpanned ranges spans vs → AllZip SameKeys us vs
 spanned_same ranges [] [] [] su sv = tt
 spanned_same ranges [] [] (b ∷ vs) su sv = absurd sv
@@ -54,10 +54,10 @@ spanned_same ranges (x ∷ spans) (a ∷ us) (b ∷ vs) su sv = (
 )
 
 -- the spans are those of ranges that unite the ones written
-abbrev pub IsUnion : List Range → List Span → List Range → Type 0
+abbrev pub IsUnion : List Range → List UnitedSpan → List Range → Type 0
 IsUnion ranges spans written = (united : List Range) × AreSpanned ranges spans united × Unites united written
 
-module _ (ranges : List Range) (spans : List Span) (written : List Range) (one : IsUnion ranges spans written) where
+module _ (ranges : List Range) (spans : List UnitedSpan) (written : List Range) (one : IsUnion ranges spans written) where
   count : length one.0 ≡ length spans
   count = spanned_count ranges spans one.0 one.1
 
@@ -70,7 +70,7 @@ module _ (ranges : List Range) (spans : List Span) (written : List Range) (one :
       → ((united : List Range) → AreSpanned ranges spans united → IsWriting united version (length united) before now)
       → IsWritten written version before now
   all_written turns version before now wrote =
-      (turns one.0 version one.2.apart).whole written before now (wrote one.0 one.1) one.2
+      (turns one.0 version one.2.apart).entire written before now (wrote one.0 one.1) one.2
 
   -- more boundaries than the limit for the spans are more for the ranges
   pub over_limit : CountedAlong → (limit : ℕ) (edge version : ℤ) (ws : List Write) → edge ≤ℤ version

@@ -30,43 +30,43 @@ use Rattle.std.proofs.lemmas.List.Quantifiers.{Any-push}
 use Rattle.keys.specs.declared.range.Range.{Range}
 use Rattle.keyspace.specs.Judge.{meets_earlier}
 use Rattle.keys.proofs.callers.SomeElement.{Any-longer, Any-push_cases}
-use Rattle.keys.specs.Ranks.{HaveBegin, run, run_or_none}
+use Rattle.keys.specs.GapRuns.{HaveBegin, run, run_or_none}
 use Rattle.keys.specs.Gaps.{HasGap}
 use Rattle.conflict.specs.Gaps.{IsInRun, IsMarked, SomeMarked}
-use Rattle.conflict.specs.Written.{AreWrittenGaps, RunsTellOverlap, TellRuns}
-use Rattle.conflict.proofs.Told.{same_gaps, told_at}
+use Rattle.conflict.specs.Written.{AreWrittenGaps, RunsDetermineOverlap, AreRunsOf}
+use Rattle.conflict.proofs.RunsOfRanges.{same_gaps, determined_at}
 
 module _ (keys : List (List ℕ)) where
   -- no more is written by no ranges
   pub no_more_written : (marks : List Bool) (written more : List Range) → more ≡ []
       → AreWrittenGaps keys marks written → AreWrittenGaps keys marks (written ++ more)
-  no_more_written marks written more none told =
-      subst (AreWrittenGaps keys marks) (sym (append-nil written) ∙ ap (λ rs. written ++ rs) (sym none)) told
+  no_more_written marks written more none determined =
+      subst (AreWrittenGaps keys marks) (sym (append-nil written) ∙ ap (λ rs. written ++ rs) (sym none)) determined
 
   -- the run of one more range is marked
   one_more_written : (old new : List Bool) (written : List Range) (range : Range)
       → ((gap : ℕ) → IsMarked new gap ↔ (IsMarked old gap ⊎ HasGap (run keys range) gap))
       → AreWrittenGaps keys old written → AreWrittenGaps keys new (written ++ range ∷ [])
-  one_more_written old new written range marked told gap =
+  one_more_written old new written range marked determined gap =
       let P : Range → Type 0 = λ w. HasGap (run keys w) gap in (
         λ m. elim ((marked gap).0 m) [
-          | inl before ↦ Any-longer P written range ((told gap).0 before)
+          | inl before ↦ Any-longer P written range ((determined gap).0 before)
           | inr here ↦ Any-push P written range here
         ],
         λ a. (marked gap).1 (elim (Any-push_cases P written range a) [
-          | inl before ↦ inl ((told gap).1 before)
+          | inl before ↦ inl ((determined gap).1 before)
           | inr here ↦ inr here
         ]),
       )
 
   -- the run at the next index is marked
   pub next_written : (old new : List Bool) (written ranges : List Range) (runs : List (ℕ × ℕ)) (i : ℕ) (r d : ℕ × ℕ)
-      → i < length runs → r ≡ get_or runs i d → TellRuns keys runs ranges
+      → i < length runs → r ≡ get_or runs i d → AreRunsOf keys runs ranges
       → ((gap : ℕ) → IsMarked new gap ↔ (IsMarked old gap ⊎ IsInRun r.0 r.1 gap))
       → AreWrittenGaps keys old (written ++ take i ranges)
       → AreWrittenGaps keys new (written ++ take (i + 1) ranges)
-  next_written old new written ranges runs i r d inside is tell marked told =
-      let at = told_at keys runs ranges i r d inside is tell in
+  next_written old new written ranges runs i r d inside is determine marked determined =
+      let at = determined_at keys runs ranges i r d inside is determine in
       let range = at.0 in
       let same : (gap : ℕ) → HasGap r gap ↔ HasGap (run keys range) gap =
       subst (λ (s : ℕ × ℕ). (gap : ℕ) → HasGap s gap ↔ HasGap (run keys range) gap) (sym at.3)
@@ -81,16 +81,16 @@ module _ (keys : List (List ℕ)) where
       ∙ ap (λ rs. written ++ rs)
       (ap (λ w. take i ranges ++ w ∷ []) at.2 ∙ sym (take_more ranges i range at.1)) in
       subst (AreWrittenGaps keys new) longer
-      (one_more_written old new (written ++ take i ranges) range more told)
+      (one_more_written old new (written ++ take i ranges) range more determined)
 
   -- whether a gap in a range's run is marked tells whether it overlaps a written range
-  pub any_marked_is_met : RunsTellOverlap → (marks : List Bool) (written : List Range) (range : Range) (b : Bool)
+  pub any_marked_is_met : RunsDetermineOverlap → (marks : List Bool) (written : List Range) (range : Range) (b : Bool)
       → HaveBegin keys range
       → IsTrue b ↔ SomeMarked marks (run_or_none keys range).0 (run_or_none keys range).1
       → AreWrittenGaps keys marks written → All (HaveBegin keys) written → b ≡ meets_earlier written range
-  any_marked_is_met tells marks written range b own says told have =
+  any_marked_is_met determines marks written range b own says determined have =
       let same = same_gaps keys range in
       same_from_decides b (meets_earlier written range) (
-        λ t. let m = says.0 t in (m.0, (same m.0).0 m.1, (told m.0).0 m.2),
-        λ g. says.1 (g.0, (same g.0).1 g.1, (told g.0).1 g.2),
-      ) (tells keys range written own have)
+        λ t. let m = says.0 t in (m.0, (same m.0).0 m.1, (determined m.0).0 m.2),
+        λ g. says.1 (g.0, (same g.0).1 g.1, (determined g.0).1 g.2),
+      ) (determines keys range written own have)

@@ -6,7 +6,7 @@ use Rattle.keyspace.specs.declared.txn.Txn.{Txn}
 use Rattle.keyspace.specs.BatchRanges.{ranges_in}
 use Rattle.keyspace.specs.Writes.{Write}
 use Rattle.keyspace.specs.Judge.{is_hit, is_too_old}
-use Rattle.conflict.specs.declared.asking.Part.{Part}
+use Rattle.conflict.specs.declared.asking.AnswerCounts.{AnswerCounts}
 use Rattle.conflict.specs.declared.read_name.ReadName.{ReadName}
 use Rattle.stepmap.specs.StepMap.{Steps}
 use Rattle.stepmap.specs.Covers.{IsAbove}
@@ -53,7 +53,7 @@ all_then oldest (t ∷ txns) hits =
     ++ all_then oldest txns (drop (length (first_asked oldest t)) hits)
 
 -- how many of the answers are those of each transaction: of those to what was asked first, and of the others
-abbrev pub all_parts : ℤ → List Txn → List Bool → List Part
+abbrev pub all_parts : ℤ → List Txn → List Bool → List AnswerCounts
 all_parts oldest [] hits = []
 all_parts oldest (t ∷ txns) hits =
     record {

@@ -2,11 +2,11 @@
 use Rattle.std.specs.Prelude.{◌≡◌, ◌⊎◌, ℕ, Bool, true, false, List, map, All, Some, slice_get, slice_index_or}
 use Rattle.std.specs.List.{AllZip}
 use Rattle.keys.specs.Range.{IsEmpty}
-use Rattle.keys.specs.Ranks.{runs_of, AreChosenInOrder, IsBeginIn}
+use Rattle.keys.specs.GapRuns.{runs_of, AreChosenInOrder, IsBeginIn}
 pub use Rattle.keys.specs.Singles.{picked}
 use Rattle.keys.specs.declared.range.Range.{Range}
 use Rattle.stepmap.specs.Uniting.{Unites}
-use Rattle.conflict.specs.declared.union.Span.{Span}
+use Rattle.conflict.specs.declared.union.UnitedSpan.{UnitedSpan}
 
 -- The indices are, in the order of the begins, those of ranges that aren't empty: of all that are marked as written, at least.
 pub record HaveWrittenInOrder (ranges : List Range) (written : List Bool) (order : List ℕ) : Type 0 where
@@ -30,16 +30,16 @@ abbrev pub EndsAt : List Range → ℕ → List ℕ → Type 0
 EndsAt ranges index key = (range : Range) × (slice_get ranges index ≡ Some range) × (range.end ≡ key)
 
 -- the range begins with the one range that the span names, and ends with the other
-pub record Spans (ranges : List Range) (span : Span) (range : Range) : Type 0 where
+pub record Spans (ranges : List Range) (span : UnitedSpan) (range : Range) : Type 0 where
   pub begins : BeginsAt ranges span.begin range.begin
   pub ends : EndsAt ranges span.end range.end
 
 -- there are as many united ranges as spans, and each span is that of the range at its place
-abbrev pub AreSpanned : List Range → List Span → List Range → Type 0
+abbrev pub AreSpanned : List Range → List UnitedSpan → List Range → Type 0
 AreSpanned ranges spans united = AllZip (Spans ranges) spans united
 
 -- the spans are those of ranges that unite the ones that were added, and each begins where some of these does
-pub record AreUnited (ranges : List Range) (spans : List Span) (added : List Range) : Type 0 where
+pub record AreUnited (ranges : List Range) (spans : List UnitedSpan) (added : List Range) : Type 0 where
   pub united : List Range
   pub spanned : AreSpanned ranges spans united
   pub unites : Unites united added

@@ -1,7 +1,7 @@
 -- The gaps that written ranges cover, and what they say about reads. This project's own.
 use Rattle.std.specs.Prelude.{◌≡◌, ℕ, ◌≤◌, ◌↔◌, Bool, List, All, Any, IsTrue}
 use Rattle.keys.specs.declared.range.Range.{Range}
-use Rattle.keys.specs.Ranks.{HaveBegin, run, runs_of}
+use Rattle.keys.specs.GapRuns.{HaveBegin, run, runs_of}
 use Rattle.keys.specs.Gaps.{HasGap}
 use Rattle.keyspace.specs.Judge.{meets_earlier}
 use Rattle.conflict.specs.Gaps.{IsMarked}
@@ -16,14 +16,14 @@ abbrev pub AreRunsWithin : ℕ → List (ℕ × ℕ) → Type 0
 AreRunsWithin count runs = All (λ run. (run.0 ≤ run.1) × (run.1 ≤ count)) runs
 
 -- the keys have the begins of the ranges, and the runs are those of the ranges among the keys
-pub record TellRuns (keys : List (List ℕ)) (runs : List (ℕ × ℕ)) (ranges : List Range) : Type 0 where
+pub record AreRunsOf (keys : List (List ℕ)) (runs : List (ℕ × ℕ)) (ranges : List Range) : Type 0 where
   pub have_begins : All (HaveBegin keys) ranges
   pub are_runs : runs ≡ runs_of keys ranges
 
 -- among the keys that have their begins, a range overlaps one of a list exactly if the run of one of these has a gap of
 -- its run
-abbrev pub RunsTellOverlap : Type 0
-RunsTellOverlap =
+abbrev pub RunsDetermineOverlap : Type 0
+RunsDetermineOverlap =
     (keys : List (List ℕ)) (a : Range) (ranges : List Range) → HaveBegin keys a →
     All (HaveBegin keys) ranges →
     IsTrue (meets_earlier ranges a) ↔ ((gap : ℕ) × HasGap (run keys a) gap

@@ -16,7 +16,7 @@ use stepmap::StepMap;
 
 /// How many of the answers are those of a transaction.
 #[derive(Clone, Copy, Debug)]
-pub struct Part {
+pub struct AnswerCounts {
     /// Of those to what is asked first.
     pub first: usize,
     /// Of those to what is asked then.
@@ -33,7 +33,7 @@ pub struct Asking {
     /// The answers to what is asked then, in order.
     pub others: Vec<bool>,
     /// For each transaction, in order, how many of the answers are its own.
-    pub parts: Vec<Part>,
+    pub parts: Vec<AnswerCounts>,
 }
 
 impl Asking {
@@ -86,7 +86,7 @@ fn list_first(asked: &mut Vec<ReadName>, oldest: i64, batch: &Batch) -> Result<(
 // first, and how many of the answers are those of each.
 fn list_others(
     asked: &mut Vec<ReadName>,
-    parts: &mut Vec<Part>,
+    parts: &mut Vec<AnswerCounts>,
     oldest: i64,
     batch: &Batch,
     answers: &[bool],
@@ -106,7 +106,7 @@ fn list_others(
         let from = others_from(&txn, oldest, own);
         let count = txn.reads.len();
         push_reads(asked, &batch.txns, index as u16, from, count)?;
-        parts.push(Part {
+        parts.push(AnswerCounts {
             first,
             others: count - from,
         })?;

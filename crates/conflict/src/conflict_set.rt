@@ -5,7 +5,8 @@ ghost use Rattle.std.specs.Prelude.{None, Err, IfOk, IfErr};
 ghost use Rattle.std.specs.Int.{int_max};
 ghost use Rattle.keyspace.specs.Judged.{edge};
 ghost use Rattle.stepmap.specs.declared.step_map.TheConstants.{MAX_LIMIT};
-ghost use Rattle.conflict.specs.ConflictSet.{new_set, Remembers};
+ghost use Rattle.stepmap.specs.StepMap.{AreSteps};
+ghost use Rattle.conflict.specs.ConflictSet.{IsSet, new_set, Remembers};
 ghost use Rattle.conflict.specs.Unknown.{unknown_until};
 
 mod one_batch;
@@ -95,7 +96,7 @@ impl ConflictSet {
         ensures edge { IfOk result (λ set. set.map.edge ≡ int_max (version -ℤ window) (pos 0)) }
         ensures window { IfOk result (λ set. set.window ≡ window) }
         ensures limit { IfOk result (λ set. set.map.limit ≡ limit) }
-        ensures goes_on { IfOk result (λ set. set.stop ≡ None) }
+        ensures continues { IfOk result (λ set. set.stop ≡ None) }
         ensures empty { version ≡ negsuc 0 → IfOk result (λ set. set ≡ new_set window limit) }
         ensures full { (result ≡ Err SetStop.ArenaFull) ↔ (pos 0 ≤ℤ version) × (limit < 3) }
     {
@@ -136,6 +137,8 @@ impl ConflictSet {
     pub fn boundaries(&self) -> usize
         ensures count { result ≡ length self.now.map.boundaries }
         ensures within { result ≤ self.now.map.limit }
+        ensures steps { AreSteps self.now.map }
+        ensures set { IsSet self.now }
     {
         self.map.boundaries()
     }

@@ -5,7 +5,7 @@ ghost use Rattle.std.specs.Prelude.{◌≡◌, ◌<◌, ◌∷◌, ◌++◌, ℕ
 ghost use Rattle.std.specs.Prelude.{if◌then◌else◌};
 ghost use Rattle.std.specs.Prelude.{All, IfOk, IfSome, OnOk};
 ghost use Rattle.keys.specs.declared.range.Range.{Range};
-ghost use Rattle.keys.specs.Ranks.{HaveBegin};
+ghost use Rattle.keys.specs.GapRuns.{HaveBegin};
 ghost use Rattle.keys.specs.Singles.{AreRankedFor};
 ghost use Rattle.keyspace.specs.declared.reply.Verdict.TheVariants.{Committed};
 ghost use Rattle.keyspace.specs.Writes.{counted};
@@ -13,7 +13,7 @@ ghost use Rattle.keyspace.specs.Judge.{meets_earlier};
 ghost use Rattle.keyspace.specs.declared.txn.Txn.{Txn};
 ghost use Rattle.keyspace.specs.BatchRanges.{ranges_in, writes_in};
 ghost use Rattle.conflict.specs.Gaps.{IsMarked};
-ghost use Rattle.conflict.specs.Written.{AreWrittenGaps, AreRunsWithin, TellRuns};
+ghost use Rattle.conflict.specs.Written.{AreWrittenGaps, AreRunsWithin, AreRunsOf};
 ghost use Rattle.conflict.specs.InBatch.{in_batch, in_batches, IsShapedAs};
 
 use crate::gaps::Gaps;
@@ -65,12 +65,12 @@ fn judge_open(
     requires count { length runs.now ≡ length (txn.now.reads ++ txn.now.writes) }
     requires within { AreRunsWithin (length gaps.old) runs.now }
     ensures judged { OnOk result ((keys : List (List ℕ)) (written : List Range) (ranked : Txn)
-        → IsShapedAs txn.now ranked → TellRuns keys runs.now (ranked.reads ++ ranked.writes)
+        → IsShapedAs txn.now ranked → AreRunsOf keys runs.now (ranked.reads ++ ranked.writes)
         → AreWrittenGaps keys gaps.old written → All (HaveBegin keys) written
         → entry.new ≡ in_batch written ranked entry.old) }
     ensures count { length gaps.new ≡ length gaps.old }
     ensures marked { OnOk result ((keys : List (List ℕ)) (written : List Range) (ranked : Txn)
-        → IsShapedAs txn.now ranked → TellRuns keys runs.now (ranked.reads ++ ranked.writes)
+        → IsShapedAs txn.now ranked → AreRunsOf keys runs.now (ranked.reads ++ ranked.writes)
         → AreWrittenGaps keys gaps.old written → All (HaveBegin keys) written
         → AreWrittenGaps keys gaps.new (written ++ counted entry.new.verdict ranked.writes)) }
 {
@@ -87,7 +87,7 @@ fn judge_open(
 fn first_met(gaps: &Gaps, runs: &[(u32, u32)]) -> Option<usize>
     requires within { AreRunsWithin (length gaps.now) runs.now }
     ensures first { (keys : List (List ℕ)) (written ranges : List Range)
-        → TellRuns keys runs.now ranges
+        → AreRunsOf keys runs.now ranges
         → AreWrittenGaps keys gaps.now written → All (HaveBegin keys) written
         → result ≡ position (meets_earlier written) ranges }
     ensures within { IfSome result (λ place. place < length runs.now) }
@@ -114,7 +114,7 @@ fn mark(gaps: &mut Gaps, runs: &[(u32, u32)])
     requires within { AreRunsWithin (length gaps.old) runs.now }
     ensures count { length gaps.new ≡ length gaps.old }
     ensures marked { (keys : List (List ℕ)) (written ranges : List Range)
-        → TellRuns keys runs.now ranges
+        → AreRunsOf keys runs.now ranges
         → AreWrittenGaps keys gaps.old written → AreWrittenGaps keys gaps.new (written ++ ranges) }
 {
     for (from, to) in runs {

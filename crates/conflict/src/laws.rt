@@ -1,13 +1,13 @@
 //! Laws of runs and of the scan, each the contract of a function that does nothing.
 
-ghost use Rattle.conflict.specs.Written.{RunsTellOverlap};
+ghost use Rattle.conflict.specs.Written.{RunsDetermineOverlap};
 ghost use Rattle.conflict.specs.InBatch.{HistoryFirst};
 ghost use Rattle.conflict.specs.Unknown.{HitsCovered, CommitsCovered, HitsBelow, HitsFromOn};
 
 /// A range overlaps one of a list exactly if the run of one of these has a gap of its run, where
 /// the keys have the begins of those ranges that aren't empty.
 pub fn runs()
-    ensures overlap { RunsTellOverlap }
+    ensures overlap { RunsDetermineOverlap }
 {
     keys::laws::runs();
 }

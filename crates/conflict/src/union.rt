@@ -5,19 +5,19 @@ ghost use Rattle.std.specs.Prelude.{◌≡◌, ◌<◌, ◌++◌, ◌∷◌, ℕ
 ghost use Rattle.std.specs.Prelude.{Some, slice_get};
 ghost use Rattle.keys.specs.Key.{IsAtMost, IsBefore};
 ghost use Rattle.keys.specs.Range.{IsEmpty};
-ghost use Rattle.keys.specs.Ranks.{run_or_none};
+ghost use Rattle.keys.specs.GapRuns.{run_or_none};
 ghost use Rattle.keys.specs.Singles.{AreRankedFor};
 ghost use Rattle.keys.specs.declared.range.Range.{Range};
 ghost use Rattle.stepmap.specs.Uniting.{Unites};
 ghost use Rattle.conflict.specs.Union.{picked, AreSpanned, AreUnited, HaveRuns, HaveWrittenInOrder};
 
-use keys::{RangeList, Ranks};
+use keys::{GapRuns, RangeList};
 use std::alloc::{AllocError, Global};
 use std::marker::Model;
 
 /// A united range, from the begin of the one range to the end of the other.
 #[derive(Clone, Copy, Debug)]
-pub struct Span {
+pub struct UnitedSpan {
     /// The index of the range that it begins with.
     pub begin: usize,
     /// The index of the range that it ends with.
@@ -28,14 +28,14 @@ pub struct Span {
 /// for the next batch.
 #[derive(Debug, Drop)]
 pub struct Union {
-    spans: Vec<Span>,
+    spans: Vec<UnitedSpan>,
 }
 
 impl Model for Union {
     ghost use Rattle.std.specs.Prelude.{List};
-    ghost use Rattle.conflict.specs.declared.union.Span.{Span};
+    ghost use Rattle.conflict.specs.declared.union.UnitedSpan.{UnitedSpan};
 
-    ghost Value = { List Span };
+    ghost Value = { List UnitedSpan };
 
     ghost view = { λ u. u.spans.items };
 }
@@ -57,7 +57,7 @@ impl Union {
     pub fn gather<L: RangeList>(
         &mut self,
         ranges: &L,
-        ranks: &Ranks,
+        ranks: &GapRuns,
         order: &[u32],
         written: &[bool],
     ) -> Result<(), AllocError>
@@ -100,7 +100,7 @@ impl Union {
             → AreUnited (L.ranges ranges.now) self.new (added ++ range ∷ [])) }
     {
         if let Some(last) = self.spans.last_mut() {
-            if !are_told_apart(runs[last.end], runs[index]) {
+            if !are_known_apart(runs[last.end], runs[index]) {
                 let range = ranges.range(index);
                 let end = ranges.range(last.end).end();
                 if range.begin().cmp(end).is_le() {
@@ -111,7 +111,7 @@ impl Union {
                 }
             }
         }
-        self.spans.push(Span {
+        self.spans.push(UnitedSpan {
             begin: index,
             end: index,
         })?;
@@ -119,7 +119,7 @@ impl Union {
     }
 
     /// Returns the spans, in the order of the ranges.
-    pub fn spans(&self) -> &[Span]
+    pub fn spans(&self) -> &[UnitedSpan]
         ensures spans { result.now ≡ self.now }
     {
         &self.spans
@@ -128,7 +128,7 @@ impl Union {
 
 // Returns whether the runs show that the first range ends before the second one begins: a begin is
 // between. If it is false they may be apart, too.
-fn are_told_apart(first: (u32, u32), second: (u32, u32)) -> bool
+fn are_known_apart(first: (u32, u32), second: (u32, u32)) -> bool
     ensures filled { IsTrue result → (0 < first.1) × (0 < second.0) }
     ensures apart { IsTrue result → (keys : List (List ℕ)) (a b : Range)
         → first ≡ run_or_none keys a → second ≡ run_or_none keys b

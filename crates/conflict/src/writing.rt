@@ -18,7 +18,7 @@ ghost use Rattle.stepmap.specs.Rooted.{Rooted};
 ghost use Rattle.stepmap.specs.Rooted as rooted_by;
 ghost use Rattle.stepmap.specs.Uniting.{Unites};
 ghost use Rattle.stepmap.specs.Laws.{IsWriting};
-ghost use Rattle.conflict.specs.declared.union.Span as span_type;
+ghost use Rattle.conflict.specs.declared.union.UnitedSpan as span_type;
 ghost use Rattle.conflict.specs.Union.{Spans, AreSpanned};
 ghost use Rattle.conflict.specs.ConflictSet.{IsOverLimit, IsOverLimitUnited, HasRoomToWrite};
 ghost use Rattle.conflict.specs.ConflictSet.{HasNoRoomToWrite, raised};
@@ -27,7 +27,7 @@ ghost use Rattle.conflict.specs.Pace.{after_writes, with_written};
 use crate::error::SetStop;
 use crate::marking::mark_written;
 use crate::scratch::Scratch;
-use crate::union::Span;
+use crate::union::UnitedSpan;
 use crate::when_full::WhenFull;
 use keys::{HashedRange, RangeList, RangeRef};
 use keyspace::{Batch, Entry, Txns};
@@ -129,7 +129,7 @@ fn is_refused(steps: &StepMap, ranges: usize, edge: i64, when_full: WhenFull) ->
 fn gather_lengths<L: RangeList>(
     lengths: &mut Vec<KeyLengths>,
     ranges: &L,
-    spans: &[Span],
+    spans: &[UnitedSpan],
 ) -> Result<(), AllocError>
     requires spanned { (united : List Range) × AreSpanned (L.ranges ranges.now) spans.now united }
     ensures lengths { OnOk result ((united : List Range)
@@ -145,7 +145,7 @@ fn gather_lengths<L: RangeList>(
 }
 
 // Notes each single key among the united ranges before it is written.
-fn note_keys(steps: &mut StepMap, txns: &Txns, spans: &[Span], version: i64)
+fn note_keys(steps: &mut StepMap, txns: &Txns, spans: &[UnitedSpan], version: i64)
     ensures same { steps.new ≡ steps.old }
 {
     for span in spans {
@@ -157,7 +157,7 @@ fn note_keys(steps: &mut StepMap, txns: &Txns, spans: &[Span], version: i64)
 
 // Returns the hash of the united range of the span, if that is one of the batch's ranges and a
 // single key.
-fn single_hash(txns: &Txns, span: Span) -> Option<u32> {
+fn single_hash(txns: &Txns, span: UnitedSpan) -> Option<u32> {
     if span.begin == span.end {
         return txns.hash(span.begin);
     }
@@ -166,7 +166,7 @@ fn single_hash(txns: &Txns, span: Span) -> Option<u32> {
 
 // Writes the united ranges in sequence, if none is written yet. Takes no memory. The next range is
 // looked up before each write, so that its keys are read during the write.
-fn write_prepared(steps: &mut StepMap, txns: &Txns, spans: &[Span], version: i64)
+fn write_prepared(steps: &mut StepMap, txns: &Txns, spans: &[UnitedSpan], version: i64)
     requires spanned { (united : List Range) × AreSpanned (ranges_in txns.now) spans.now united }
     requires apart { (united : List Range) → AreSpanned (ranges_in txns.now) spans.now united
         → AreApart united }
@@ -190,9 +190,9 @@ fn write_prepared(steps: &mut StepMap, txns: &Txns, spans: &[Span], version: i64
 }
 
 // Returns the united range at an index, or none where there is none.
-fn range_at<'a>(txns: &'a Txns, spans: &[Span], index: usize) -> Option<HashedRange<'a>>
+fn range_at<'a>(txns: &'a Txns, spans: &[UnitedSpan], index: usize) -> Option<HashedRange<'a>>
     requires spanned { (united : List Range) × AreSpanned (ranges_in txns.now) spans.now united }
-    ensures range { MatchOption result (length spans.now ≤ index) (λ range. (span : span_type.Span)
+    ensures range { MatchOption result (length spans.now ≤ index) (λ range. (span : span_type.UnitedSpan)
         × (slice_get spans.now index ≡ Some span) × Spans (ranges_in txns.now) span range) }
 {
     match spans.get(index) {
@@ -203,7 +203,7 @@ fn range_at<'a>(txns: &'a Txns, spans: &[Span], index: usize) -> Option<HashedRa
 
 // Returns the united range of the span with its hash, which is known where it is one of the batch's
 // ranges.
-fn hashed_of<'a>(txns: &'a Txns, span: Span) -> HashedRange<'a>
+fn hashed_of<'a>(txns: &'a Txns, span: UnitedSpan) -> HashedRange<'a>
     requires spans { (range : Range) × Spans (ranges_in txns.now) span range }
     ensures spans { Spans (ranges_in txns.now) span result }
 {
@@ -216,7 +216,7 @@ fn hashed_of<'a>(txns: &'a Txns, span: Span) -> HashedRange<'a>
 }
 
 // Returns the united range of the span.
-fn range_of<'a, L: RangeList>(ranges: &'a L, span: Span) -> RangeRef<'a>
+fn range_of<'a, L: RangeList>(ranges: &'a L, span: UnitedSpan) -> RangeRef<'a>
     requires spans { (range : Range) × Spans (L.ranges ranges.now) span range }
     ensures spans { Spans (L.ranges ranges.now) span result }
 {

@@ -38,7 +38,7 @@ found_more ws most newest before w further found one_more = record {
   others = ws;
   last = refl;
   count =
-      let whole : length ws ≡ length (found.others ++ newest ∷ []) = ap (λ (xs : List Written). length xs) found.last in
+      let entire : length ws ≡ length (found.others ++ newest ∷ []) = ap (λ (xs : List Written). length xs) found.last in
       let parts : length (found.others ++ newest ∷ []) ≡ length found.others + 1 = length-append found.others (newest ∷ []) in
       let counted = found.count in
       omega arith;

@@ -17,19 +17,19 @@ writers_total = then_total (on_total (λ (w : Writer). w.hash) nat_cmp_total) (o
 abbrev pub Precedes : Writer → Writer → Type 0
 Precedes a b = (a.hash < b.hash) ⊎ ((a.hash ≡ b.hash) × (a.txn < b.txn))
 
-abbrev Ranks : Ordering → ℕ → ℕ → ℕ → ℕ → Type 0
-Ranks o x y u v = MatchOrdering o ((x < y) ⊎ ((x ≡ y) × (u < v))) ((x ≡ y) × (u ≡ v)) ((y < x) ⊎ ((x ≡ y) × (v < u)))
+abbrev GapRuns : Ordering → ℕ → ℕ → ℕ → ℕ → Type 0
+GapRuns o x y u v = MatchOrdering o ((x < y) ⊎ ((x ≡ y) × (u < v))) ((x ≡ y) × (u ≡ v)) ((y < x) ⊎ ((x ≡ y) × (v < u)))
 
-ranked_then : (x y u v : ℕ) (p q : Ordering) → p ≡ nat_cmp x y → q ≡ nat_cmp u v → Ranks (ordering_then p q) x y u v
+ranked_then : (x y u v : ℕ) (p q : Ordering) → p ≡ nat_cmp x y → q ≡ nat_cmp u v → GapRuns (ordering_then p q) x y u v
 ranked_then x y u v Less q e f = inl (ranked x y Less e)
 ranked_then x y u v Equal Less e f = inr (ranked x y Equal e, ranked u v Less f)
 ranked_then x y u v Equal Equal e f = (ranked x y Equal e, ranked u v Equal f)
 ranked_then x y u v Equal Greater e f = inr (ranked x y Equal e, ranked u v Greater f)
 ranked_then x y u v Greater q e f = inl (ranked x y Greater e)
 
-writers_ranked : (a b : Writer) (o : Ordering) → writer_cmp a b ≡ o → Ranks o a.hash b.hash a.txn b.txn
+writers_ranked : (a b : Writer) (o : Ordering) → writer_cmp a b ≡ o → GapRuns o a.hash b.hash a.txn b.txn
 writers_ranked a b o e =
-    subst (λ r. Ranks r a.hash b.hash a.txn b.txn) e (ranked_then a.hash b.hash a.txn b.txn (nat_cmp a.hash b.hash) (nat_cmp a.txn b.txn) refl refl)
+    subst (λ r. GapRuns r a.hash b.hash a.txn b.txn) e (ranked_then a.hash b.hash a.txn b.txn (nat_cmp a.hash b.hash) (nat_cmp a.txn b.txn) refl refl)
 
 pub precedes_if_less : (a b : Writer) → writer_cmp a b ≡ Less → Precedes a b
 precedes_if_less a b e = writers_ranked a b Less e
@@ -41,7 +41,7 @@ pub follows_if_greater : (a b : Writer) → writer_cmp a b ≡ Greater → (b.ha
 follows_if_greater a b e = writers_ranked a b Greater e
 
 -- what isn't less comes later, or is the same
-not_less_of : (o : Ordering) (x y u v : ℕ) → Ranks o x y u v → is_lt o ≡ false → (y < x) ⊎ ((x ≡ y) × (v ≤ u))
+not_less_of : (o : Ordering) (x y u v : ℕ) → GapRuns o x y u v → is_lt o ≡ false → (y < x) ⊎ ((x ≡ y) × (v ≤ u))
 not_less_of Less x y u v h e = absurd cc
 not_less_of Equal x y u v h e = inr (h.0, omega (arith, h.1))
 not_less_of Greater x y u v (inl h) e = inl h

@@ -12,7 +12,7 @@ ghost use Rattle.explanations.specs.History.{DropsUpTo, Keeps};
 
 use crate::explanation::Explanation;
 use crate::processed::ProcessedBatch;
-use crate::question::Question;
+use crate::question::ReadQuestion;
 use crate::searching::search;
 use keys::HashedRange;
 use keyspace::Batch;
@@ -108,7 +108,7 @@ impl History {
         if read >= transaction.reads.len() {
             return None;
         }
-        let question = Question {
+        let question = ReadQuestion {
             version: batch.version,
             txn,
             snapshot: batch.txns.snapshot(txn),

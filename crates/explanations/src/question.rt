@@ -13,7 +13,7 @@ use keys::{HashedRange, RangeRef};
 
 // A read range of a transaction.
 #[derive(Debug, Drop)]
-pub(crate) struct Question<'a> {
+pub(crate) struct ReadQuestion<'a> {
     // the version of its batch
     pub version: i64,
     // the index of the transaction in the batch
@@ -22,7 +22,7 @@ pub(crate) struct Question<'a> {
     pub range: HashedRange<'a>,
 }
 
-impl Question<'_> {
+impl ReadQuestion<'_> {
     // Returns whether the write explains that the range is in conflict.
     pub fn is_explained_by(&self, write: &WrittenRef) -> bool
         ensures explains { result

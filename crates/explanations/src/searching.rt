@@ -9,14 +9,14 @@ ghost use Rattle.explanations.specs.Found.{IsFound};
 
 use crate::explanation::{Explanation, WrittenRef};
 use crate::processed::ProcessedBatch;
-use crate::question::Question;
+use crate::question::ReadQuestion;
 use keys::RangeRef;
 use keyspace::{Txns, Verdict};
 use std::collections::VecDeque;
 
 // Returns the newest write of these batches that answers the question.
 pub(crate) fn search<'a>(
-    question: &Question,
+    question: &ReadQuestion,
     kept: &'a VecDeque<ProcessedBatch>,
 ) -> Option<Explanation<'a>>
     ensures found { IsFound (filter
@@ -34,7 +34,7 @@ pub(crate) fn search<'a>(
 
 // Looks at the transactions that may have written the key of the question, or at all.
 fn search_batch<'a>(
-    question: &Question,
+    question: &ReadQuestion,
     processed: &'a ProcessedBatch,
     found: Option<Explanation<'a>>,
 ) -> Option<Explanation<'a>>
@@ -71,7 +71,7 @@ struct Origin {
 // Looks at the keys of a write range only if its hash is that of the question, or if one of the two
 // isn't a single key.
 fn search_txn<'a>(
-    question: &Question,
+    question: &ReadQuestion,
     origin: Origin,
     txns: &'a Txns,
     found: Option<Explanation<'a>>,
@@ -94,7 +94,7 @@ fn search_txn<'a>(
 }
 
 fn search_range<'a>(
-    question: &Question,
+    question: &ReadQuestion,
     origin: Origin,
     range: RangeRef<'a>,
     found: Option<Explanation<'a>>,

@@ -20,9 +20,9 @@ pub left_out : (b : Bool) (x y : ℤ) → b ≡ false → (if b then x else y) �
 left_out b x y is = rw is refl
 
 pub one_of : (n : ℕ) → IsTrue (eqb n 1) → n ≡ 1
-one_of n told = elim (eqb_tells n 1) [
+one_of n reported = elim (eqb_tells n 1) [
   | inl same ↦ same.1
-  | inr other ↦ absurd (let contrary : false ≡ true = sym other.0 ∙ told in cc)
+  | inr other ↦ absurd (let contrary : false ≡ true = sym other.0 ∙ reported in cc)
 ]
 
 -- the test of one bit

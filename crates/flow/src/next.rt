@@ -3,9 +3,9 @@
 ghost use Rattle.std.specs.Prelude.{◌≡◌, ◌+◌, ◌<ℤ◌, ◌≤ℤ◌, ◌↔◌, List, length, slice_get, IfSome};
 ghost use Rattle.std.specs.Prelude.{IsTrue, None, Some};
 ghost use Rattle.flow.specs.Next.{AllWait, IsNext, NoneStands, HasFirst, WaitsForOthers};
-ghost use Rattle.flow.specs.declared.told.Told.{Told as WhatIsTold};
+ghost use Rattle.flow.specs.declared.reported_state.ReportedState.{ReportedState as StateValue};
 
-use crate::told::{Stand, Told};
+use crate::reported_state::{ReportedState, Stand};
 
 // A proxy that stands.
 #[derive(Clone, Copy)]
@@ -28,19 +28,20 @@ impl Candidate {
     }
 }
 
-/// Returns the proxy whose batch is to be admitted. At the number of each proxy, `told` is its
-/// state, and `sent` is the number of answers sent to it.
+/// Returns the proxy whose batch is to be admitted. At the number of each proxy, `reported_state`
+/// is its state, and `sent` is the number of answers sent to it.
 ///
 /// There is one only if all wait for each other: each proxy has closed its lane, or stands and has
-/// received all answers that were sent to it. Of those that stand, it is the one whose batch has the
-/// least previous version, among equals the one with the lowest number.
-pub fn next_through(told: &[Told], sent: &[u64]) -> Option<usize>
-    requires each { length told.now ≡ length sent.now }
-    ensures some { IfSome result (λ proxy. AllWait told.now sent.now × IsNext told.now proxy) }
-    ensures none { result ≡ None → AllWait told.now sent.now → NoneStands told.now }
+/// received all answers that were sent to it. Of those that stand, it is the one whose batch has
+/// the least previous version, among equals the one with the lowest number.
+pub fn next_admitted(reported: &[ReportedState], sent: &[u64]) -> Option<usize>
+    requires each { length reported.now ≡ length sent.now }
+    ensures some { IfSome result (λ proxy. AllWait reported.now sent.now
+        × IsNext reported.now proxy) }
+    ensures none { result ≡ None → AllWait reported.now sent.now → NoneStands reported.now }
 {
     let mut first = None;
-    for (proxy, state) in told.iter().enumerate() {
+    for (proxy, state) in reported.iter().enumerate() {
         if !waits_for_others(*state, sent[proxy]) {
             return None;
         }
@@ -50,11 +51,11 @@ pub fn next_through(told: &[Told], sent: &[u64]) -> Option<usize>
 }
 
 // Returns which goes first, of those before this proxy and this one.
-fn first_of(first: Option<Candidate>, proxy: usize, state: Told) -> Option<Candidate>
-    ensures first { (told : List WhatIsTold) → slice_get told proxy ≡ Some state
-        → HasFirst proxy told first → HasFirst (proxy + 1) told result }
+fn first_of(first: Option<Candidate>, proxy: usize, state: ReportedState) -> Option<Candidate>
+    ensures first { (reported : List StateValue) → slice_get reported proxy ≡ Some state
+        → HasFirst proxy reported first → HasFirst (proxy + 1) reported result }
 {
-    let Told::Stands(stand) = state else {
+    let ReportedState::Stands(stand) = state else {
         return first;
     };
     let next = Candidate { proxy, stand };
@@ -65,12 +66,12 @@ fn first_of(first: Option<Candidate>, proxy: usize, state: Told) -> Option<Candi
 }
 
 // Returns whether a proxy to which this many answers were sent waits for others.
-fn waits_for_others(told: Told, sent: u64) -> bool
-    ensures waits { IsTrue result ↔ WaitsForOthers told sent }
+fn waits_for_others(reported: ReportedState, sent: u64) -> bool
+    ensures waits { IsTrue result ↔ WaitsForOthers reported sent }
 {
-    match told {
-        Told::Goes => false,
-        Told::Stands(stand) => stand.answered == sent,
-        Told::Closed => true,
+    match reported {
+        ReportedState::Goes => false,
+        ReportedState::Stands(stand) => stand.answered == sent,
+        ReportedState::Closed => true,
     }
 }

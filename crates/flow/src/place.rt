@@ -2,9 +2,9 @@
 //! there.
 
 ghost use Rattle.std.specs.Prelude.{◌≡◌, ◌≢◌, ◌⊎◌, ◌↔◌, IsTrue, IsFalse, Some, None};
-ghost use Rattle.flow.specs.declared.told.Stand.{Stand as InHand};
+ghost use Rattle.flow.specs.declared.reported_state.Stand.{Stand as StandValue};
 
-use crate::told::{Stand, Told};
+use crate::reported_state::{ReportedState, Stand};
 
 /// What a place in the waiting room holds of its proxy.
 #[derive(Clone, Copy, Debug, PartialEq, Eq)]
@@ -41,9 +41,9 @@ impl Place {
     /// The turning thread admits the batch with which the proxy stands. Returns what it stores:
     /// nothing if the proxy doesn't stand.
     pub fn admit(self) -> Option<Place>
-        ensures admitted { (stand : InHand) → self ≡ Place.Stands stand
+        ensures admitted { (stand : StandValue) → self ≡ Place.Stands stand
             → result ≡ Some Place.Admitted }
-        ensures others { ((stand : InHand) → self ≢ Place.Stands stand) → result ≡ None }
+        ensures others { ((stand : StandValue) → self ≢ Place.Stands stand) → result ≡ None }
     {
         match self {
             Place::Stands(_) => Some(Place::Admitted),
@@ -52,16 +52,17 @@ impl Place {
     }
 
     /// Returns the state of the proxy that this place shows the turning thread.
-    pub fn told(self) -> Told
-        ensures stands { (stand : InHand)
-            → (result ≡ Told.Stands stand) ↔ (self ≡ Place.Stands stand) }
-        ensures closed { (result ≡ Told.Closed) ↔ (self ≡ Place.Closed) }
-        ensures goes { (result ≡ Told.Goes) ↔ ((self ≡ Place.Goes) ⊎ (self ≡ Place.Admitted)) }
+    pub fn reported_state(self) -> ReportedState
+        ensures stands { (stand : StandValue)
+            → (result ≡ ReportedState.Stands stand) ↔ (self ≡ Place.Stands stand) }
+        ensures closed { (result ≡ ReportedState.Closed) ↔ (self ≡ Place.Closed) }
+        ensures goes { (result ≡ ReportedState.Goes)
+            ↔ ((self ≡ Place.Goes) ⊎ (self ≡ Place.Admitted)) }
     {
         match self {
-            Place::Goes | Place::Admitted => Told::Goes,
-            Place::Stands(stand) => Told::Stands(stand),
-            Place::Closed => Told::Closed,
+            Place::Goes | Place::Admitted => ReportedState::Goes,
+            Place::Stands(stand) => ReportedState::Stands(stand),
+            Place::Closed => ReportedState::Closed,
         }
     }
 }

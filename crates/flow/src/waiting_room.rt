@@ -2,12 +2,12 @@
 
 ghost use Rattle.std.specs.Prelude.{◌≡◌, ◌≢◌, ◌≤◌, ◌⊎◌, length, slice_get};
 ghost use Rattle.std.specs.Prelude.{IfOk, IfSome, IsTrue, IsFalse, Some};
-ghost use Rattle.flow.specs.declared.told.Stand.{Stand as InHand};
+ghost use Rattle.flow.specs.declared.reported_state.Stand.{Stand as StandValue};
 ghost use Rattle.flow.specs.declared.place.Place.{Place as PlaceValue};
 
 use crate::cell::{AtomicPlace, PlaceCell};
 use crate::place::Place;
-use crate::told::{Stand, Told};
+use crate::reported_state::{ReportedState, Stand};
 use std::alloc::{AllocError, Global};
 use std::marker::Model;
 
@@ -15,8 +15,8 @@ use std::marker::Model;
 /// resolver. No call waits. Contracts see a room as its cells, each at its proxy's number.
 ///
 /// A proxy's calls are [`stands`](Self::stands) and [`closes`](Self::closes), from one thread. The
-/// turning thread's are [`told`](Self::told) and [`let_through`](Self::let_through), this only for
-/// a proxy that is seen to stand and has received all answers that were sent to it.
+/// turning thread's are [`reported_state`](Self::reported_state) and [`admit`](Self::admit), this
+/// only for a proxy that is seen to stand and has received all answers that were sent to it.
 #[derive(Drop)]
 pub struct WaitingRoom<C = AtomicPlace> {
     cells: Vec<C>,
@@ -75,26 +75,28 @@ impl<C: PlaceCell> WaitingRoom<C> {
     }
 
     /// Returns the state that the proxy reported. A proxy without a place goes.
-    pub fn told(&self, proxy: usize) -> Told
-        ensures no_place { length self.now ≤ proxy → result ≡ Told.Goes }
-        ensures stands { (cell : C) (stand : InHand) → slice_get self.now proxy ≡ Some cell
-            → result ≡ Told.Stands stand → C.has_given cell (Place.Stands stand) }
+    pub fn reported_state(&self, proxy: usize) -> ReportedState
+        ensures no_place { length self.now ≤ proxy → result ≡ ReportedState.Goes }
+        ensures stands { (cell : C) (stand : StandValue) → slice_get self.now proxy ≡ Some cell
+            → result ≡ ReportedState.Stands stand → C.has_given cell (Place.Stands stand) }
         ensures closed { (cell : C) → slice_get self.now proxy ≡ Some cell
-            → result ≡ Told.Closed → C.has_given cell Place.Closed }
+            → result ≡ ReportedState.Closed → C.has_given cell Place.Closed }
         ensures goes { (cell : C) → slice_get self.now proxy ≡ Some cell
-            → result ≡ Told.Goes → C.has_given cell Place.Goes ⊎ C.has_given cell Place.Admitted }
+            → result ≡ ReportedState.Goes → C.has_given cell Place.Goes
+            ⊎ C.has_given cell Place.Admitted }
     {
         let Some(place) = self.cells.get(proxy) else {
-            return Told::Goes;
+            return ReportedState::Goes;
         };
-        told_by(place)
+        state_reported_by(place)
     }
 
     /// Admits the proxy's batch, if the proxy stands.
-    pub fn let_through(&self, proxy: usize)
+    pub fn admit(&self, proxy: usize)
         ensures admitted { (cell : C) → slice_get self.now proxy ≡ Some cell
             → (place : PlaceValue) × C.has_given cell place
-            × ((stand : InHand) → place ≡ Place.Stands stand → C.was_stored cell Place.Admitted) }
+            × ((stand : StandValue) → place ≡ Place.Stands stand
+            → C.was_stored cell Place.Admitted) }
     {
         if let Some(cell) = self.cells.get(proxy) {
             store_some(cell, cell.load().admit());
@@ -103,14 +105,14 @@ impl<C: PlaceCell> WaitingRoom<C> {
 }
 
 // Returns the state that the cell's proxy reported.
-fn told_by<C: PlaceCell>(cell: &C) -> Told
-    ensures stands { (stand : InHand) → result ≡ Told.Stands stand
+fn state_reported_by<C: PlaceCell>(cell: &C) -> ReportedState
+    ensures stands { (stand : StandValue) → result ≡ ReportedState.Stands stand
         → C.has_given cell.now (Place.Stands stand) }
-    ensures closed { result ≡ Told.Closed → C.has_given cell.now Place.Closed }
-    ensures goes { result ≡ Told.Goes
+    ensures closed { result ≡ ReportedState.Closed → C.has_given cell.now Place.Closed }
+    ensures goes { result ≡ ReportedState.Goes
         → C.has_given cell.now Place.Goes ⊎ C.has_given cell.now Place.Admitted }
 {
-    cell.load().told()
+    cell.load().reported_state()
 }
 
 // Stores the place, if there is one.

@@ -5,7 +5,7 @@ ghost use Rattle.flow.specs.Words.{Carries};
 ghost use Rattle.flow.specs.declared.place.Place.{Place as PlaceValue};
 
 use crate::place::Place;
-use crate::told::Stand;
+use crate::reported_state::Stand;
 
 /// The state of a place whose proxy reads, sends or takes answers.
 pub const GOES: u64 = 0;

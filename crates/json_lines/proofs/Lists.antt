@@ -7,7 +7,7 @@ use Rattle.json.specs.Value.{value_view, items_view}
 use Rattle.json.specs.declared.value.Value.{Value}
 use Rattle.json_lines.specs.Values.{◌>>=◌, each, count}
 use Rattle.json_lines.specs.Ranges.{pair_in}
-use Rattle.json_lines.proofs.Reading.{with_front, goes_on_with, all_read, rest_at}
+use Rattle.json_lines.proofs.Reading.{with_front, continues_with, all_read, rest_at}
 
 pub count_items : {A : Type 0} (vs : List (Value A)) → count (items_view vs) ≡ length vs
 count_items [] = refl
@@ -30,7 +30,7 @@ each_on {A} {Y} one front vs i x y total lt is read so_far =
     let step : with_front front (each one (items_view (drop i vs))) ≡ with_front (front ++ y ∷ []) others =
     ap (λ (ws : List (Value A)). with_front front (each one (items_view ws))) (rest_at vs i x lt is)
     ∙ ap (λ (o : Option Y). with_front front (o >>= λ a. others >>= λ rest. Some (a ∷ rest))) read
-    ∙ goes_on_with front y others in
+    ∙ continues_with front y others in
     sym step ∙ so_far
 
 -- an item is refused

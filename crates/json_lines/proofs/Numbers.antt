@@ -5,7 +5,7 @@ use Rattle.std.specs.Char.{digit_value, is_digit}
 use Rattle.std.specs.Int.RustNames.{FitsSigned}
 use Rattle.std.specs.List.{list_all}
 use Rattle.std.proofs.lemmas.Bool.{and_from, and_parts, lt-ltb, ltb-true, cases_Bool, false≢true}
-use Rattle.json_lines.specs.Values.{◌>>=◌, is_whole, fits, whole}
+use Rattle.json_lines.specs.Values.{◌>>=◌, is_integer, fits, integer_of}
 
 digits_pass : (ds : List ℕ) → AllDigits 10 ds → list_all (λ c. is_digit c 10) ds ≡ true
 digits_pass [] d = refl
@@ -16,45 +16,45 @@ pass_digits [] e = tt
 pass_digits (c ∷ cs) e = let p = and_parts (is_digit c 10) _ e in (ltb-true (digit_value c) 10 p.0, pass_digits cs p.1)
 
 -- what `parse` asks of a text
-abbrev pub IsWhole : List ℕ → Type 0
-IsWhole text = IsNumeral 10 (without_leading_sign text) × FitsSigned w64 (signed_digits_value 10 text)
+abbrev pub IsInteger : List ℕ → Type 0
+IsInteger text = IsNumeral 10 (without_leading_sign text) × FitsSigned w64 (signed_digits_value 10 text)
 
-pub passes : (text : List ℕ) → IsWhole text → (is_whole text && fits (signed_digits_value 10 text)) ≡ true
+pub passes : (text : List ℕ) → IsInteger text → (is_integer text && fits (signed_digits_value 10 text)) ≡ true
 passes text h =
-    and_from (is_whole text) (fits (signed_digits_value 10 text))
+    and_from (is_integer text) (fits (signed_digits_value 10 text))
     (and_from _ _ (lt-ltb 0 (length (without_leading_sign text)) h.0.0) (digits_pass (without_leading_sign text) h.0.1))
     (lt-ltb _ _ h.1.sfits)
 
-asked : (text : List ℕ) → (is_whole text && fits (signed_digits_value 10 text)) ≡ true → IsWhole text
+asked : (text : List ℕ) → (is_integer text && fits (signed_digits_value 10 text)) ≡ true → IsInteger text
 asked text e =
-    let p = and_parts (is_whole text) (fits (signed_digits_value 10 text)) e in
+    let p = and_parts (is_integer text) (fits (signed_digits_value 10 text)) e in
     let q = and_parts _ _ p.0 in
     ((ltb-true 0 (length (without_leading_sign text)) q.0, pass_digits (without_leading_sign text) q.1), record { sfits = ltb-true _ _ p.1 })
 
-pub whole_is : (text : List ℕ) → IsWhole text → whole text ≡ Some (signed_digits_value 10 text)
-unfolding whole
-whole_is text h = ap (λ b. cond b (Some (signed_digits_value 10 text)) None) (passes text h)
+pub integer_is : (text : List ℕ) → IsInteger text → integer_of text ≡ Some (signed_digits_value 10 text)
+unfolding integer_of
+integer_is text h = ap (λ b. cond b (Some (signed_digits_value 10 text)) None) (passes text h)
 
-whole_none : (text : List ℕ) → ¬ (IsWhole text) → whole text ≡ None
-unfolding whole
-whole_none text not_whole =
-    elim (cases_Bool (is_whole text && fits (signed_digits_value 10 text))) [
-      | inl ok ↦ absurd (not_whole (asked text ok))
+integer_none : (text : List ℕ) → ¬ (IsInteger text) → integer_of text ≡ None
+unfolding integer_of
+integer_none text not_integer =
+    elim (cases_Bool (is_integer text && fits (signed_digits_value 10 text))) [
+      | inl ok ↦ absurd (not_integer (asked text ok))
       | inr fails ↦ ap (λ b. cond b (Some (signed_digits_value 10 text)) None) fails
     ]
 
 -- what `parse` gives is the whole number of the text
 pub parsed : (o : Option (List ℕ)) (r : Option ℤ) → MatchOption o (r ≡ None) (λ s. ParsesSigned w64 10 s (ok_or r s))
-    → (o >>= whole) ≡ r
+    → (o >>= integer_of) ≡ r
 parsed None r h = sym h
-parsed (Some s) (Some n) h = whole_is s h.0 ∙ ap Some (sym h.1)
-parsed (Some s) None h = whole_none s h
+parsed (Some s) (Some n) h = integer_is s h.0 ∙ ap Some (sym h.1)
+parsed (Some s) None h = integer_none s h
 
 -- the definition says of each text what `parse` says of it
-pub whole_parses : (text : List ℕ) → ParsesSigned w64 10 text (ok_or (whole text) text)
-unfolding whole
-whole_parses text =
-    elim (cases_Bool (is_whole text && fits (signed_digits_value 10 text))) [
+pub integer_parses : (text : List ℕ) → ParsesSigned w64 10 text (ok_or (integer_of text) text)
+unfolding integer_of
+integer_parses text =
+    elim (cases_Bool (is_integer text && fits (signed_digits_value 10 text))) [
       | inl ok ↦ rw ok (asked text ok, refl)
       | inr fails ↦ rw fails (λ h. false≢true (sym fails ∙ passes text h))
     ]

@@ -72,13 +72,13 @@ among_done {A} names ms i total le so_far =
     sym so_far ∙ ap (λ (ns : List (Bor (List ℕ) × Value A)). are_among names (members_view ns)) (drop_all i ms le)
 
 -- the members behind one, as a slice of them
-pub rest_told : {A : Type 0} (ms : List (Bor (List ℕ) × Value A)) (i : ℕ) (m : Bor (List ℕ) × Value A) (r : Bool)
+pub rest_reported : {A : Type 0} (ms : List (Bor (List ℕ) × Value A)) (i : ℕ) (m : Bor (List ℕ) × Value A) (r : Bool)
     → m ≡ get_or ms i m
     → r ≡ has_member (get_or ms i m).0.now (members_view (take (length ms - (i + 1)) (drop (i + 1) ms)))
     → has_member m.0.now (members_view (drop (i + 1) ms)) ≡ r
-rest_told {A} ms i m r is told =
-    let whole : take (length ms - (i + 1)) (drop (i + 1) ms) ≡ drop (i + 1) ms =
+rest_reported {A} ms i m r is reported =
+    let integer_of : take (length ms - (i + 1)) (drop (i + 1) ms) ≡ drop (i + 1) ms =
     take_all (length ms - (i + 1)) (drop (i + 1) ms) (omega (arith, length-drop (i + 1) ms)) in
     ap (λ (n : Bor (List ℕ) × Value A). has_member n.0.now (members_view (drop (i + 1) ms))) is
-    ∙ ap (λ (ns : List (Bor (List ℕ) × Value A)). has_member (get_or ms i m).0.now (members_view ns)) (sym whole)
-    ∙ sym told
+    ∙ ap (λ (ns : List (Bor (List ℕ) × Value A)). has_member (get_or ms i m).0.now (members_view ns)) (sym integer_of)
+    ∙ sym reported

@@ -23,11 +23,11 @@ use Rattle.wire.specs.Spelling.{single_key, is_single_key, TxnHolds, BatchHolds}
 use Rattle.wire.proofs.callers.Singles.{single_is}
 use Rattle.wire.proofs.callers.Numbers.{at_least}
 use Rattle.json_lines.specs.KeyForm.{backslash, is_printable, byte_form, key_form, after_byte, spelled_from, spelled}
-use Rattle.json_lines.specs.Values.{◌>>=◌, whole, each, count, list_in, are_among}
+use Rattle.json_lines.specs.Values.{◌>>=◌, integer_of, each, count, list_in, are_among}
 use Rattle.json_lines.specs.Ranges.{key_within, ends_in, pair_in, range_in}
 use Rattle.json_lines.specs.Batches.{txn_in, txn_members, batch_in, batch_members, batch_of, are_versions}
 use Rattle.json_lines.specs.Written.{list_json, range_json, txn_json, batch_json, batch_line}
-use Rattle.json_lines.proofs.Numbers.{whole_parses}
+use Rattle.json_lines.proofs.Numbers.{integer_parses}
 
 -- ---- keys
 
@@ -76,12 +76,12 @@ from_ok : (o : Option ℤ) (text : List ℕ) (n : ℤ) → ok_or o text ≡ Ok n
 from_ok (Some x) text n e = cc
 from_ok None text n e = absurd cc
 
-pub whole_again : (n : ℤ) → FitsSigned w64 n → whole (signed_decimal n) ≡ Some n
-whole_again n f =
+pub integer_again : (n : ℤ) → FitsSigned w64 n → integer_of (signed_decimal n) ≡ Some n
+integer_again n f =
     let text = signed_decimal n in
-    let read : ok_or (whole text) text ≡ Ok n =
-    parse-signed_decimal w64 n text (ok_or (whole text) text) f (omega (arith, f.sfits)) refl (whole_parses text) in
-    from_ok (whole text) text n read
+    let read : ok_or (integer_of text) text ≡ Ok n =
+    parse-signed_decimal w64 n text (ok_or (integer_of text) text) f (omega (arith, f.sfits)) refl (integer_parses text) in
+    from_ok (integer_of text) text n read
 
 -- ---- ranges
 
@@ -139,7 +139,7 @@ txn_again : (txn : TxnFields) → TxnHolds txn → txn_in (txn_json txn) ≡ Som
 unfolding txn_in txn_members txn_json are_among
 txn_again txn holds =
     rw (
-      whole_again txn.snapshot holds.snapshot_fits,
+      integer_again txn.snapshot holds.snapshot_fits,
       list_again range_in range_json RangeHolds 1024 range_again txn.reads holds.reads holds.few_reads,
       list_again range_in range_json RangeHolds 1024 range_again txn.writes holds.writes holds.few_writes,
       at_least (pos 0) txn.snapshot holds.snapshot,
@@ -152,9 +152,9 @@ batch_again batch holds =
     and_from _ _ (at_least (negsuc 0) batch.previous holds.previous) (and_from _ _ (below batch.previous batch.version holds.rises)
     (and_from _ _ (at_least (negsuc 0) batch.received holds.received) (below batch.received batch.version holds.received_before))) in
     rw (
-      whole_again batch.previous holds.previous_fits,
-      whole_again batch.version holds.version_fits,
-      whole_again batch.received holds.received_fits,
+      integer_again batch.previous holds.previous_fits,
+      integer_again batch.version holds.version_fits,
+      integer_again batch.received holds.received_fits,
       list_again txn_in txn_json TxnHolds 4096 txn_again batch.txns holds.txns holds.few,
       versions,
     ) refl

@@ -18,10 +18,10 @@ one_more {A} front a (Some x) = ap (λ (all : List A). Some all) (sym (append_as
 one_more front a None = refl
 
 -- the same of a read that goes on
-pub goes_on_with : {A : Type 0} (front : List A) (a : A) (o : Option (List A))
+pub continues_with : {A : Type 0} (front : List A) (a : A) (o : Option (List A))
     → with_front front (o >>= λ rest. Some (a ∷ rest)) ≡ with_front (front ++ a ∷ []) o
-goes_on_with {A} front a (Some x) = ap (λ (all : List A). Some all) (sym (append_assoc front (a ∷ []) x))
-goes_on_with front a None = refl
+continues_with {A} front a (Some x) = ap (λ (all : List A). Some all) (sym (append_assoc front (a ∷ []) x))
+continues_with front a None = refl
 
 pub bind_cond : {A B : Type 0} (b : Bool) (x y : Option A) (f : A → Option B) → (cond b x y >>= f) ≡ cond b (x >>= f) (y >>= f)
 bind_cond true x y f = refl

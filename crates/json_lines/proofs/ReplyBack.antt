@@ -16,7 +16,7 @@ use Rattle.wire.proofs.callers.Places.{RiseFrom, rise}
 use Rattle.json_lines.specs.Values.{◌>>=◌, are_among}
 use Rattle.json_lines.specs.Replies.{rising, report_in, entry_in, reply_members, reply_in, reply_of}
 use Rattle.json_lines.specs.Written.{place_json, report_json, entry_with, entry_json, reply_json, reply_line}
-use Rattle.json_lines.proofs.ReadBack.{whole_again, list_again, Fine, all_fine, number_fine}
+use Rattle.json_lines.proofs.ReadBack.{integer_again, list_again, Fine, all_fine, number_fine}
 
 rising_again : (least : ℕ) (ps : List ℕ) → RiseFrom least ps → rising least (items_of (map place_json ps)) ≡ Some ps
 unfolding rising
@@ -24,7 +24,7 @@ rising_again least [] h = refl
 rising_again least (p ∷ ps) h =
     let fits : FitsSigned w64 (pos p) = record { sfits = omega (arith, h.1) } in
     let test : (leb least p && ltb p 1024) ≡ true = and_from _ _ (le-leb least p h.0) (lt-ltb p 1024 h.1) in
-    rw (whole_again (pos p) fits, test, rising_again (p + 1) ps h.2) refl
+    rw (integer_again (pos p) fits, test, rising_again (p + 1) ps h.2) refl
 
 -- a report is that of a conflict
 is_conflict : (v : Verdict) (p : ℕ) (ps : List ℕ) → (v ≢ Conflict → (p ∷ ps) ≡ []) → v ≡ Conflict
@@ -56,7 +56,7 @@ reply_again : (reply : ReplyFields) → ReplyHolds reply → reply_in (reply_jso
 unfolding reply_in reply_members reply_json are_among
 reply_again reply holds =
     rw (
-      whole_again reply.version holds.version_fits,
+      integer_again reply.version holds.version_fits,
       list_again entry_in entry_json EntryHolds 4096 entry_again reply.entries holds.entries holds.few,
       at_least (pos 0) reply.version holds.version,
     ) refl

@@ -9,7 +9,7 @@ use Rattle.keyspace.specs.Places.{ArePlaces}
 use Rattle.wire.proofs.callers.Places.{RiseFrom, are_places}
 use Rattle.json_lines.specs.Values.{◌>>=◌, number_in}
 use Rattle.json_lines.specs.Replies.{place_from, place_in, rising}
-use Rattle.json_lines.proofs.Reading.{with_front, goes_on_with, all_read, rest_at}
+use Rattle.json_lines.proofs.Reading.{with_front, continues_with, all_read, rest_at}
 
 pub rising_on : {A : Type 0} (least : ℕ) (front : List ℕ) (vs : List (Value A)) (i : ℕ) (x : Value A) (place : ℕ)
     (total : Option (List ℕ)) → i < length vs → x ≡ get_or vs i x → place_in least (value_view x) ≡ Some place
@@ -22,7 +22,7 @@ rising_on {A} least front vs i x place total lt is read so_far =
     ≡ with_front (front ++ place ∷ []) (rising (place + 1) rest) =
     ap (λ (ws : List (Value A)). with_front front (rising least (items_view ws))) (rest_at vs i x lt is)
     ∙ ap (λ (o : Option ℕ). with_front front (o >>= λ p. rising (p + 1) rest >>= λ ps. Some (p ∷ ps))) read
-    ∙ goes_on_with front place (rising (place + 1) rest) in
+    ∙ continues_with front place (rising (place + 1) rest) in
     sym step ∙ so_far
 
 pub rising_ends : {A : Type 0} (least : ℕ) (front : List ℕ) (vs : List (Value A)) (i : ℕ) (x : Value A)

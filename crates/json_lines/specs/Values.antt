@@ -8,31 +8,31 @@ use Rattle.json.specs.Json.{Json, null, boolean, number, string, array, object, 
 use Rattle.json.specs.Find.{get, as_number, as_array}
 use lib.Signed.{mag}
 use Rattle.json_lines.specs.declared.cause.Cause.TheVariants.{Memory}
-use Rattle.json_lines.specs.declared.refusal.Refusal.{Refusal}
+use Rattle.json_lines.specs.declared.refusal.LineRefusal.{LineRefusal}
 
 -- What was read is what the definition gives, seen by view; or it gives nothing, unless memory was refused.
-abbrev pub Reads : {X Y : Type 0} → (X → Y) → Result X Refusal → Option Y → Type 0
-Reads view (Ok x) told = told ≡ Some (view x)
-Reads view (Err e) told = e.cause ≢ Memory → told ≡ None
+abbrev pub Reads : {X Y : Type 0} → (X → Y) → Result X LineRefusal → Option Y → Type 0
+Reads view (Ok x) reported = reported ≡ Some (view x)
+Reads view (Err e) reported = e.cause ≢ Memory → reported ≡ None
 
 infixl 10 ◌>>=◌
 abbrev pub ◌>>=◌ : {A B : Type 0} → Option A → (A → Option B) → Option B
 o >>= f = option_and_then f o
 
 -- an optional sign and one digit or more, and nothing else: no point and no exponent
-abbrev pub is_whole : List ℕ → Bool
-is_whole text = nat_lt 0 (length (without_leading_sign text)) && list_all (λ c. is_digit c 10) (without_leading_sign text)
+abbrev pub is_integer : List ℕ → Bool
+is_integer text = nat_lt 0 (length (without_leading_sign text)) && list_all (λ c. is_digit c 10) (without_leading_sign text)
 
 -- it fits 64 bits with a sign
 abbrev pub fits : ℤ → Bool
 fits n = nat_lt (mag n) (2 ^ 63)
 
 -- the integer that a text spells
-unfoldable pub whole : List ℕ → Option ℤ
-whole text = if is_whole text && fits (signed_digits_value 10 text) then Some (signed_digits_value 10 text) else None
+unfoldable pub integer_of : List ℕ → Option ℤ
+integer_of text = if is_integer text && fits (signed_digits_value 10 text) then Some (signed_digits_value 10 text) else None
 
 abbrev pub number_in : Json → Option ℤ
-number_in j = as_number j >>= whole
+number_in j = as_number j >>= integer_of
 
 -- each item read, in order
 unfoldable pub each : {A : Type 0} → (Json → Option A) → Items → Option (List A)

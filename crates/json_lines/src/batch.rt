@@ -16,8 +16,8 @@ use crate::cause::Cause;
 use crate::document::value_of;
 use crate::member::Member;
 use crate::members::{check_members, required};
-use crate::place::Place;
-use crate::refusal::Refusal;
+use crate::place::LinePlace;
+use crate::refusal::LineRefusal;
 use crate::scalar::number_of;
 use crate::txn::{number_at, txns_of};
 use json::{Scratch, Value};
@@ -33,7 +33,7 @@ const MEMBERS: [Member; 4] = [
 
 /// Reads the batch of a line, which is one JSON object. The scratch is kept from line to line, so
 /// that its memory is taken once.
-pub fn read_batch(alloc: Global, line: &[u8], scratch: &mut Scratch) -> Result<Batch, Refusal>
+pub fn read_batch(alloc: Global, line: &[u8], scratch: &mut Scratch) -> Result<Batch, LineRefusal>
     ensures batch { IfOk result (λ batch. batch_of line.now ≡ Some (batch_fields batch)) }
     ensures text { OnOk result (IsUtf8 line.now) }
     ensures refused { IfErr result (λ refusal. refusal.cause ≢ cause.Memory → IsUtf8 line.now
@@ -49,22 +49,22 @@ pub fn read_batch(alloc: Global, line: &[u8], scratch: &mut Scratch) -> Result<B
 }
 
 #[tactic(auto, unfolding(crate::specs::Batches::batch_in))]
-fn batch_in_value(alloc: Global, value: &Value<'_>) -> Result<Batch, Refusal>
+fn batch_in_value(alloc: Global, value: &Value<'_>) -> Result<Batch, LineRefusal>
     ensures reads { Reads batch_fields result (batch_in (value_view value.now)) }
 {
-    check_members(alloc, value, &MEMBERS, Place::Line)?;
+    check_members(alloc, value, &MEMBERS, LinePlace::Line)?;
     members_of(alloc, value)
 }
 
 // Reads a batch whose members are known to be the right ones.
 #[tactic(auto, unfolding(crate::specs::Batches::batch_members))]
-fn members_of(alloc: Global, value: &Value<'_>) -> Result<Batch, Refusal>
+fn members_of(alloc: Global, value: &Value<'_>) -> Result<Batch, LineRefusal>
     ensures reads { Reads batch_fields result (batch_members (value_view value.now)) }
 {
-    let previous = number_at(value, Member::Previous, Place::Line)?;
-    let version = number_at(value, Member::Version, Place::Line)?;
+    let previous = number_at(value, Member::Previous, LinePlace::Line)?;
+    let version = number_at(value, Member::Version, LinePlace::Line)?;
     let received = received_of(value)?;
-    let at = Place::Member(Member::Transactions);
+    let at = LinePlace::Member(Member::Transactions);
     let txns = txns_of(alloc, required(value, Member::Transactions, at)?, at)?;
     check_versions(previous, version, received)?;
     let txns = Txns::new(alloc, txns)?;
@@ -72,30 +72,30 @@ fn members_of(alloc: Global, value: &Value<'_>) -> Result<Batch, Refusal>
 }
 
 // Reads the last received version. It is -1 where nothing is said.
-fn received_of(value: &Value<'_>) -> Result<i64, Refusal>
+fn received_of(value: &Value<'_>) -> Result<i64, LineRefusal>
     ensures reads { Reads (λ n. n) result (received_in (value_view value.now)) }
 {
     match value.get(Member::Received.name()) {
-        Some(received) => number_of(received, Place::Member(Member::Received)),
+        Some(received) => number_of(received, LinePlace::Member(Member::Received)),
         None => Ok(-1),
     }
 }
 
 // Looks that a batch may have these versions.
-fn check_versions(previous: i64, version: i64, received: i64) -> Result<(), Refusal>
+fn check_versions(previous: i64, version: i64, received: i64) -> Result<(), LineRefusal>
     ensures reads { Reads (λ done. done) result (if_so (are_versions previous version received)) }
 {
     if previous < -1 {
-        return Err(Refusal::new(Place::Member(Member::Previous), Cause::BelowNone));
+        return Err(LineRefusal::new(LinePlace::Member(Member::Previous), Cause::BelowNone));
     }
     if version <= previous {
-        return Err(Refusal::new(Place::Member(Member::Version), Cause::NotAbove));
+        return Err(LineRefusal::new(LinePlace::Member(Member::Version), Cause::NotAbove));
     }
     if received < -1 {
-        return Err(Refusal::new(Place::Member(Member::Received), Cause::BelowNone));
+        return Err(LineRefusal::new(LinePlace::Member(Member::Received), Cause::BelowNone));
     }
     if version <= received {
-        return Err(Refusal::new(Place::Member(Member::Received), Cause::NotBelow));
+        return Err(LineRefusal::new(LinePlace::Member(Member::Received), Cause::NotBelow));
     }
     Ok(())
 }

@@ -19,7 +19,7 @@ pub enum Cause {
     NotNumber,
     /// The number has a point or an exponent, or doesn't fit 64 bits.
     #[error("not a whole number of 64 bits")]
-    NotWhole,
+    NotInteger,
     #[error("neither true nor false")]
     NotBool,
     #[error("neither a key nor a pair of keys")]

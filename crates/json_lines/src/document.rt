@@ -9,8 +9,8 @@ ghost use Rattle.json_lines.specs.Memory.{TakesMemory};
 ghost use Rattle.json_lines.specs.declared.cause.Cause.TheVariants as cause;
 
 use crate::cause::Cause;
-use crate::place::Place;
-use crate::refusal::Refusal;
+use crate::place::LinePlace;
+use crate::refusal::LineRefusal;
 use json::{Error, Scratch, Value};
 use std::alloc::Global;
 
@@ -19,7 +19,7 @@ pub fn value_of<'a>(
     alloc: Global,
     line: &'a [u8],
     scratch: &'a mut Scratch,
-) -> Result<Value<'a>, Refusal>
+) -> Result<Value<'a>, LineRefusal>
     ensures value { IfOk result (λ value. document line.now ≡ Some (value_view value)) }
     ensures text { OnOk result (IsUtf8 line.now) }
     ensures refused { IfErr result (λ refusal. refusal.cause ≢ cause.Memory → IsUtf8 line.now
@@ -29,9 +29,9 @@ pub fn value_of<'a>(
 {
     match Value::from_slice(alloc, line, scratch) {
         Ok(value) => Ok(value),
-        Err(Error::OutOfMemory) => Err(Refusal::new(Place::Line, Cause::Memory)),
+        Err(Error::OutOfMemory) => Err(LineRefusal::new(LinePlace::Line, Cause::Memory)),
         Err(Error::Invalid | Error::TooLong | Error::DuplicateKey) => {
-            Err(Refusal::new(Place::Line, Cause::NotJson))
+            Err(LineRefusal::new(LinePlace::Line, Cause::NotJson))
         }
     }
 }

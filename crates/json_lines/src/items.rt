@@ -6,18 +6,21 @@ ghost use Rattle.json.specs.Value.{value_view, items_view};
 ghost use Rattle.json_lines.specs.Values.{Reads, limited};
 
 use crate::cause::Cause;
-use crate::place::Place;
-use crate::refusal::Refusal;
+use crate::place::LinePlace;
+use crate::refusal::LineRefusal;
 use json::Value;
 
 /// Returns the items of an array.
-pub fn items_of<'v, 'a>(value: &'v Value<'a>, place: Place) -> Result<&'v Vec<Value<'a>>, Refusal>
+pub fn items_of<'v, 'a>(
+    value: &'v Value<'a>,
+    place: LinePlace,
+) -> Result<&'v Vec<Value<'a>>, LineRefusal>
     ensures reads { Reads (λ items. items_view items.now.items) result
         (as_array (value_view value.now)) }
 {
     match value {
         Value::Array(items) => Ok(items),
-        _ => Err(Refusal::new(place, Cause::NotArray)),
+        _ => Err(LineRefusal::new(place, Cause::NotArray)),
     }
 }
 
@@ -26,15 +29,15 @@ pub fn few_items_of<'v, 'a>(
     value: &'v Value<'a>,
     limit: usize,
     many: Cause,
-    place: Place,
-) -> Result<&'v Vec<Value<'a>>, Refusal>
+    place: LinePlace,
+) -> Result<&'v Vec<Value<'a>>, LineRefusal>
     ensures reads { Reads (λ items. items_view items.now.items) result
         (limited limit (value_view value.now)) }
     ensures few { IfOk result (λ items. vec_len items.now ≤ limit) }
 {
     let items = items_of(value, place)?;
     if items.len() > limit {
-        return Err(Refusal::new(place, many));
+        return Err(LineRefusal::new(place, many));
     }
     Ok(items)
 }

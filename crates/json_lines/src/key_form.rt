@@ -10,8 +10,8 @@ ghost use Rattle.json_lines.specs.Ranges.{key_within};
 ghost use Rattle.json_lines.specs.Values.{Reads};
 
 use crate::cause::Cause;
-use crate::place::Place;
-use crate::refusal::Refusal;
+use crate::place::LinePlace;
+use crate::refusal::LineRefusal;
 use keys::{Key, MAX_KEY_LENGTH};
 use std::alloc::{AllocError, Global};
 
@@ -119,14 +119,19 @@ fn fault_of(text: &[u8]) -> Cause {
 }
 
 /// Reads a key from its printed form. The place of a refusal is the line.
-pub fn read_key(alloc: Global, text: &[u8]) -> Result<Key, Refusal>
+pub fn read_key(alloc: Global, text: &[u8]) -> Result<Key, LineRefusal>
     ensures reads { Reads (λ key. key) result (key_within MAX_KEY_LENGTH text.now) }
 {
-    Ok(Key::new(key_within(alloc, text, MAX_KEY_LENGTH, Place::Line)?))
+    Ok(Key::new(key_within(alloc, text, MAX_KEY_LENGTH, LinePlace::Line)?))
 }
 
 /// Reads a key of at most n bytes from its text.
-pub fn key_of(alloc: Global, text: &str, limit: usize, place: Place) -> Result<Vec<u8>, Refusal>
+pub fn key_of(
+    alloc: Global,
+    text: &str,
+    limit: usize,
+    place: LinePlace,
+) -> Result<Vec<u8>, LineRefusal>
     ensures reads { Reads (λ key. key.items) result (key_within limit text.now) }
     ensures short { IfOk result (λ key. vec_len key ≤ limit) }
 {
@@ -134,7 +139,12 @@ pub fn key_of(alloc: Global, text: &str, limit: usize, place: Place) -> Result<V
 }
 
 #[tactic(auto, unfolding(crate::specs::Ranges::key_within))]
-fn key_within(alloc: Global, text: &[u8], limit: usize, place: Place) -> Result<Vec<u8>, Refusal>
+fn key_within(
+    alloc: Global,
+    text: &[u8],
+    limit: usize,
+    place: LinePlace,
+) -> Result<Vec<u8>, LineRefusal>
     ensures reads { Reads (λ key. key.items) result (key_within limit text.now) }
     ensures short { IfOk result (λ key. vec_len key ≤ limit) }
 {
@@ -145,20 +155,20 @@ fn key_within(alloc: Global, text: &[u8], limit: usize, place: Place) -> Result<
         } else {
             Cause::SingleKeyLength
         };
-        return Err(Refusal::new(place, cause));
+        return Err(LineRefusal::new(place, cause));
     }
     Ok(key)
 }
 
 // Reads a key from its text.
-fn bytes_of(alloc: Global, text: &[u8], place: Place) -> Result<Vec<u8>, Refusal>
+fn bytes_of(alloc: Global, text: &[u8], place: LinePlace) -> Result<Vec<u8>, LineRefusal>
     ensures reads { Reads (λ key. key.items) result (spelled text.now) }
 {
     let mut key = Vec::new(alloc);
     let mut rest = text;
     while !rest.is_empty() {
         let Some((byte, after)) = byte_at(rest) else {
-            return Err(Refusal::new(place, fault_of(rest)));
+            return Err(LineRefusal::new(place, fault_of(rest)));
         };
         key.push(byte)?;
         rest = after;

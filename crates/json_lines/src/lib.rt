@@ -5,8 +5,8 @@
 //! or a reply), and `Written` (which line is written).
 //!
 //! The layers above use [`read_batch`] and [`read_reply`], which read a line or say which member is
-//! wrong and why ([`Refusal`]); and [`write_batch`] and [`write_reply`], whose lines read back as
-//! what was written ([`laws`]). [`put_key_form`] and [`read_key`] do the same with keys alone.
+//! wrong and why ([`LineRefusal`]); and [`write_batch`] and [`write_reply`], whose lines read back
+//! as what was written ([`laws`]). [`put_key_form`] and [`read_key`] do the same with keys alone.
 #![tactic(auto)]
 
 mod batch;
@@ -33,7 +33,7 @@ pub use cause::Cause;
 pub use json::Scratch;
 pub use key_form::{put_key_form, read_key};
 pub use member::Member;
-pub use place::Place;
-pub use refusal::Refusal;
+pub use place::LinePlace;
+pub use refusal::LineRefusal;
 pub use reply::read_reply;
 pub use reply_writer::write_reply;

@@ -11,8 +11,8 @@ ghost use Rattle.json_lines.specs.Values.{Reads, has_member, are_among, has_only
 use crate::cause::Cause;
 use crate::key_form::put_key_form;
 use crate::member::Member;
-use crate::place::Place;
-use crate::refusal::Refusal;
+use crate::place::LinePlace;
+use crate::refusal::LineRefusal;
 use json::Value;
 use std::alloc::{AllocError, Global};
 
@@ -26,14 +26,14 @@ pub fn check_members(
     alloc: Global,
     value: &Value<'_>,
     names: &[Member],
-    place: Place,
-) -> Result<(), Refusal>
+    place: LinePlace,
+) -> Result<(), LineRefusal>
     ensures reads { Reads (λ done. done) result
         (if_so (has_only (map name_of names.now) (value_view value.now))) }
 {
     match value {
         Value::Object(members) => check_names(alloc, members, names, place),
-        _ => Err(Refusal::new(place, Cause::NotObject)),
+        _ => Err(LineRefusal::new(place, Cause::NotObject)),
     }
 }
 
@@ -41,8 +41,8 @@ fn check_names(
     alloc: Global,
     members: &[(&str, Value<'_>)],
     names: &[Member],
-    place: Place,
-) -> Result<(), Refusal>
+    place: LinePlace,
+) -> Result<(), LineRefusal>
     ensures reads { Reads (λ done. done) result
         (if_so (are_among (map name_of names.now) (members_view members.now))) }
 {
@@ -50,11 +50,11 @@ fn check_names(
         let name = members[index].0;
         if !is_one_of(name, names) {
             let name = shown(alloc, name)?;
-            return Err(Refusal::new(place, Cause::Unknown(name)));
+            return Err(LineRefusal::new(place, Cause::Unknown(name)));
         }
-        if stands_in(name, &members[index + 1..]) {
+        if is_member(name, &members[index + 1..]) {
             let name = shown(alloc, name)?;
-            return Err(Refusal::new(place, Cause::Doubled(name)));
+            return Err(LineRefusal::new(place, Cause::Doubled(name)));
         }
     }
     Ok(())
@@ -71,7 +71,7 @@ fn is_one_of(name: &str, names: &[Member]) -> bool
     false
 }
 
-fn stands_in(name: &str, members: &[(&str, Value<'_>)]) -> bool
+fn is_member(name: &str, members: &[(&str, Value<'_>)]) -> bool
     ensures exact { result ≡ has_member name.now (members_view members.now) }
 {
     for member in members {
@@ -99,13 +99,13 @@ fn shown(alloc: Global, name: &str) -> Result<String, AllocError> {
 pub fn required<'v, 'a>(
     value: &'v Value<'a>,
     member: Member,
-    place: Place,
-) -> Result<&'v Value<'a>, Refusal>
+    place: LinePlace,
+) -> Result<&'v Value<'a>, LineRefusal>
     ensures reads { Reads (λ found. value_view found.now) result
         (get (name_of member) (value_view value.now)) }
 {
     match value.get(member.name()) {
         Some(found) => Ok(found),
-        None => Err(Refusal::new(place, Cause::Missing)),
+        None => Err(LineRefusal::new(place, Cause::Missing)),
     }
 }

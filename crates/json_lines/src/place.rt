@@ -6,7 +6,7 @@ use std::fmt;
 /// The place of a value in a line, as a path from its object: `transactions[0].reads[1]`. Indices
 /// begin at 0.
 #[derive(Clone, Copy, Debug, PartialEq, Eq)]
-pub enum Place {
+pub enum LinePlace {
     /// The line itself, whose path is empty.
     Line,
     /// A member of the line.
@@ -21,44 +21,46 @@ pub enum Place {
     End(Member, usize, Member, usize, usize),
 }
 
-impl Place {
+impl LinePlace {
     /// Returns the place of a member of the object at this place. Objects are the line itself and
     /// items of its lists.
     pub fn member(self, member: Member) -> Self {
         match self {
-            Place::Item(list, index) => Place::ItemMember(list, index, member),
-            Place::Line
-            | Place::Member(_)
-            | Place::ItemMember(_, _, _)
-            | Place::Inner(_, _, _, _)
-            | Place::End(_, _, _, _, _) => Place::Member(member),
+            LinePlace::Item(list, index) => LinePlace::ItemMember(list, index, member),
+            LinePlace::Line
+            | LinePlace::Member(_)
+            | LinePlace::ItemMember(_, _, _)
+            | LinePlace::Inner(_, _, _, _)
+            | LinePlace::End(_, _, _, _, _) => LinePlace::Member(member),
         }
     }
 
     /// Returns the place of an item of the array that stands here.
     pub fn item(self, item: usize) -> Self {
         match self {
-            Place::Member(list) => Place::Item(list, item),
-            Place::ItemMember(list, index, member) => Place::Inner(list, index, member, item),
-            Place::Inner(list, index, member, range) => {
-                Place::End(list, index, member, range, item)
+            LinePlace::Member(list) => LinePlace::Item(list, item),
+            LinePlace::ItemMember(list, index, member) => LinePlace::Inner(
+                list, index, member, item,
+            ),
+            LinePlace::Inner(list, index, member, range) => {
+                LinePlace::End(list, index, member, range, item)
             }
-            Place::Line | Place::Item(_, _) | Place::End(_, _, _, _, _) => self,
+            LinePlace::Line | LinePlace::Item(_, _) | LinePlace::End(_, _, _, _, _) => self,
         }
     }
 }
 
-impl fmt::Display for Place {
+impl fmt::Display for LinePlace {
     fn fmt<W: fmt::Write>(&self, f: &mut fmt::Formatter<W>) -> fmt::Result {
         match *self {
-            Place::Line => Ok(()),
-            Place::Member(member) => write!(f, "{member}"),
-            Place::Item(list, index) => write!(f, "{list}[{index}]"),
-            Place::ItemMember(list, index, member) => write!(f, "{list}[{index}].{member}"),
-            Place::Inner(list, index, member, item) => {
+            LinePlace::Line => Ok(()),
+            LinePlace::Member(member) => write!(f, "{member}"),
+            LinePlace::Item(list, index) => write!(f, "{list}[{index}]"),
+            LinePlace::ItemMember(list, index, member) => write!(f, "{list}[{index}].{member}"),
+            LinePlace::Inner(list, index, member, item) => {
                 write!(f, "{list}[{index}].{member}[{item}]")
             }
-            Place::End(list, index, member, range, end) => {
+            LinePlace::End(list, index, member, range, end) => {
                 write!(f, "{list}[{index}].{member}[{range}][{end}]")
             }
         }

@@ -11,8 +11,8 @@ ghost use Rattle.json_lines.specs.Values.{Reads, each};
 use crate::cause::Cause;
 use crate::items::few_items_of;
 use crate::key_form::key_of;
-use crate::place::Place;
-use crate::refusal::Refusal;
+use crate::place::LinePlace;
+use crate::refusal::LineRefusal;
 use json::Value;
 use keys::{Key, MAX_KEY_LENGTH, Range};
 use keyspace::MAX_RANGES;
@@ -21,7 +21,11 @@ use wire::MAX_SINGLE_KEY_LENGTH;
 
 /// Reads the ranges of a list.
 #[tactic(auto, unfolding(crate::specs::Values::list_in))]
-pub fn ranges_of(alloc: Global, value: &Value<'_>, place: Place) -> Result<Vec<Range>, Refusal>
+pub fn ranges_of(
+    alloc: Global,
+    value: &Value<'_>,
+    place: LinePlace,
+) -> Result<Vec<Range>, LineRefusal>
     ensures reads { Reads (λ ranges. map range_fields ranges.items) result
         (ranges_in (value_view value.now)) }
     ensures few { IfOk result (λ ranges. length ranges.items ≤ MAX_RANGES) }
@@ -30,7 +34,11 @@ pub fn ranges_of(alloc: Global, value: &Value<'_>, place: Place) -> Result<Vec<R
     each_range(alloc, items, place)
 }
 
-fn each_range(alloc: Global, items: &[Value<'_>], place: Place) -> Result<Vec<Range>, Refusal>
+fn each_range(
+    alloc: Global,
+    items: &[Value<'_>],
+    place: LinePlace,
+) -> Result<Vec<Range>, LineRefusal>
     ensures reads { Reads (λ ranges. map range_fields ranges.items) result
         (each range_in (items_view items.now)) }
     ensures count { IfOk result (λ ranges. length ranges.items ≡ length items.now) }
@@ -42,18 +50,18 @@ fn each_range(alloc: Global, items: &[Value<'_>], place: Place) -> Result<Vec<Ra
     Ok(ranges)
 }
 
-fn range_of(alloc: Global, value: &Value<'_>, place: Place) -> Result<Range, Refusal>
+fn range_of(alloc: Global, value: &Value<'_>, place: LinePlace) -> Result<Range, LineRefusal>
     ensures reads { Reads range_fields result (range_in (value_view value.now)) }
 {
     match value {
         Value::String(text) => single_of(alloc, text, place),
         Value::Array(items) => pair_of(alloc, items, place),
-        _ => Err(Refusal::new(place, Cause::NotRange)),
+        _ => Err(LineRefusal::new(place, Cause::NotRange)),
     }
 }
 
 // Reads the range of a single key.
-fn single_of(alloc: Global, text: &str, place: Place) -> Result<Range, Refusal>
+fn single_of(alloc: Global, text: &str, place: LinePlace) -> Result<Range, LineRefusal>
     ensures reads { Reads range_fields result (single_in text.now) }
 {
     let key = key_of(alloc, text, MAX_SINGLE_KEY_LENGTH, place)?;
@@ -65,26 +73,26 @@ fn single_of(alloc: Global, text: &str, place: Place) -> Result<Range, Refusal>
 
 // Reads the range between two keys.
 #[tactic(auto, unfolding(crate::specs::Ranges::pair_in, crate::specs::Ranges::ends_in))]
-fn pair_of(alloc: Global, items: &[Value<'_>], place: Place) -> Result<Range, Refusal>
+fn pair_of(alloc: Global, items: &[Value<'_>], place: LinePlace) -> Result<Range, LineRefusal>
     ensures reads { Reads range_fields result (pair_in (items_view items.now)) }
 {
     if items.len() != 2 {
-        return Err(Refusal::new(place, Cause::NotRange));
+        return Err(LineRefusal::new(place, Cause::NotRange));
     }
     let begin = end_of(alloc, &items[0], place.item(0))?;
     let end = end_of(alloc, &items[1], place.item(1))?;
     if end < begin {
-        return Err(Refusal::new(place, Cause::Inverted));
+        return Err(LineRefusal::new(place, Cause::Inverted));
     }
     Ok(Range::new(begin, end))
 }
 
 // Reads one of the two keys of a pair.
-fn end_of(alloc: Global, value: &Value<'_>, place: Place) -> Result<Key, Refusal>
+fn end_of(alloc: Global, value: &Value<'_>, place: LinePlace) -> Result<Key, LineRefusal>
     ensures reads { Reads (λ key. key) result (key_in (value_view value.now)) }
 {
     let Some(text) = value.as_str() else {
-        return Err(Refusal::new(place, Cause::NotString));
+        return Err(LineRefusal::new(place, Cause::NotString));
     };
     Ok(Key::new(key_of(alloc, text, MAX_KEY_LENGTH, place)?))
 }

@@ -21,8 +21,8 @@ use crate::document::value_of;
 use crate::items::{few_items_of, items_of};
 use crate::member::Member;
 use crate::members::{check_members, required};
-use crate::place::Place;
-use crate::refusal::Refusal;
+use crate::place::LinePlace;
+use crate::refusal::LineRefusal;
 use crate::scalar::number_of;
 use crate::txn::number_at;
 use json::{Scratch, Value};
@@ -35,7 +35,7 @@ const REPORT_MEMBERS: [Member; 1] = [Member::Conflict];
 
 /// Reads the reply of a line, which is one JSON object. The scratch is kept from line to line, so
 /// that its memory is taken once.
-pub fn read_reply(alloc: Global, line: &[u8], scratch: &mut Scratch) -> Result<Reply, Refusal>
+pub fn read_reply(alloc: Global, line: &[u8], scratch: &mut Scratch) -> Result<Reply, LineRefusal>
     ensures reply { IfOk result (λ reply. reply_of line.now ≡ Some (reply_fields reply)) }
     ensures text { OnOk result (IsUtf8 line.now) }
     ensures refused { IfErr result (λ refusal. refusal.cause ≢ cause.Memory → IsUtf8 line.now
@@ -51,29 +51,29 @@ pub fn read_reply(alloc: Global, line: &[u8], scratch: &mut Scratch) -> Result<R
 }
 
 #[tactic(auto, unfolding(crate::specs::Replies::reply_in))]
-fn reply_in_value(alloc: Global, value: &Value<'_>) -> Result<Reply, Refusal>
+fn reply_in_value(alloc: Global, value: &Value<'_>) -> Result<Reply, LineRefusal>
     ensures reads { Reads reply_fields result (reply_in (value_view value.now)) }
 {
-    check_members(alloc, value, &MEMBERS, Place::Line)?;
+    check_members(alloc, value, &MEMBERS, LinePlace::Line)?;
     members_of(alloc, value)
 }
 
 // Reads a reply whose members are known to be the right ones.
 #[tactic(auto, unfolding(crate::specs::Replies::reply_members))]
-fn members_of(alloc: Global, value: &Value<'_>) -> Result<Reply, Refusal>
+fn members_of(alloc: Global, value: &Value<'_>) -> Result<Reply, LineRefusal>
     ensures reads { Reads reply_fields result (reply_members (value_view value.now)) }
 {
-    let version = number_at(value, Member::Version, Place::Line)?;
-    let at = Place::Member(Member::Verdicts);
+    let version = number_at(value, Member::Version, LinePlace::Line)?;
+    let at = LinePlace::Member(Member::Verdicts);
     let entries = entries_of(alloc, required(value, Member::Verdicts, at)?, at)?;
     if version < 0 {
-        return Err(Refusal::new(Place::Member(Member::Version), Cause::Negative));
+        return Err(LineRefusal::new(LinePlace::Member(Member::Version), Cause::Negative));
     }
     Ok(Reply::new(version, Sequence::new(entries)))
 }
 
 #[tactic(auto, unfolding(crate::specs::Values::list_in))]
-fn entries_of(alloc: Global, value: &Value<'_>, place: Place) -> Result<Vec<Entry>, Refusal>
+fn entries_of(alloc: Global, value: &Value<'_>, place: LinePlace) -> Result<Vec<Entry>, LineRefusal>
     ensures reads { Reads (λ entries. map entry_fields entries.items) result
         (entries_in (value_view value.now)) }
     ensures few { IfOk result (λ entries. length entries.items ≤ MAX_TXNS) }
@@ -82,7 +82,11 @@ fn entries_of(alloc: Global, value: &Value<'_>, place: Place) -> Result<Vec<Entr
     each_entry(alloc, items, place)
 }
 
-fn each_entry(alloc: Global, items: &[Value<'_>], place: Place) -> Result<Vec<Entry>, Refusal>
+fn each_entry(
+    alloc: Global,
+    items: &[Value<'_>],
+    place: LinePlace,
+) -> Result<Vec<Entry>, LineRefusal>
     ensures reads { Reads (λ entries. map entry_fields entries.items) result
         (each entry_in (items_view items.now)) }
     ensures count { IfOk result (λ entries. length entries.items ≡ length items.now) }
@@ -94,22 +98,22 @@ fn each_entry(alloc: Global, items: &[Value<'_>], place: Place) -> Result<Vec<En
     Ok(entries)
 }
 
-fn entry_of(alloc: Global, value: &Value<'_>, place: Place) -> Result<Entry, Refusal>
+fn entry_of(alloc: Global, value: &Value<'_>, place: LinePlace) -> Result<Entry, LineRefusal>
     ensures reads { Reads entry_fields result (entry_in (value_view value.now)) }
 {
     match value {
         Value::String(text) => plain_of(alloc, text, place),
         Value::Object(_) => report_of(alloc, value, place),
-        _ => Err(Refusal::new(place, Cause::NotVerdict)),
+        _ => Err(LineRefusal::new(place, Cause::NotVerdict)),
     }
 }
 
 // Reads a verdict without a report.
-fn plain_of(alloc: Global, text: &str, place: Place) -> Result<Entry, Refusal>
+fn plain_of(alloc: Global, text: &str, place: LinePlace) -> Result<Entry, LineRefusal>
     ensures reads { Reads entry_fields result (plain_in text.now) }
 {
     let Some(verdict) = verdict_of(text) else {
-        return Err(Refusal::new(place, Cause::NotVerdict));
+        return Err(LineRefusal::new(place, Cause::NotVerdict));
     };
     Ok(Entry::new(verdict, Places::new(Vec::new(alloc))))
 }
@@ -130,7 +134,7 @@ fn verdict_of(text: &str) -> Option<Verdict>
 
 // Reads a conflict with its report.
 #[tactic(auto, unfolding(crate::specs::Replies::report_in))]
-fn report_of(alloc: Global, value: &Value<'_>, place: Place) -> Result<Entry, Refusal>
+fn report_of(alloc: Global, value: &Value<'_>, place: LinePlace) -> Result<Entry, LineRefusal>
     ensures reads { Reads entry_fields result (report_in (value_view value.now)) }
 {
     check_members(alloc, value, &REPORT_MEMBERS, place)?;
@@ -139,7 +143,7 @@ fn report_of(alloc: Global, value: &Value<'_>, place: Place) -> Result<Entry, Re
     Ok(Entry::new(Verdict::Conflict, Places::new(places)))
 }
 
-fn places_of(alloc: Global, value: &Value<'_>, place: Place) -> Result<Vec<u16>, Refusal>
+fn places_of(alloc: Global, value: &Value<'_>, place: LinePlace) -> Result<Vec<u16>, LineRefusal>
     ensures reads { Reads (λ places. places.items) result (places_in (value_view value.now)) }
     ensures places { IfOk result (λ places. ArePlaces places.items) }
 {
@@ -147,7 +151,7 @@ fn places_of(alloc: Global, value: &Value<'_>, place: Place) -> Result<Vec<u16>,
     each_place(alloc, items, place)
 }
 
-fn each_place(alloc: Global, items: &[Value<'_>], place: Place) -> Result<Vec<u16>, Refusal>
+fn each_place(alloc: Global, items: &[Value<'_>], place: LinePlace) -> Result<Vec<u16>, LineRefusal>
     ensures reads { Reads (λ places. places.items) result (rising 0 (items_view items.now)) }
     ensures places { IfOk result (λ places. ArePlaces places.items) }
 {
@@ -162,13 +166,13 @@ fn each_place(alloc: Global, items: &[Value<'_>], place: Place) -> Result<Vec<u1
 }
 
 // Reads a place that is at least `least`.
-fn place_of(value: &Value<'_>, least: u16, place: Place) -> Result<u16, Refusal>
+fn place_of(value: &Value<'_>, least: u16, place: LinePlace) -> Result<u16, LineRefusal>
     ensures reads { Reads (λ n. n) result (place_in least (value_view value.now)) }
     ensures below { IfOk result (λ n. n < 1024) }
 {
     let number = number_of(value, place)?;
     if number < i64::from(least) || number >= MAX_RANGES as i64 {
-        return Err(Refusal::new(place, Cause::NotPlace));
+        return Err(LineRefusal::new(place, Cause::NotPlace));
     }
     Ok(number as u16)
 }

@@ -12,9 +12,9 @@ use crate::cause::Cause;
 use crate::items::few_items_of;
 use crate::member::Member;
 use crate::members::{check_members, required};
-use crate::place::Place;
+use crate::place::LinePlace;
 use crate::range::ranges_of;
-use crate::refusal::Refusal;
+use crate::refusal::LineRefusal;
 use crate::scalar::{bool_of, number_of};
 use json::Value;
 use keyspace::{MAX_TXNS, Sequence, Txn};
@@ -29,7 +29,7 @@ const MEMBERS: [Member; 4] = [
 
 /// Reads the transactions of a batch.
 #[tactic(auto, unfolding(crate::specs::Values::list_in))]
-pub fn txns_of(alloc: Global, value: &Value<'_>, place: Place) -> Result<Vec<Txn>, Refusal>
+pub fn txns_of(alloc: Global, value: &Value<'_>, place: LinePlace) -> Result<Vec<Txn>, LineRefusal>
     ensures reads { Reads (λ txns. map txn_fields txns.items) result
         (txns_in (value_view value.now)) }
     ensures few { IfOk result (λ txns. length txns.items ≤ MAX_TXNS) }
@@ -38,7 +38,7 @@ pub fn txns_of(alloc: Global, value: &Value<'_>, place: Place) -> Result<Vec<Txn
     each_txn(alloc, items, place)
 }
 
-fn each_txn(alloc: Global, items: &[Value<'_>], place: Place) -> Result<Vec<Txn>, Refusal>
+fn each_txn(alloc: Global, items: &[Value<'_>], place: LinePlace) -> Result<Vec<Txn>, LineRefusal>
     ensures reads { Reads (λ txns. map txn_fields txns.items) result
         (each txn_in (items_view items.now)) }
     ensures count { IfOk result (λ txns. length txns.items ≡ length items.now) }
@@ -51,7 +51,7 @@ fn each_txn(alloc: Global, items: &[Value<'_>], place: Place) -> Result<Vec<Txn>
 }
 
 #[tactic(auto, unfolding(crate::specs::Batches::txn_in))]
-fn txn_of(alloc: Global, value: &Value<'_>, place: Place) -> Result<Txn, Refusal>
+fn txn_of(alloc: Global, value: &Value<'_>, place: LinePlace) -> Result<Txn, LineRefusal>
     ensures reads { Reads txn_fields result (txn_in (value_view value.now)) }
 {
     check_members(alloc, value, &MEMBERS, place)?;
@@ -60,7 +60,7 @@ fn txn_of(alloc: Global, value: &Value<'_>, place: Place) -> Result<Txn, Refusal
 
 // Reads a transaction whose members are known to be the right ones.
 #[tactic(auto, unfolding(crate::specs::Batches::txn_members))]
-fn members_of(alloc: Global, value: &Value<'_>, place: Place) -> Result<Txn, Refusal>
+fn members_of(alloc: Global, value: &Value<'_>, place: LinePlace) -> Result<Txn, LineRefusal>
     ensures reads { Reads txn_fields result (txn_members (value_view value.now)) }
 {
     let snapshot = number_at(value, Member::Snapshot, place)?;
@@ -70,7 +70,7 @@ fn members_of(alloc: Global, value: &Value<'_>, place: Place) -> Result<Txn, Ref
     let at = place.member(Member::Writes);
     let writes = ranges_of(alloc, required(value, Member::Writes, at)?, at)?;
     if snapshot < 0 {
-        return Err(Refusal::new(place.member(Member::Snapshot), Cause::Negative));
+        return Err(LineRefusal::new(place.member(Member::Snapshot), Cause::Negative));
     }
     Ok(Txn::new(
         snapshot,
@@ -81,7 +81,7 @@ fn members_of(alloc: Global, value: &Value<'_>, place: Place) -> Result<Txn, Ref
 }
 
 /// Reads the integer of a required member.
-pub fn number_at(value: &Value<'_>, member: Member, place: Place) -> Result<i64, Refusal>
+pub fn number_at(value: &Value<'_>, member: Member, place: LinePlace) -> Result<i64, LineRefusal>
     ensures reads { Reads (λ n. n) result
         (required number_in (name_of member) (value_view value.now)) }
 {
@@ -90,7 +90,7 @@ pub fn number_at(value: &Value<'_>, member: Member, place: Place) -> Result<i64,
 }
 
 // Reads whether a report is asked for. It isn't where nothing is said.
-fn report_of(value: &Value<'_>, place: Place) -> Result<bool, Refusal>
+fn report_of(value: &Value<'_>, place: LinePlace) -> Result<bool, LineRefusal>
     ensures reads { Reads (λ b. b) result (report_in (value_view value.now)) }
 {
     match value.get(Member::Report.name()) {

@@ -6,7 +6,7 @@ use Rattle.std.proofs.lemmas.List.Elements.{All-filter, Contains-get_or}
 use Rattle.std.proofs.lemmas.List.Kept.{AllPairs-filter}
 use Rattle.std.proofs.lemmas.List.Sorted.{All-permutation, IsPermutation-append_comm, IsPermutation-append_left, IsPermutation-cons, IsPermutation-keeps, IsPermutation-refl, IsPermutation-trans}
 use Rattle.std.proofs.lemmas.Option.{slice_get_within}
-use Rattle.keys.specs.Ranks.{filled_from, AreChosenInOrder, AreInOrder, BeginsFirst}
+use Rattle.keys.specs.GapRuns.{filled_from, AreChosenInOrder, AreInOrder, BeginsFirst}
 use Rattle.keys.specs.Numbering.{IsFilledAt}
 use Rattle.keys.specs.Singles.{HaveInOrder}
 use Rattle.keys.specs.declared.range.Range.{Range}

@@ -9,8 +9,8 @@ use Rattle.std.proofs.lemmas.List.Sorted.{All-permutation, length_permutation}
 use Rattle.std.proofs.lemmas.Option.{slice_get_within, get_or_from_slice_get}
 use Rattle.keys.specs.Range.{IsEmpty, is_filled}
 use Rattle.keys.specs.declared.range.Range.{Range}
-use Rattle.keys.specs.declared.ranks.sorting.Headed.{Headed}
-use Rattle.keys.specs.Ranks.{filled_from}
+use Rattle.keys.specs.declared.gap_runs.sorting.HeadedIndex.{HeadedIndex}
+use Rattle.keys.specs.GapRuns.{filled_from}
 use Rattle.keys.specs.Sorting.{indices_of}
 use Rattle.keys.specs.Numbering.{IsFilledAt}
 use Rattle.keys.proofs.callers.KeyOrder.{not_before_itself}
@@ -84,7 +84,7 @@ filled_few first (r ∷ ranges) =
     elim (is_filled r) as (λ b. length (cond b (first ∷ filled_from (first + 1) ranges) (filled_from (first + 1) ranges))
     ≤ length (r ∷ ranges)) [ true ↦ omega arith | false ↦ omega arith ]
 
-pub sorted_few : (ranges : List Range) (headed : List Headed)
+pub sorted_few : (ranges : List Range) (headed : List HeadedIndex)
     → IsPermutation (filled_from 0 ranges) (indices_of headed) → length headed ≤ length ranges
 sorted_few ranges headed moved =
     omega (
@@ -95,19 +95,19 @@ sorted_few ranges headed moved =
     )
 
 -- the ranges listed aren't empty
-pub sorted_filled : (ranges : List Range) (headed : List Headed)
+pub sorted_filled : (ranges : List Range) (headed : List HeadedIndex)
     → IsPermutation (filled_from 0 ranges) (indices_of headed) → All (IsFilledAt ranges) (indices_of headed)
 sorted_filled ranges headed moved =
     All-permutation (IsFilledAt ranges) (filled_from 0 ranges) (indices_of headed) moved
     (λ k d lt. filled_at ranges (get_or (filled_from 0 ranges) k d) (Contains-get_or (filled_from 0 ranges) k d lt))
 
 -- their indices are below the number of the ranges
-pub sorted_within : (ranges : List Range) (headed : List Headed) (n : ℕ) → n ≡ length ranges
+pub sorted_within : (ranges : List Range) (headed : List HeadedIndex) (n : ℕ) → n ≡ length ranges
     → IsPermutation (filled_from 0 ranges) (indices_of headed) → All (λ h. h.index < n) headed
 sorted_within ranges headed n is moved = λ k d lt.
     let h = get_or headed k d in
     let filled = All-contains (IsFilledAt ranges) (indices_of headed) h.index (sorted_filled ranges headed moved)
-    (contains_value (λ (x : Headed). x.index) headed h (Contains-get_or headed k d lt)) in
+    (contains_value (λ (x : HeadedIndex). x.index) headed h (Contains-get_or headed k d lt)) in
     let below = slice_get_within ranges h.index filled.0 filled.1 in
     omega (arith, below, is)
 
@@ -120,39 +120,39 @@ left_at ranges i r at =
     (drop-cons ranges i r lt ∙ ap (λ y. y ∷ drop (suc i) ranges) (get_or_from_slice_get ranges i r r at))
 
 -- a range that isn't empty is listed, and one that is isn't
-pub filled_listed : (ranges : List Range) (i : ℕ) (r : Range) (done whole : List ℕ) → slice_get ranges i ≡ Some r
-    → is_filled r ≡ true → done ++ filled_from i (drop i ranges) ≡ whole
-    → (done ++ i ∷ []) ++ filled_from (i + 1) (drop (i + 1) ranges) ≡ whole
-filled_listed ranges i r done whole at filled was =
-    let left : done ++ filled_from i (r ∷ drop (i + 1) ranges) ≡ whole =
-    subst (λ rs. done ++ filled_from i rs ≡ whole) (left_at ranges i r at) was in
+pub filled_listed : (ranges : List Range) (i : ℕ) (r : Range) (done entire : List ℕ) → slice_get ranges i ≡ Some r
+    → is_filled r ≡ true → done ++ filled_from i (drop i ranges) ≡ entire
+    → (done ++ i ∷ []) ++ filled_from (i + 1) (drop (i + 1) ranges) ≡ entire
+filled_listed ranges i r done entire at filled was =
+    let left : done ++ filled_from i (r ∷ drop (i + 1) ranges) ≡ entire =
+    subst (λ rs. done ++ filled_from i rs ≡ entire) (left_at ranges i r at) was in
     append_assoc done (i ∷ []) (filled_from (i + 1) (drop (i + 1) ranges)) ∙ (rw filled at left)
 
-pub empty_left_out : (ranges : List Range) (i : ℕ) (r : Range) (done whole : List ℕ) → slice_get ranges i ≡ Some r
-    → is_filled r ≡ false → done ++ filled_from i (drop i ranges) ≡ whole
-    → done ++ filled_from (i + 1) (drop (i + 1) ranges) ≡ whole
-empty_left_out ranges i r done whole at empty was =
-    let left : done ++ filled_from i (r ∷ drop (i + 1) ranges) ≡ whole =
-    subst (λ rs. done ++ filled_from i rs ≡ whole) (left_at ranges i r at) was in
+pub empty_left_out : (ranges : List Range) (i : ℕ) (r : Range) (done entire : List ℕ) → slice_get ranges i ≡ Some r
+    → is_filled r ≡ false → done ++ filled_from i (drop i ranges) ≡ entire
+    → done ++ filled_from (i + 1) (drop (i + 1) ranges) ≡ entire
+empty_left_out ranges i r done entire at empty was =
+    let left : done ++ filled_from i (r ∷ drop (i + 1) ranges) ≡ entire =
+    subst (λ rs. done ++ filled_from i rs ≡ entire) (left_at ranges i r at) was in
     rw empty at left
 
 -- of those that are chosen, one that isn't empty is listed if it is chosen
-pub chosen_listed : (p : ℕ → Bool) (ranges : List Range) (i : ℕ) (r : Range) (done whole : List ℕ)
+pub chosen_listed : (p : ℕ → Bool) (ranges : List Range) (i : ℕ) (r : Range) (done entire : List ℕ)
     → slice_get ranges i ≡ Some r → is_filled r ≡ true → p i ≡ true
-    → done ++ filter p (filled_from i (drop i ranges)) ≡ whole
-    → (done ++ i ∷ []) ++ filter p (filled_from (i + 1) (drop (i + 1) ranges)) ≡ whole
-chosen_listed p ranges i r done whole at filled chosen was =
-    let left : done ++ filter p (filled_from i (r ∷ drop (i + 1) ranges)) ≡ whole =
-    subst (λ rs. done ++ filter p (filled_from i rs) ≡ whole) (left_at ranges i r at) was in
+    → done ++ filter p (filled_from i (drop i ranges)) ≡ entire
+    → (done ++ i ∷ []) ++ filter p (filled_from (i + 1) (drop (i + 1) ranges)) ≡ entire
+chosen_listed p ranges i r done entire at filled chosen was =
+    let left : done ++ filter p (filled_from i (r ∷ drop (i + 1) ranges)) ≡ entire =
+    subst (λ rs. done ++ filter p (filled_from i rs) ≡ entire) (left_at ranges i r at) was in
     append_assoc done (i ∷ []) (filter p (filled_from (i + 1) (drop (i + 1) ranges))) ∙ (rw (filled, chosen) at left)
 
-pub unchosen_left_out : (p : ℕ → Bool) (ranges : List Range) (i : ℕ) (r : Range) (done whole : List ℕ)
+pub unchosen_left_out : (p : ℕ → Bool) (ranges : List Range) (i : ℕ) (r : Range) (done entire : List ℕ)
     → slice_get ranges i ≡ Some r → is_filled r ≡ true → p i ≡ false
-    → done ++ filter p (filled_from i (drop i ranges)) ≡ whole
-    → done ++ filter p (filled_from (i + 1) (drop (i + 1) ranges)) ≡ whole
-unchosen_left_out p ranges i r done whole at filled unchosen was =
-    let left : done ++ filter p (filled_from i (r ∷ drop (i + 1) ranges)) ≡ whole =
-    subst (λ rs. done ++ filter p (filled_from i rs) ≡ whole) (left_at ranges i r at) was in
+    → done ++ filter p (filled_from i (drop i ranges)) ≡ entire
+    → done ++ filter p (filled_from (i + 1) (drop (i + 1) ranges)) ≡ entire
+unchosen_left_out p ranges i r done entire at filled unchosen was =
+    let left : done ++ filter p (filled_from i (r ∷ drop (i + 1) ranges)) ≡ entire =
+    subst (λ rs. done ++ filter p (filled_from i rs) ≡ entire) (left_at ranges i r at) was in
     rw (filled, unchosen) at left
 
 -- what a test for emptiness tells

@@ -13,8 +13,8 @@ word a bytes long = head_of-bytes a bytes ∙ take-append-le 8 a (replicate 8 0)
 
 module _ (a b : List ℕ) (a_bytes : IsBytes a) (b_bytes : IsBytes b) (a_long : 8 ≤ length a) (b_long : 8 ≤ length b) (n : ℕ) where
   -- as far as the heads begin alike
-  pub alike_by_heads : n ≤ 8 → take n (to_be_bytes w64 (head_of a)) ≡ take n (to_be_bytes w64 (head_of b)) → take n a ≡ take n b
-  alike_by_heads few same =
+  pub equal_by_heads : n ≤ 8 → take n (to_be_bytes w64 (head_of a)) ≡ take n (to_be_bytes w64 (head_of b)) → take n a ≡ take n b
+  equal_by_heads few same =
       sym (take-take n 8 a few) ∙ ap (take n) (sym (word a a_bytes a_long)) ∙ same ∙ ap (take n) (word b b_bytes b_long)
       ∙ take-take n 8 b few
 

@@ -47,10 +47,10 @@ use Rattle.std.proofs.lemmas.List.Sorted.{ranks_by, sorted_far}
 use Rattle.keys.specs.Key.{is_before, IsBefore, IsAtMost}
 use Rattle.keys.proofs.callers.KeyOrder.{before_at_most, before_or_same, not_before_itself}
 use Rattle.keys.specs.declared.range.Range.{Range}
-use Rattle.keys.specs.declared.ranks.sorting.Headed.{Headed}
-use Rattle.keys.specs.Ranks.{rank, AreRising}
+use Rattle.keys.specs.declared.gap_runs.sorting.HeadedIndex.{HeadedIndex}
+use Rattle.keys.specs.GapRuns.{rank, AreRising}
 use Rattle.keys.specs.Sorting.{begin_at, begins_of, AreInBeginOrder}
-use Rattle.keys.proofs.Ranking.{rank_behind, rank_push, rank_kept}
+use Rattle.keys.proofs.Ranking.{rank_after, rank_push, rank_kept}
 
 pub not_true : (b : Bool) → b ≡ false → b ≡ true → ⊥
 not_true true f t = cc
@@ -60,11 +60,11 @@ not_true false f t = cc
 rank_of_last : (keys : List (List ℕ)) (last : List ℕ) → AreRising (keys ++ last ∷ [])
     → rank (keys ++ last ∷ []) last ≡ length keys
 rank_of_last keys last rising =
-    let before = rank_behind keys last (λ k d lt. behind k d lt) in
+    let before = rank_after keys last (λ k d lt. following k d lt) in
     rw (rank_push keys last last, not_before_itself last, before) (omega arith)
   where
-    behind : All (λ k. IsBefore k last) keys
-    behind k d lt =
+    following : All (λ k. IsBefore k last) keys
+    following k d lt =
         let this = get_or_append_left keys (last ∷ []) d k lt in
         let that = get_or_push keys last d (length keys) refl in
         subst (λ x. IsBefore x last) this
@@ -214,26 +214,26 @@ kept_next done key keys next kept up (inr (differs, e)) =
         (all_before keys key kept.rising keys_up (λ ends. differs ((kept.last key).1 ends)))
 
 -- no begin of the ranges before is after that of the next one
-pub up_to_next : (ranges : List Range) (headed : List Headed) (i : ℕ) (d : Headed) → i < length headed
+pub up_to_next : (ranges : List Range) (headed : List HeadedIndex) (i : ℕ) (d : HeadedIndex) → i < length headed
     → AreInBeginOrder ranges headed
     → All (λ k. IsAtMost k (begin_at ranges (get_or headed i d).index)) (begins_of ranges (take i headed))
 up_to_next ranges headed i d lt sorted =
-    All-map (λ k. IsAtMost k (begin_at ranges (get_or headed i d).index)) (λ (x : Headed). begin_at ranges x.index)
+    All-map (λ k. IsAtMost k (begin_at ranges (get_or headed i d).index)) (λ (x : HeadedIndex). begin_at ranges x.index)
     (take i headed) (λ k e below.
     let short : k < i = rw (length-take-le i headed (omega arith)) at below in
     let same = get_or-take i headed k e short in
     let there = get_or_default headed k d e (omega arith) in
-    let f = λ (x : Headed). begin_at ranges x.index in
+    let f = λ (x : HeadedIndex). begin_at ranges x.index in
     let far = sorted_far (λ x y. is_before (f x) (f y)) (ranks_by nat_list_cmp_total f) headed sorted k i d
     (omega arith) lt in
     subst (λ x. IsAtMost (f x) (f (get_or headed i d))) (sym (same ∙ sym there)) (ap not far))
 
 -- the last begin of the ranges before one is that of the range right before it
-pub last_before : (ranges : List Range) (headed : List Headed) (i : ℕ) (d : Headed) (key : List ℕ) → i ≢ 0
+pub last_before : (ranges : List Range) (headed : List HeadedIndex) (i : ℕ) (d : HeadedIndex) (key : List ℕ) → i ≢ 0
     → i < length headed
     → EndsWith (begins_of ranges (take i headed)) key ↔ (begin_at ranges (get_or headed (i - 1) d).index ≡ key)
 last_before ranges headed i d key some within =
-    let f = λ (x : Headed). begin_at ranges x.index in
+    let f = λ (x : HeadedIndex). begin_at ranges x.index in
     let one : i ≡ i - 1 + 1 = omega (arith, some) in
     subst (λ n. EndsWith (begins_of ranges (take n headed)) key ↔ (f (get_or headed (i - 1) d) ≡ key)) (sym one)
     (rw (map_more f headed (i - 1) d (omega arith))

@@ -5,8 +5,8 @@ use Rattle.std.proofs.lemmas.Bool.{cases_eq}
 use Rattle.std.proofs.lemmas.List.{get_or-set_other, get_or-set_same, length_push, map_push, take_more}
 use Rattle.std.proofs.lemmas.List.Elements.{All-contains, All-nil, All-push, Contains-append_left, Contains-get_or, Contains-push}
 use Rattle.keys.specs.declared.range.Range.{Range}
-use Rattle.keys.specs.declared.ranks.sorting.Headed.{Headed}
-use Rattle.keys.specs.Ranks.{rank}
+use Rattle.keys.specs.declared.gap_runs.sorting.HeadedIndex.{HeadedIndex}
+use Rattle.keys.specs.GapRuns.{rank}
 use Rattle.keys.specs.Sorting.{begin_at, begins_of, indices_of, AreInBeginOrder}
 use Rattle.keys.specs.Numbering.{AreNumbered, IsNumbered, OthersStay}
 use Rattle.keys.proofs.Sorting.{no_headed}
@@ -14,7 +14,7 @@ use Rattle.keys.proofs.Kept.{EndsWith, Kept, KeptNext, IsNext, kept_none, kept_n
 use Rattle.keys.proofs.Values.{begin_of_listed}
 
 -- the keys are the begins of the ranges listed, and the runs of these are numbered
-pub record AreNumberedSoFar (ranges : List Range) (headed : List Headed) (keys : List (List ℕ)) (begins : ℕ)
+pub record AreNumberedSoFar (ranges : List Range) (headed : List HeadedIndex) (keys : List (List ℕ)) (begins : ℕ)
     (runs : List (ℕ × ℕ)) : Type 0 where
   pub kept : Kept (begins_of ranges headed) keys
   pub count : begins ≡ length keys
@@ -29,7 +29,7 @@ pub more_less_one : (more : ℕ) → 0 < more → more - 1 + 1 ≡ more
 more_less_one more some = omega arith
 
 -- one range more is numbered
-module _ (ranges : List Range) (headed : List Headed) (d : Headed) (keys next : List (List ℕ)) (begins more : ℕ)
+module _ (ranges : List Range) (headed : List HeadedIndex) (d : HeadedIndex) (keys next : List (List ℕ)) (begins more : ℕ)
     (runs : List (ℕ × ℕ)) (were : AreNumberedSoFar ranges headed keys begins runs)
     (kept : KeptNext (begins_of ranges headed) (begin_at ranges d.index) keys next) (is : more ≡ length next)
     (within : d.index < length runs) where
@@ -61,9 +61,9 @@ module _ (ranges : List Range) (headed : List Headed) (d : Headed) (keys next : 
 
   pub numbered_next : AreNumberedSoFar ranges (headed ++ d ∷ []) next more after
   numbered_next = record {
-    kept = subst (λ ks. Kept ks next) (sym (map_push (λ (h : Headed). begin_at ranges h.index) headed d)) kept.kept;
+    kept = subst (λ ks. Kept ks next) (sym (map_push (λ (h : HeadedIndex). begin_at ranges h.index) headed d)) kept.kept;
     count = is;
-    numbers = subst (All (IsNumbered ranges next after)) (sym (map_push (λ (h : Headed). h.index) headed d))
+    numbers = subst (All (IsNumbered ranges next after)) (sym (map_push (λ (h : HeadedIndex). h.index) headed d))
         (All-push (IsNumbered ranges next after) (indices_of headed) d.index
         (λ k i lt. there (get_or (indices_of headed) k i) (Contains-get_or (indices_of headed) k i lt)) here);
   }
@@ -99,7 +99,7 @@ counted_few done key begins more i few (inl (ends, e)) = omega (arith, e)
 counted_few done key begins more i few (inr (differs, e)) = omega (arith, e)
 
 -- once all are
-pub numbered_all : (ranges : List Range) (headed : List Headed) (keys : List (List ℕ)) (begins : ℕ)
+pub numbered_all : (ranges : List Range) (headed : List HeadedIndex) (keys : List (List ℕ)) (begins : ℕ)
     (runs : List (ℕ × ℕ)) → AreNumberedSoFar ranges headed keys begins runs → AreNumbered ranges headed keys begins runs
 numbered_all ranges headed keys begins runs are = record {
   each_once = record { rising = are.kept.rising; same = are.kept.same };
@@ -108,7 +108,7 @@ numbered_all ranges headed keys begins runs are = record {
 }
 
 -- the next of the ranges is numbered
-pub numbered_more : (ranges : List Range) (all : List Headed) (i : ℕ) (keys : List (List ℕ)) (begins more : ℕ)
+pub numbered_more : (ranges : List Range) (all : List HeadedIndex) (i : ℕ) (keys : List (List ℕ)) (begins more : ℕ)
     (runs : List (ℕ × ℕ)) → i < length all → AreInBeginOrder ranges all
     → AreNumberedSoFar ranges (take i all) keys begins runs
     → IsCounted (begins_of ranges (take i all)) (begin_at ranges (get_or all i no_headed).index) begins more
@@ -128,14 +128,14 @@ numbered_more ranges all i keys begins more runs below sorted were counted withi
     )
 
 -- the runs of the ranges that aren't listed stay
-pub others_more : (all : List Headed) (i : ℕ) (runs now : List (ℕ × ℕ)) (run : ℕ × ℕ) → i < length all
+pub others_more : (all : List HeadedIndex) (i : ℕ) (runs now : List (ℕ × ℕ)) (run : ℕ × ℕ) → i < length all
     → OthersStay (take i all) runs now
     → OthersStay (take (i + 1) all) runs (set now (get_or all i no_headed).index run)
 others_more all i runs now run below stay =
     let d = get_or all i no_headed in
     subst (λ hs. OthersStay hs runs (set now d.index run)) (sym (take_more all i no_headed below)) (λ index none.
     let not : ¬ Contains (indices_of (take i all) ++ d.index ∷ []) index =
-    subst (λ is. ¬ Contains is index) (map_push (λ (h : Headed). h.index) (take i all) d) none in
+    subst (λ is. ¬ Contains is index) (map_push (λ (h : HeadedIndex). h.index) (take i all) d) none in
     let other : index ≡ d.index → ⊥ =
     λ e. not (subst (Contains (indices_of (take i all) ++ d.index ∷ [])) (sym e)
     (Contains-push (indices_of (take i all)) d.index)) in

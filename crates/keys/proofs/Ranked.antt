@@ -10,8 +10,8 @@ use Rattle.std.proofs.lemmas.Option.{get_or_from_slice_get, same_Some, slice_get
 use Rattle.keys.specs.Key.{IsAtMost}
 use Rattle.keys.specs.Range.{is_filled}
 use Rattle.keys.specs.declared.range.Range.{Range}
-use Rattle.keys.specs.declared.ranks.sorting.Headed.{Headed}
-use Rattle.keys.specs.Ranks.{rank, run_or_none, runs_of, filled_from, AreBegins, AreInOrder, BeginsFirst, HaveBegin, IsBeginIn}
+use Rattle.keys.specs.declared.gap_runs.sorting.HeadedIndex.{HeadedIndex}
+use Rattle.keys.specs.GapRuns.{rank, run_or_none, runs_of, filled_from, AreBegins, AreInOrder, BeginsFirst, HaveBegin, IsBeginIn}
 use Rattle.keys.specs.Sorting.{begin_at, begin_of, indices_of, AreInBeginOrder}
 use Rattle.keys.specs.Numbering.{end_at, end_of, run_at, AreEachOnce, HasRun, IsFilledAt, OthersStay}
 use Rattle.keys.proofs.callers.Meeting.{before_unless_empty, not_empty}
@@ -22,7 +22,7 @@ use Rattle.keys.proofs.Reaching.{begins_rise}
 use Rattle.keys.proofs.Values.{begin_of_listed, contains_value, value_of}
 
 -- the ranges that aren't empty are listed in the order of their begins, which are these keys
-module _ (ranges : List Range) (headed : List Headed) (keys : List (List ℕ))
+module _ (ranges : List Range) (headed : List HeadedIndex) (keys : List (List ℕ))
     (moved : IsPermutation (filled_from 0 ranges) (indices_of headed)) (once : AreEachOnce ranges headed keys) where
   listed : (index : ℕ) → IsFilledAt ranges index → Contains (indices_of headed) index
   listed index filled =
@@ -45,10 +45,10 @@ module _ (ranges : List Range) (headed : List Headed) (keys : List (List ℕ))
   begins_only : All (IsBeginIn ranges) keys
   begins_only k d lt =
       let key = get_or keys k d in
-      let h = value_of (λ (x : Headed). begin_at ranges x.index) headed key
+      let h = value_of (λ (x : HeadedIndex). begin_at ranges x.index) headed key
       ((once.same key).1 (Contains-get_or keys k d lt)) in
       let index = h.0.index in
-      let r = listed_is_filled index (contains_value (λ (x : Headed). x.index) headed h.0 h.1) in (
+      let r = listed_is_filled index (contains_value (λ (x : HeadedIndex). x.index) headed h.0 h.1) in (
         index,
         r.0,
         slice_get_within ranges index r.0 r.1,
@@ -91,11 +91,11 @@ module _ (ranges : List Range) (headed : List Headed) (keys : List (List ℕ))
       ])
 
 -- the indices are in the order of the begins
-pub begins_first : (ranges : List Range) (headed : List Headed) → AreInBeginOrder ranges headed
+pub begins_first : (ranges : List Range) (headed : List HeadedIndex) → AreInBeginOrder ranges headed
     → AllPairs (BeginsFirst ranges) (indices_of headed)
 begins_first ranges headed sorted = λ i j d lt within a b at_i at_j.
     let n = length-map {B = ℕ} headed (λ h. h.index) in
-    let index = λ (h : Headed). h.index in
+    let index = λ (h : HeadedIndex). h.index in
     let i_lt : i < length headed = omega (arith, n) in
     let j_lt : j < length headed = omega (arith, n) in
     let of_i = get_or-map index headed i no_headed d i_lt in
@@ -108,13 +108,13 @@ begins_first ranges headed sorted = λ i j d lt within a b at_i at_j.
     (subst (λ key. IsAtMost (begin_at ranges (get_or headed i no_headed).index) key) begin_j
     (begins_rise ranges headed i j no_headed sorted (omega arith) j_lt))
 
-pub are_in_order : (ranges : List Range) (headed : List Headed) → AreInBeginOrder ranges headed
+pub are_in_order : (ranges : List Range) (headed : List HeadedIndex) → AreInBeginOrder ranges headed
     → IsPermutation (filled_from 0 ranges) (indices_of headed) → AreInOrder ranges (indices_of headed)
 are_in_order ranges headed sorted moved =
     record { in_order = begins_first ranges headed sorted; all = moved }
 
 -- a list that was written over the whole of another
-pub written_whole : {X : Type 0} (n : ℕ) (new old : List X) → length new ≡ n
+pub written_entire : {X : Type 0} (n : ℕ) (new old : List X) → length new ≡ n
     → take n (new ++ drop (length new) old) ≡ new
-written_whole n new old is =
+written_entire n new old is =
     subst (λ k. take k (new ++ drop (length new) old) ≡ new) is (take-append_seam new (drop (length new) old))

@@ -3,7 +3,7 @@ use Rattle.std.proofs.Common.{◌≡◌, ℕ, ◌+◌, Bool, cond, List, [], ◌
 use Rattle.std.proofs.lemmas.List.Elements.{All-head, All-tail}
 use Rattle.std.proofs.lemmas.List.Sums.{sum_by-cons, sum_by_push}
 use Rattle.keys.specs.Key.{is_before, IsBefore, IsAtMost}
-use Rattle.keys.specs.Ranks.{rank}
+use Rattle.keys.specs.GapRuns.{rank}
 use Rattle.keys.proofs.callers.KeyOrder.{not_before_if}
 
 -- what a key adds to the rank of another
@@ -15,11 +15,11 @@ pub rank_cons : (x : List ℕ) (keys : List (List ℕ)) (key : List ℕ)
 rank_cons x keys key = sum_by-cons (λ k. one_if (is_before k key)) x keys
 
 -- the rank of a key behind all the keys is their number
-pub rank_behind : (keys : List (List ℕ)) (key : List ℕ) → All (λ k. IsBefore k key) keys → rank keys key ≡ length keys
-rank_behind [] key all = refl
-rank_behind (k ∷ keys) key all =
+pub rank_after : (keys : List (List ℕ)) (key : List ℕ) → All (λ k. IsBefore k key) keys → rank keys key ≡ length keys
+rank_after [] key all = refl
+rank_after (k ∷ keys) key all =
     let first : IsBefore k key = All-head (λ k. IsBefore k key) k keys all in
-    let rest = rank_behind keys key (All-tail (λ k. IsBefore k key) k keys all) in
+    let rest = rank_after keys key (All-tail (λ k. IsBefore k key) k keys all) in
     rw (rank_cons k keys key, first, rest) (omega arith)
 
 -- a further key counts if it is before the one ranked

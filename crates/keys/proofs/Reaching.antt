@@ -8,15 +8,15 @@ use Rattle.std.proofs.lemmas.List.Elements.{All-contains, All-nil, All-push, Con
 use Rattle.std.proofs.lemmas.List.Sorted.{ranks_by, sorted_far}
 use Rattle.keys.specs.Key.{is_before, IsBefore, IsAtMost}
 use Rattle.keys.specs.declared.range.Range.{Range}
-use Rattle.keys.specs.declared.ranks.sorting.Headed.{Headed}
+use Rattle.keys.specs.declared.gap_runs.sorting.HeadedIndex.{HeadedIndex}
 use Rattle.keys.specs.Range.{IsSingle}
-use Rattle.keys.specs.Ranks.{rank}
+use Rattle.keys.specs.GapRuns.{rank}
 use Rattle.keys.specs.Sorting.{begin_at, begin_of, indices_of, AreInBeginOrder}
 use Rattle.keys.specs.Numbering.{end_at, end_of, run_at, AreEachOnce, AreNumbered, HasRun, IsFilledAt, IsNumbered, OthersStay}
 use Rattle.keys.proofs.callers.KeyOrder.{at_most_before, before_at_most, not_before_if}
 use Rattle.keys.proofs.Sorting.{no_headed}
-use Rattle.keys.proofs.Ranking.{rank_behind, rank_same}
-use Rattle.keys.proofs.SingleKeys.{rank_behind_key}
+use Rattle.keys.proofs.Ranking.{rank_after, rank_same}
+use Rattle.keys.proofs.SingleKeys.{rank_after_key}
 use Rattle.keys.proofs.Values.{begin_of_listed, contains_value, value_of}
 
 -- there is a range at the index, and it is a single key
@@ -31,7 +31,7 @@ pub record AreReached (ranges : List Range) (keys : List (List ℕ)) (all done :
   pub singles : (i : ℕ) → Contains all i → IsSingleAt ranges i → (run_at runs i).1 ≡ rank keys (end_at ranges i)
 
 -- a single key ends before the next other begin
-single_reached : (ranges : List Range) (headed : List Headed) (keys : List (List ℕ)) (begins : ℕ)
+single_reached : (ranges : List Range) (headed : List HeadedIndex) (keys : List (List ℕ)) (begins : ℕ)
     (runs : List (ℕ × ℕ)) → AreNumbered ranges headed keys begins runs → (i : ℕ) → Contains (indices_of headed) i
     → IsSingleAt ranges i → (run_at runs i).1 ≡ rank keys (end_at ranges i)
 single_reached ranges headed keys begins runs are i listed (range, at, single) =
@@ -40,9 +40,9 @@ single_reached ranges headed keys begins runs are i listed (range, at, single) =
     ap end_of at ∙ (single ∙ ap (λ (k : List ℕ). k ++ 0 ∷ []) (sym (ap begin_of at))) in
     let has = (are.each_once.same key).0 (begin_of_listed ranges headed i listed) in
     ap (λ (run : ℕ × ℕ). run.1) (All-contains (IsNumbered ranges keys runs) (indices_of headed) i are.numbers listed)
-    ∙ sym (ap (rank keys) end ∙ rank_behind_key keys key are.each_once.rising has)
+    ∙ sym (ap (rank keys) end ∙ rank_after_key keys key are.each_once.rising has)
 
-pub none_reached : (ranges : List Range) (headed : List Headed) (keys : List (List ℕ)) (begins : ℕ)
+pub none_reached : (ranges : List Range) (headed : List HeadedIndex) (keys : List (List ℕ)) (begins : ℕ)
     (runs : List (ℕ × ℕ)) → AreNumbered ranges headed keys begins runs
     → AreReached ranges keys (indices_of headed) [] runs
 none_reached ranges headed keys begins runs are = record {
@@ -96,7 +96,7 @@ module _ (ranges : List Range) (keys : List (List ℕ)) (all done : List ℕ) (r
   }
 
 -- the next of the ranges is reached
-pub reached_more : (ranges : List Range) (keys : List (List ℕ)) (headed : List Headed) (i reached : ℕ)
+pub reached_more : (ranges : List Range) (keys : List (List ℕ)) (headed : List HeadedIndex) (i reached : ℕ)
     (runs : List (ℕ × ℕ)) → i < length headed
     → AreReached ranges keys (indices_of headed) (indices_of (take i headed)) runs
     → (get_or headed i no_headed).index < length runs
@@ -108,20 +108,20 @@ reached_more ranges keys headed i reached runs below were within is =
     let now = set runs d.index ((run_at runs d.index).0, reached) in
     subst (λ hs. AreReached ranges keys (indices_of headed) (indices_of hs) now) (sym (take_more headed i no_headed below))
     (subst (λ is. AreReached ranges keys (indices_of headed) is now)
-    (sym (map_push (λ (h : Headed). h.index) (take i headed) d))
+    (sym (map_push (λ (h : HeadedIndex). h.index) (take i headed) d))
     (reached_next ranges keys (indices_of headed) (indices_of (take i headed)) runs d.index reached were within is))
 
 -- the next of the ranges is reached as it is, if it is a single key
-pub single_more : (ranges : List Range) (keys : List (List ℕ)) (headed : List Headed) (i : ℕ) (runs : List (ℕ × ℕ))
+pub single_more : (ranges : List Range) (keys : List (List ℕ)) (headed : List HeadedIndex) (i : ℕ) (runs : List (ℕ × ℕ))
     → i < length headed → AreReached ranges keys (indices_of headed) (indices_of (take i headed)) runs
     → IsSingleAt ranges (get_or headed i no_headed).index
     → AreReached ranges keys (indices_of headed) (indices_of (take (i + 1) headed)) runs
 single_more ranges keys headed i runs below were single =
     let d = get_or headed i no_headed in
-    let listed = contains_value (λ (h : Headed). h.index) headed d (Contains-get_or headed i no_headed below) in
+    let listed = contains_value (λ (h : HeadedIndex). h.index) headed d (Contains-get_or headed i no_headed below) in
     subst (λ hs. AreReached ranges keys (indices_of headed) (indices_of hs) runs) (sym (take_more headed i no_headed below))
     (subst (λ is. AreReached ranges keys (indices_of headed) is runs)
-    (sym (map_push (λ (h : Headed). h.index) (take i headed) d)) (record {
+    (sym (map_push (λ (h : HeadedIndex). h.index) (take i headed) d)) (record {
       begins = were.begins;
       ends = All-push (λ i. (run_at runs i).1 ≡ rank keys (end_at ranges i)) (indices_of (take i headed)) d.index were.ends
           (were.singles d.index listed single);
@@ -129,11 +129,11 @@ single_more ranges keys headed i runs below were single =
     }))
 
 -- a later range doesn't begin before an earlier one
-pub begins_rise : (ranges : List Range) (headed : List Headed) (i j : ℕ) (d : Headed) → AreInBeginOrder ranges headed
+pub begins_rise : (ranges : List Range) (headed : List HeadedIndex) (i j : ℕ) (d : HeadedIndex) → AreInBeginOrder ranges headed
     → i ≤ j → j < length headed
     → IsAtMost (begin_at ranges (get_or headed i d).index) (begin_at ranges (get_or headed j d).index)
 begins_rise ranges headed i j d sorted le lt =
-    let begin = λ (h : Headed). begin_at ranges h.index in
+    let begin = λ (h : HeadedIndex). begin_at ranges h.index in
     ap not
     (sorted_far (λ a b. is_before (begin a) (begin b)) (ranks_by nat_list_cmp_total begin) headed sorted i j d le lt)
 
@@ -143,24 +143,24 @@ pub begin_before_end : (ranges : List Range) (index : ℕ) → IsFilledAt ranges
 begin_before_end ranges index (range, at, filled) = rw at filled
 
 -- the first so many ranges begin below the end, and the others don't
-pub record AreSplit (ranges : List Range) (headed : List Headed) (end : List ℕ) (m : ℕ) : Type 0 where
-  pub below : (k : ℕ) (d : Headed) → k < m → k < length headed
+pub record AreSplit (ranges : List Range) (headed : List HeadedIndex) (end : List ℕ) (m : ℕ) : Type 0 where
+  pub below : (k : ℕ) (d : HeadedIndex) → k < m → k < length headed
       → IsBefore (begin_at ranges (get_or headed k d).index) end
-  pub behind : (k : ℕ) (d : Headed) → m ≤ k → k < length headed
+  pub following : (k : ℕ) (d : HeadedIndex) → m ≤ k → k < length headed
       → IsAtMost end (begin_at ranges (get_or headed k d).index)
 
 -- the ranges up to one begin below its end, and so do as many of the others as are counted
-pub split_at : (ranges : List Range) (headed : List Headed) (i n : ℕ) (rest : List Headed)
+pub split_at : (ranges : List Range) (headed : List HeadedIndex) (i n : ℕ) (rest : List HeadedIndex)
     → AreInBeginOrder ranges headed
     → i < length headed → IsFilledAt ranges (get_or headed i no_headed).index → rest ≡ drop (i + 1) headed
     → n ≤ length rest
     → All (λ h. IsBefore (begin_at ranges h.index) (end_at ranges (get_or headed i no_headed).index)) (take n rest)
     → All (λ h. IsAtMost (end_at ranges (get_or headed i no_headed).index) (begin_at ranges h.index)) (drop n rest)
     → AreSplit ranges headed (end_at ranges (get_or headed i no_headed).index) (i + 1 + n)
-split_at ranges headed i n rest sorted lt filled is few below behind =
+split_at ranges headed i n rest sorted lt filled is few below following =
     let end = end_at ranges (get_or headed i no_headed).index in
     let long : length rest ≡ length headed - (i + 1) = ap length is ∙ length-drop (i + 1) headed in
-    let at : (k : ℕ) (d : Headed) → get_or rest k d ≡ get_or headed (i + 1 + k) d =
+    let at : (k : ℕ) (d : HeadedIndex) → get_or rest k d ≡ get_or headed (i + 1 + k) d =
     λ k d. ap (λ hs. get_or hs k d) is ∙ get_or-drop (i + 1) headed k d in
     record {
       below = λ k d first k_lt.
@@ -170,35 +170,35 @@ split_at ranges headed i n rest sorted lt filled is few below behind =
                 let short : j < n = omega arith in
                 let same : i + 1 + j ≡ k = omega arith in
                 subst (λ q. IsBefore (begin_at ranges (get_or headed q d).index) end) same
-                (subst (λ (h : Headed). IsBefore (begin_at ranges h.index) end)
+                (subst (λ (h : HeadedIndex). IsBefore (begin_at ranges h.index) end)
                 (get_or-take n rest j d short ∙ at j d)
                 (below j d (omega (arith, length-take-le n rest few))))
             | inr up ↦
-                subst (λ (h : Headed). IsBefore (begin_at ranges h.index) end)
+                subst (λ (h : HeadedIndex). IsBefore (begin_at ranges h.index) end)
                 (get_or_default headed k no_headed d k_lt)
                 (at_most_before (begin_at ranges (get_or headed k no_headed).index)
                 (begin_at ranges (get_or headed i no_headed).index) end
                 (begins_rise ranges headed k i no_headed sorted up lt)
                 (begin_before_end ranges (get_or headed i no_headed).index filled))
           ];
-      behind = λ k d from k_lt.
+      following = λ k d from k_lt.
           let j = k - (i + 1 + n) in
           let same : i + 1 + (n + j) ≡ k = omega arith in
           subst (λ q. IsAtMost end (begin_at ranges (get_or headed q d).index)) same
-          (subst (λ (h : Headed). IsAtMost end (begin_at ranges h.index)) (get_or-drop n rest j d ∙ at (n + j) d)
-          (behind j d (omega (arith, length-drop n rest))));
+          (subst (λ (h : HeadedIndex). IsAtMost end (begin_at ranges h.index)) (get_or-drop n rest j d ∙ at (n + j) d)
+          (following j d (omega (arith, length-drop n rest))));
     }
 
 -- a key is the begin of some range listed
-key_place : (ranges : List Range) (headed : List Headed) (keys : List (List ℕ)) (key : List ℕ)
+key_place : (ranges : List Range) (headed : List HeadedIndex) (keys : List (List ℕ)) (key : List ℕ)
     → AreEachOnce ranges headed keys → Contains keys key
-    → (k : ℕ) × (d : Headed) × (k < length headed) × (begin_at ranges (get_or headed k d).index ≡ key)
+    → (k : ℕ) × (d : HeadedIndex) × (k < length headed) × (begin_at ranges (get_or headed k d).index ≡ key)
 key_place ranges headed keys key once has =
-    let h = value_of (λ (x : Headed). begin_at ranges x.index) headed key ((once.same key).1 has) in
-    (h.1.0, h.0, h.1.1, ap (λ (x : Headed). begin_at ranges x.index) h.1.2 ∙ h.2)
+    let h = value_of (λ (x : HeadedIndex). begin_at ranges x.index) headed key ((once.same key).1 has) in
+    (h.1.0, h.0, h.1.1, ap (λ (x : HeadedIndex). begin_at ranges x.index) h.1.2 ∙ h.2)
 
 -- the rank of the end is that of the first begin that isn't below it
-pub rank_of_next : (ranges : List Range) (headed : List Headed) (keys : List (List ℕ)) (end : List ℕ) (m : ℕ)
+pub rank_of_next : (ranges : List Range) (headed : List HeadedIndex) (keys : List (List ℕ)) (end : List ℕ) (m : ℕ)
     → AreInBeginOrder ranges headed → AreEachOnce ranges headed keys → AreSplit ranges headed end m
     → m < length headed → rank keys (begin_at ranges (get_or headed m no_headed).index) ≡ rank keys end
 rank_of_next ranges headed keys end m sorted once split lt =
@@ -209,27 +209,27 @@ rank_of_next ranges headed keys end m sorted once split lt =
     (elim (cases_lt place.0 m) [
       | inl first ↦
           let before = split.below place.0 place.1 first place.2 in
-          let same = before_at_most _ end next before (split.behind m no_headed (omega arith) lt) in
+          let same = before_at_most _ end next before (split.following m no_headed (omega arith) lt) in
           same ∙ sym before
       | inr later ↦
-          let behind = split.behind place.0 place.1 later place.2 in
-          let rise = subst (λ (h : Headed). IsAtMost next (begin_at ranges h.index))
+          let following = split.following place.0 place.1 later place.2 in
+          let rise = subst (λ (h : HeadedIndex). IsAtMost next (begin_at ranges h.index))
           (get_or_default headed place.0 no_headed place.1 place.2)
           (begins_rise ranges headed m place.0 no_headed sorted later place.2) in
-          not_before_if next _ rise ∙ sym (not_before_if end _ behind)
+          not_before_if next _ rise ∙ sym (not_before_if end _ following)
     ]))
 
 -- the rank of an end that all begins are below
-pub rank_of_last : (ranges : List Range) (headed : List Headed) (keys : List (List ℕ)) (end : List ℕ) (m : ℕ)
+pub rank_of_last : (ranges : List Range) (headed : List HeadedIndex) (keys : List (List ℕ)) (end : List ℕ) (m : ℕ)
     → AreEachOnce ranges headed keys → AreSplit ranges headed end m → length headed ≤ m
     → length keys ≡ rank keys end
 rank_of_last ranges headed keys end m once split all =
-    sym (rank_behind keys end (λ q d q_lt.
+    sym (rank_after keys end (λ q d q_lt.
     let place = key_place ranges headed keys (get_or keys q d) once (Contains-get_or keys q d q_lt) in
     subst (λ key. IsBefore key end) place.3 (split.below place.0 place.1 (omega (arith, place.2)) place.2)))
 
 -- the runs of the ranges that aren't listed stay when that of one that is listed is set
-pub others_at : (headed : List Headed) (index : ℕ) (runs now : List (ℕ × ℕ)) (run : ℕ × ℕ)
+pub others_at : (headed : List HeadedIndex) (index : ℕ) (runs now : List (ℕ × ℕ)) (run : ℕ × ℕ)
     → Contains (indices_of headed) index → OthersStay headed runs now → OthersStay headed runs (set now index run)
 others_at headed index runs now run has stay i none =
     get_or-set_other now index i run (0, 0) (λ same. none (subst (Contains (indices_of headed)) (sym same) has))

@@ -9,9 +9,9 @@ use Rattle.keys.specs.declared.range.Range.{Range}
 use Rattle.keys.proofs.callers.KeyOrder.{before_or_at_most, before_at_most, before_at_most_same, not_before_itself}
 use Rattle.keys.proofs.Ranking.{one_if, rank_cons}
 use Rattle.keys.proofs.callers.Meeting.{before_unless_empty, meets_by_ends}
-use Rattle.keys.specs.Ranks.{rank, run, HaveBegin}
+use Rattle.keys.specs.GapRuns.{rank, run, HaveBegin}
 use Rattle.keys.specs.Gaps.{HasGap, HaveCommonGap}
-use Rattle.keys.specs.Laws.{RunsTellMeeting, RunsAreWithin}
+use Rattle.keys.specs.Laws.{RunsDetermineMeeting, RunsAreWithin}
 
 one_if_le : (s t : Bool) → (s ≡ true → t ≡ true) → one_if s ≤ one_if t
 one_if_le false t h = omega arith
@@ -86,8 +86,8 @@ meets_from_common keys a b g = (meets_by_ends a b).1 (
   before_from_rank keys b.begin a.end (omega (arith, g.1, g.2)),
 )
 
-pub runs_tell_meeting : RunsTellMeeting
-runs_tell_meeting keys a b ha hb = (common_from_meets keys a b ha hb, meets_from_common keys a b)
+pub runs_determine_meeting : RunsDetermineMeeting
+runs_determine_meeting keys a b ha hb = (common_from_meets keys a b ha hb, meets_from_common keys a b)
 
 pub runs_are_within : RunsAreWithin
 runs_are_within keys range =

@@ -37,7 +37,7 @@ use Rattle.std.proofs.lemmas.Nat.{
   xor_lt,
   xor_shr,
 }
-use Rattle.keys.proofs.callers.KeyHeads.{begin_alike}
+use Rattle.keys.proofs.callers.KeyHeads.{have_same_begin}
 
 -- a byte is what stands there
 byte_is : (i n : ℕ) → byte_at i n ≡ n / 256 ^ i % 256
@@ -97,7 +97,7 @@ module _ (a b : ℕ) (a_fits : a < 2 ^ 64) (b_fits : b < 2 ^ 64) where
       let left = leading_length 64 (bit_xor a b) (xor_lt 64 a b a_fits b_fits) in
       let bits = left.1 in
       let most = leading_le 64 (bit_xor a b) in
-      begin_alike (zeros / 8) (to_be_bytes w64 a) (to_be_bytes w64 b) (omega (arith, most)) (omega (arith, most))
+      have_same_begin (zeros / 8) (to_be_bytes w64 a) (to_be_bytes w64 b) (omega (arith, most)) (omega (arith, most))
       (λ k before. let at : k + suc (7 - k) ≡ 8 = omega (arith, most) in
       place 8 k (7 - k) a at ∙ byte_above a b left.0 (7 - k) (omega (arith, bits)) left.2 ∙ sym (place 8 k (7 - k) b at))
 

@@ -13,19 +13,19 @@ use Rattle.std.proofs.lemmas.Slice.Zip.{AllZip-long}
 use Rattle.keys.specs.Hash.{hash_of, AreHashesOf, IsHashOf}
 use Rattle.keys.specs.Key.{IsBefore, IsAtMost}
 use Rattle.keys.specs.Range.{is_filled, IsEmpty, IsSingle, Meets}
-use Rattle.keys.specs.Ranks.{filled_from, rank, run_or_none, runs_of, AreRanked, HaveBegin, RanksView}
+use Rattle.keys.specs.GapRuns.{filled_from, rank, run_or_none, runs_of, AreRanked, HaveBegin, GapRunsView}
 use Rattle.keys.specs.Sorting.{begin_at, begin_of, indices_of, AreInBeginOrder}
 use Rattle.keys.specs.Numbering.{run_at, IsFilledAt, IsNumbered, OthersStay}
 use Rattle.keys.specs.Singles.{counts_at, is_in_cells, is_marked, picked, AreInCells, AreNumberedAmong, AreRankedFor, HaveInOrder, IsRankedAs, IsSingleAt}
 use Rattle.keys.specs.declared.range.Range.{Range}
-use Rattle.keys.specs.declared.ranks.sorting.Headed.{Headed}
+use Rattle.keys.specs.declared.gap_runs.sorting.HeadedIndex.{HeadedIndex}
 use Rattle.keys.proofs.callers.KeyOrder.{at_most_antisym, at_most_itself}
 use Rattle.keys.proofs.callers.Lists.{AllZip-at}
 use Rattle.keys.proofs.callers.Meeting.{meets_by_ends}
 use Rattle.keys.proofs.Filled.{empty_if, filled_at, filled_few, filled_in, filled_unless}
 use Rattle.keys.proofs.Kept.{not_true}
 use Rattle.keys.proofs.Ranked.{begins_first}
-use Rattle.keys.proofs.SingleKeys.{before_next, rank_behind_key}
+use Rattle.keys.proofs.SingleKeys.{before_next, rank_after_key}
 use Rattle.keys.proofs.Values.{begin_of_listed, contains_value}
 
 -- two single keys that meet are the same key
@@ -34,9 +34,9 @@ up_to key single before = sym (before_next key single) ∙ before
 
 pub same_if_met : (a b : Range) → IsSingle a → IsSingle b → Meets a b → a.begin ≡ b.begin
 same_if_met a b first second met =
-    let told = (meets_by_ends a b).0 met in
-    at_most_antisym a.begin b.begin (up_to a.begin b.begin (subst (IsBefore a.begin) second told.2))
-    (up_to b.begin a.begin (subst (IsBefore b.begin) first told.3))
+    let determined = (meets_by_ends a b).0 met in
+    at_most_antisym a.begin b.begin (up_to a.begin b.begin (subst (IsBefore a.begin) second determined.2))
+    (up_to b.begin a.begin (subst (IsBefore b.begin) first determined.3))
 
 -- a single key isn't an empty range
 pub single_filled : (range : Range) → IsSingle range → is_filled range ≡ true
@@ -77,7 +77,7 @@ filter_few p (x ∷ xs) =
       | false ↦ omega (arith, rest)
     ]
 
-pub chosen_listed_few : (p : ℕ → Bool) (ranges : List Range) (headed : List Headed)
+pub chosen_listed_few : (p : ℕ → Bool) (ranges : List Range) (headed : List HeadedIndex)
     → indices_of headed ≡ filter p (filled_from 0 ranges) → length headed ≤ length ranges
 chosen_listed_few p ranges headed is = omega (
   arith,
@@ -88,7 +88,7 @@ chosen_listed_few p ranges headed is = omega (
 )
 
 -- the ranges listed are chosen ones
-module _ (p : ℕ → Bool) (ranges : List Range) (headed : List Headed)
+module _ (p : ℕ → Bool) (ranges : List Range) (headed : List HeadedIndex)
     (moved : IsPermutation (filter p (filled_from 0 ranges)) (indices_of headed)) where
   abbrev chosen : List ℕ
   chosen = filter p (filled_from 0 ranges)
@@ -114,7 +114,7 @@ module _ (p : ℕ → Bool) (ranges : List Range) (headed : List Headed)
   chosen_within n is = λ k d lt.
       let h = get_or headed k d in
       let filled = All-contains (IsFilledAt ranges) (indices_of headed) h.index filled_listed_at
-      (contains_value (λ (x : Headed). x.index) headed h (Contains-get_or headed k d lt)) in
+      (contains_value (λ (x : HeadedIndex). x.index) headed h (Contains-get_or headed k d lt)) in
       omega (arith, slice_get_within ranges h.index filled.0 filled.1, is)
 
   pub chosen_single : All IsSingle ranges → All (IsSingleAt ranges) (indices_of headed)
@@ -209,7 +209,7 @@ module _ (ranges : List Range) (hashes : List (Option ℕ)) (singles : All IsSin
 
     counts_if_in : (index : ℕ) (range : Range) (b : Bool) → slice_get ranges index ≡ Some range
         → is_in_cells cells (hash_of range.begin) ≡ b → counts_at cells ranges index ≡ b
-    counts_if_in index range b at told = ap (λ found. is_in_cells cells (hash_of (begin_of found))) at ∙ told
+    counts_if_in index range b at determined = ap (λ found. is_in_cells cells (hash_of (begin_of found))) at ∙ determined
 
     marked_counts : (index : ℕ) → is_marked marks index ≡ true → counts_at cells ranges index ≡ true
     marked_counts index marked = elim ((slice_get_cases ranges index).1) [
@@ -219,7 +219,7 @@ module _ (ranges : List Range) (hashes : List (Option ℕ)) (singles : All IsSin
     ]
 
     -- those that count are listed in the order of their begins
-    module _ (headed : List Headed) (sorted : AreInBeginOrder ranges headed)
+    module _ (headed : List HeadedIndex) (sorted : AreInBeginOrder ranges headed)
         (moved : IsPermutation (filter (counts_at cells ranges) (filled_from 0 ranges)) (indices_of headed)) where
       pub have_in_order : HaveInOrder (is_marked marks) ranges (indices_of headed)
       have_in_order = record {
@@ -230,11 +230,11 @@ module _ (ranges : List Range) (hashes : List (Option ℕ)) (singles : All IsSin
 
       listed : (index : ℕ) (range : Range) → slice_get ranges index ≡ Some range
           → is_in_cells cells (hash_of range.begin) ≡ true → Contains (indices_of headed) index
-      listed index range at told =
+      listed index range at determined =
           Contains-permutation (filter (counts_at cells ranges) (filled_from 0 ranges)) (indices_of headed) index moved
           (contains_passed (counts_at cells ranges) (filled_from 0 ranges) index
           (filled_in ranges index (range, at, single_filled range (single_at index range at)))
-          (counts_if_in index range true at told))
+          (counts_if_in index range true at determined))
 
       listed_counts : (index : ℕ) → Contains (indices_of headed) index → counts_at cells ranges index ≡ true
       listed_counts index has =
@@ -249,16 +249,16 @@ module _ (ranges : List Range) (hashes : List (Option ℕ)) (singles : All IsSin
         -- the key of a range that counts is one of the keys
         has_key : (index : ℕ) (range : Range) → slice_get ranges index ≡ Some range
             → is_in_cells cells (hash_of range.begin) ≡ true → Contains keys range.begin
-        has_key index range at told =
+        has_key index range at determined =
             let begin : begin_at ranges index ≡ range.begin = ap begin_of at in
             subst (Contains keys) begin (numbered.has_begins (begin_at ranges index)
-            (begin_of_listed ranges headed index (listed index range at told)))
+            (begin_of_listed ranges headed index (listed index range at determined)))
 
         begin_by : (index : ℕ) (range : Range) (b : Bool) → slice_get ranges index ≡ Some range
             → is_in_cells cells (hash_of range.begin) ≡ b → HaveBegin keys (cond b range (emptied range))
         unfolding emptied
-        begin_by index range true at told filled = has_key index range at told
-        begin_by index range false at told filled = absurd (filled refl)
+        begin_by index range true at determined filled = has_key index range at determined
+        begin_by index range false at determined filled = absurd (filled refl)
 
         pub have_begins : All (HaveBegin keys) (map (ranked_in cells) ranges)
         unfolding ranked_in
@@ -270,22 +270,22 @@ module _ (ranges : List Range) (hashes : List (Option ℕ)) (singles : All IsSin
             → is_in_cells cells (hash_of range.begin) ≡ b
             → run_at runs index ≡ run_or_none keys (cond b range (emptied range))
         unfolding emptied
-        run_by index range true at told =
+        run_by index range true at determined =
             let single = single_at index range at in
             let filled = single_filled range single in
             let begin : begin_at ranges index ≡ range.begin = ap begin_of at in
-            let behind = rank_behind_key keys range.begin numbered.rising (has_key index range at told) in
+            let following = rank_after_key keys range.begin numbered.rising (has_key index range at determined) in
             let own : (rank keys (begin_at ranges index), rank keys (begin_at ranges index) + 1)
             ≡ (rank keys range.begin, rank keys range.end) =
             ap (λ (key : List ℕ). (rank keys key, rank keys key + 1)) begin
-            ∙ ap (λ n. (rank keys range.begin, n)) (sym behind ∙ ap (rank keys) (sym single)) in
+            ∙ ap (λ n. (rank keys range.begin, n)) (sym following ∙ ap (rank keys) (sym single)) in
             All-contains (IsNumbered ranges keys runs) (indices_of headed) index numbered.numbers
-            (listed index range at told)
+            (listed index range at determined)
             ∙ own ∙ sym (ap (λ b. cond b (rank keys range.begin, rank keys range.end) (0, 0)) filled)
-        run_by index range false at told =
+        run_by index range false at determined =
             let empty : is_filled (emptied range) ≡ false = empty_if (emptied range) refl in
             others index (λ has.
-            not_true (counts_at cells ranges index) (counts_if_in index range false at told) (listed_counts index has))
+            not_true (counts_at cells ranges index) (counts_if_in index range false at determined) (listed_counts index has))
             ∙ ap (λ rs. run_at rs index) none
             ∙ get_or-replicate (length ranges) index (0, 0) (0, 0) (slice_get_within ranges index range at)
             ∙ sym (ap (λ b. cond b (rank keys range.begin, rank keys range.begin) (0, 0)) empty)
@@ -312,7 +312,7 @@ map_itself : (ranges : List Range) → map (λ (range : Range). range) ranges �
 map_itself [] = refl
 map_itself (range ∷ ranges) = ap (λ rs. range ∷ rs) (map_itself ranges)
 
-pub ranked_for : (written ranges : List Range) (ranks : RanksView) → AreRanked ranges ranks
+pub ranked_for : (written ranges : List Range) (ranks : GapRunsView) → AreRanked ranges ranks
     → AreRankedFor written ranges ranks
 ranked_for written ranges ranks are = record {
   ranked_as = λ range. range;
@@ -359,5 +359,5 @@ cells_more marks hashes i old new here stay before index hash below marked at = 
 
 -- some hash is there
 pub some_hash : (hashes : List (Option ℕ)) (b : Bool) → b ≡ eqb (length hashes) 0 → not b ≡ true → 0 < length hashes
-some_hash [] b is told = absurd (not_true (not b) (ap not is) told)
-some_hash (hash ∷ hashes) b is told = omega arith
+some_hash [] b is determined = absurd (not_true (not b) (ap not is) determined)
+some_hash (hash ∷ hashes) b is determined = omega arith

@@ -4,7 +4,7 @@ use Rattle.std.specs.Prelude.{Contains}
 use Rattle.std.proofs.lemmas.List.{get_or-map, length-map}
 use Rattle.std.proofs.lemmas.List.Elements.{Contains-get_or}
 use Rattle.keys.specs.declared.range.Range.{Range}
-use Rattle.keys.specs.declared.ranks.sorting.Headed.{Headed}
+use Rattle.keys.specs.declared.gap_runs.sorting.HeadedIndex.{HeadedIndex}
 use Rattle.keys.specs.Sorting.{begin_at, begins_of, indices_of}
 
 pub contains_value : {X Y : Type 0} (f : X → Y) (xs : List X) (x : X) → Contains xs x → Contains (map f xs) (f x)
@@ -21,9 +21,9 @@ value_of f (x ∷ xs) y c =
     )
 
 -- the begin at an index that is listed is one of the begins
-pub begin_of_listed : (ranges : List Range) (headed : List Headed) (index : ℕ) → Contains (indices_of headed) index
+pub begin_of_listed : (ranges : List Range) (headed : List HeadedIndex) (index : ℕ) → Contains (indices_of headed) index
     → Contains (begins_of ranges headed) (begin_at ranges index)
 begin_of_listed ranges headed index c =
-    let h = value_of (λ (x : Headed). x.index) headed index c in
+    let h = value_of (λ (x : HeadedIndex). x.index) headed index c in
     subst (λ i. Contains (begins_of ranges headed) (begin_at ranges i)) h.2
-    (contains_value (λ (x : Headed). begin_at ranges x.index) headed h.0 h.1)
+    (contains_value (λ (x : HeadedIndex). begin_at ranges x.index) headed h.0 h.1)

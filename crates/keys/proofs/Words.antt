@@ -31,21 +31,21 @@ use Rattle.keys.specs.Head.{head_of}
 use Rattle.keys.proofs.callers.KeyHeads.{head_same_long}
 
 -- lists that agree at each of the first words begin alike
-words_alike_from : (n : ℕ) (a b : List ℕ)
+words_equal_from : (n : ℕ) (a b : List ℕ)
     → ((k : ℕ) → k < n → take 8 (drop (k * 8) a) ≡ take 8 (drop (k * 8) b)) → take (n * 8) a ≡ take (n * 8) b
-words_alike_from zero a b same = refl
-words_alike_from (suc n) a b same =
+words_equal_from zero a b same = refl
+words_equal_from (suc n) a b same =
     let more : suc n * 8 ≡ n * 8 + 8 = omega arith in
     ap (λ l. take l a) more ∙ take-add (n * 8) 8 a
-    ∙ ap (λ front. front ++ take 8 (drop (n * 8) a)) (words_alike_from n a b (λ k less. same k (omega arith)))
+    ∙ ap (λ front. front ++ take 8 (drop (n * 8) a)) (words_equal_from n a b (λ k less. same k (omega arith)))
     ∙ ap (λ word. take (n * 8) b ++ word) (same n (omega arith))
     ∙ sym (take-add (n * 8) 8 b) ∙ ap (λ l. take l b) (sym more)
 
-words_alike : (n : ℕ) (a b : List ℕ)
+words_equal : (n : ℕ) (a b : List ℕ)
     → ((k : ℕ) → k < n → take 8 (drop (k * 8) a) ≡ take 8 (drop (k * 8) b)) → take (8 * n) a ≡ take (8 * n) b
-words_alike n a b same =
+words_equal n a b same =
     let turned : 8 * n ≡ n * 8 = omega arith in
-    ap (λ l. take l a) turned ∙ words_alike_from n a b same ∙ ap (λ l. take l b) (sym turned)
+    ap (λ l. take l a) turned ∙ words_equal_from n a b same ∙ ap (λ l. take l b) (sym turned)
 
 -- the word at place k
 abbrev word_at : ℕ → List ℕ → List ℕ
@@ -67,12 +67,12 @@ same_word v w v_bytes w_bytes v_length w_length same =
     ∙ take_all 8 w (omega arith)
 
 -- lists whose first words have the same heads begin alike
-pub alike_by_heads : (n : ℕ) (a b : List ℕ) → ((i : ℕ) → get_or a i 0 < 256) → ((i : ℕ) → get_or b i 0 < 256)
+pub equal_by_heads : (n : ℕ) (a b : List ℕ) → ((i : ℕ) → get_or a i 0 < 256) → ((i : ℕ) → get_or b i 0 < 256)
     → 8 * n ≤ length a → 8 * n ≤ length b
     → ((k : ℕ) → k < n → head_of (take 8 (drop (k * 8) a)) ≡ head_of (take 8 (drop (k * 8) b)))
     → take (8 * n) a ≡ take (8 * n) b
-alike_by_heads n a b a_bytes b_bytes in_a in_b same =
-    words_alike n a b (λ k less. same_word (word_at k a) (word_at k b)
+equal_by_heads n a b a_bytes b_bytes in_a in_b same =
+    words_equal n a b (λ k less. same_word (word_at k a) (word_at k b)
     (word_bytes k a (are_bytes a a_bytes)) (word_bytes k b (are_bytes b b_bytes))
     (word_length n k a in_a less) (word_length n k b in_b less) (same k less))
 

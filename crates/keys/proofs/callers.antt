@@ -7,5 +7,5 @@ pub mod KeyOrder
 pub mod Meeting
 pub mod SingleRanges
 pub mod KeyHeads
-pub mod Ranks
+pub mod GapRuns
 pub mod Picked

@@ -4,11 +4,11 @@ use Rattle.keys.specs.declared.range.Range.{Range}
 use Rattle.keys.specs.Key.{IsBytes, is_before, IsBefore, IsAtMost}
 use Rattle.keys.specs.Head.{first_eight, head_of}
 use Rattle.keys.specs.Range.{IsEmpty, Meets}
-use Rattle.keys.specs.Ranks.{run, HaveBegin}
+use Rattle.keys.specs.GapRuns.{run, HaveBegin}
 use Rattle.keys.specs.Gaps.{HasGap, HaveCommonGap}
 
 -- heads are in the order of the keys, as far as they reach
-pub record KeyHeadsTell (a b : List ℕ) : Type 0 where
+pub record KeyHeadsDetermine (a b : List ℕ) : Type 0 where
   -- the key with the lesser head comes first
   pub less : head_of a < head_of b → IsBefore a b
   pub at_most : IsAtMost a b → head_of a ≤ head_of b
@@ -16,33 +16,33 @@ pub record KeyHeadsTell (a b : List ℕ) : Type 0 where
   pub same : head_of a ≡ head_of b → first_eight a ≡ first_eight b
   pub same_long : head_of a ≡ head_of b → 8 ≤ length a → 8 ≤ length b → take 8 a ≡ take 8 b
 
-abbrev pub KeyHeadsTellOrder : Type 0
-KeyHeadsTellOrder = (a b : List ℕ) → IsBytes a → IsBytes b → KeyHeadsTell a b
+abbrev pub KeyHeadsDetermineOrder : Type 0
+KeyHeadsDetermineOrder = (a b : List ℕ) → IsBytes a → IsBytes b → KeyHeadsDetermine a b
 
 -- two keys have a common prefix of this length
-pub record BeginAlike (n : ℕ) (a b : List ℕ) : Type 0 where
+pub record SharePrefix (n : ℕ) (a b : List ℕ) : Type 0 where
   pub in_first : n ≤ length a
   pub in_second : n ≤ length b
   pub same : take n a ≡ take n b
 
 -- keys with a common prefix are in the order of the bytes after it
-pub record RestsTell (n : ℕ) (a b : List ℕ) : Type 0 where
+pub record RestsDetermine (n : ℕ) (a b : List ℕ) : Type 0 where
   pub rests : is_before a b ≡ is_before (drop n a) (drop n b)
   -- the one that ends there comes first
   pub shorter : length a ≡ n → n < length b → IsBefore a b
   -- so does the one with the lesser next byte
   pub differing : n < length a → n < length b → slice_index a n < slice_index b n → IsBefore a b
 
-abbrev pub RestsTellOrder : Type 0
-RestsTellOrder = (n : ℕ) (a b : List ℕ) → BeginAlike n a b → RestsTell n a b
+abbrev pub RestsDetermineOrder : Type 0
+RestsDetermineOrder = (n : ℕ) (a b : List ℕ) → SharePrefix n a b → RestsDetermine n a b
 
 -- two ranges overlap exactly if neither is empty and each begins before the other ends
 abbrev pub MeetByEnds : Range → Range → Type 0
 MeetByEnds a b = Meets a b ↔ (¬ IsEmpty a × ¬ IsEmpty b × IsBefore a.begin b.end × IsBefore b.begin a.end)
 
 -- among the keys that have their begins, two ranges overlap exactly if their runs have a gap in common
-abbrev pub RunsTellMeeting : Type 0
-RunsTellMeeting =
+abbrev pub RunsDetermineMeeting : Type 0
+RunsDetermineMeeting =
     (keys : List (List ℕ)) (a b : Range) → HaveBegin keys a → HaveBegin keys b →
     Meets a b ↔ HaveCommonGap (run keys a) (run keys b)
 

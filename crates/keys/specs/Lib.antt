@@ -3,7 +3,7 @@ pub mod Key
 pub mod Head
 pub mod Range
 pub mod Hash
-pub mod Ranks
+pub mod GapRuns
 pub mod Sorting
 pub mod Counting
 pub mod Numbering

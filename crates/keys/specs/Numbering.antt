@@ -3,10 +3,10 @@ use Rattle.std.specs.Prelude.{◌≡◌, ◌≢◌, ◌↔◌, ◌⊎◌, ℕ, �
 use Rattle.keys.specs.Head.{head_of}
 use Rattle.keys.specs.Key.{is_before, IsBefore, IsAtMost}
 use Rattle.keys.specs.Range.{is_filled}
-use Rattle.keys.specs.Ranks.{rank, AreRising}
+use Rattle.keys.specs.GapRuns.{rank, AreRising}
 use Rattle.keys.specs.Sorting.{begin_at, begins_of, indices_of}
 use Rattle.keys.specs.declared.range.Range.{Range}
-use Rattle.keys.specs.declared.ranks.sorting.Headed.{Headed}
+use Rattle.keys.specs.declared.gap_runs.sorting.HeadedIndex.{HeadedIndex}
 
 -- the end of the range, or the empty key where there is none
 abbrev pub end_of : Option Range → List ℕ
@@ -26,7 +26,7 @@ abbrev pub run_at : List (ℕ × ℕ) → ℕ → ℕ × ℕ
 run_at runs index = slice_index_or runs index (0, 0)
 
 -- the keys are the begins of the ranges listed, each once and in order
-pub record AreEachOnce (ranges : List Range) (headed : List Headed) (keys : List (List ℕ)) : Type 0 where
+pub record AreEachOnce (ranges : List Range) (headed : List HeadedIndex) (keys : List (List ℕ)) : Type 0 where
   pub rising : AreRising keys
   pub same : (key : List ℕ) → Contains (begins_of ranges headed) key ↔ Contains keys key
 
@@ -36,7 +36,7 @@ IsNumbered ranges keys runs index =
     run_at runs index ≡ (rank keys (begin_at ranges index), rank keys (begin_at ranges index) + 1)
 
 -- the keys are the begins of the listed ranges, of this number, and their runs are numbered
-pub record AreNumbered (ranges : List Range) (headed : List Headed) (keys : List (List ℕ)) (begins : ℕ)
+pub record AreNumbered (ranges : List Range) (headed : List HeadedIndex) (keys : List (List ℕ)) (begins : ℕ)
     (runs : List (ℕ × ℕ)) : Type 0 where
   pub each_once : AreEachOnce ranges headed keys
   pub count : begins ≡ length keys
@@ -48,7 +48,7 @@ HasRun ranges keys runs index =
     run_at runs index ≡ (rank keys (begin_at ranges index), rank keys (end_at ranges index))
 
 -- the runs of the ranges that aren't listed are the same
-abbrev pub OthersStay : List Headed → List (ℕ × ℕ) → List (ℕ × ℕ) → Type 0
+abbrev pub OthersStay : List HeadedIndex → List (ℕ × ℕ) → List (ℕ × ℕ) → Type 0
 OthersStay headed before after =
     (index : ℕ) → ¬ Contains (indices_of headed) index → run_at after index ≡ run_at before index
 
@@ -59,11 +59,11 @@ IsEndHead prefix end head =
     ⊎ ((take (length prefix) end ≢ prefix) × (head ≡ 2 ^ 64 - 1))
 
 -- the head of the range, if it isn't the number, tells whether the range begins below the end
-pub record HeadsTell (ranges : List Range) (end : List ℕ) (head : ℕ) (headed : Headed) : Type 0 where
+pub record HeadsDetermine (ranges : List Range) (end : List ℕ) (head : ℕ) (headed : HeadedIndex) : Type 0 where
   pub less : headed.head < head → IsBefore (begin_at ranges headed.index) end
   pub greater : head < headed.head → IsAtMost end (begin_at ranges headed.index)
 
 -- whether the range begins below the end: by its head, or by its begin if the head is the number
-abbrev pub told_below : List Range → List ℕ → ℕ → Headed → Bool
-told_below ranges end head headed =
+abbrev pub begins_below_end : List Range → List ℕ → ℕ → HeadedIndex → Bool
+begins_below_end ranges end head headed =
     if headed.head == head then is_before (begin_at ranges headed.index) end else nat_lt headed.head head

@@ -2,11 +2,11 @@
 use Rattle.std.specs.Prelude.{◌≡◌, ◌≢◌, ◌⊎◌, ℕ, ◌*◌, ◌/◌, ◌^◌, Bool, true, false, if◌then◌else◌, List, [], ◌∷◌, ◌++◌, length, map, slice_index_or, Option, Some, slice_get, All, Contains}
 use Rattle.keys.specs.Hash.{hash_of}
 use Rattle.keys.specs.Range.{IsEmpty, IsSingle, Meets}
-use Rattle.keys.specs.Ranks.{runs_of, AreChosenInOrder, AreRising, HaveBegin, RanksView}
+use Rattle.keys.specs.GapRuns.{runs_of, AreChosenInOrder, AreRising, HaveBegin, GapRunsView}
 use Rattle.keys.specs.Sorting.{begin_at, begins_of, indices_of}
 use Rattle.keys.specs.Numbering.{IsNumbered}
 use Rattle.keys.specs.declared.range.Range.{Range}
-use Rattle.keys.specs.declared.ranks.sorting.Headed.{Headed}
+use Rattle.keys.specs.declared.gap_runs.sorting.HeadedIndex.{HeadedIndex}
 
 -- the mark at the index is set
 abbrev pub is_marked : List Bool → ℕ → Bool
@@ -28,7 +28,7 @@ IsRankedAs written range other = (other ≡ range) ⊎ (IsEmpty other × MeetsNo
 
 -- The ranks tell which of the ranges meet the written ones. Each range has the run of what it is ranked as, among keys that have
 -- the begins of all these: a written one is ranked as itself, and an empty range has a run that holds no gap.
-pub record AreRankedFor (written ranges : List Range) (ranks : RanksView) : Type 0 where
+pub record AreRankedFor (written ranges : List Range) (ranks : GapRunsView) : Type 0 where
   pub ranked_as : Range → Range
   pub keys : List (List ℕ)
   pub rising : AreRising keys
@@ -67,8 +67,8 @@ abbrev pub IsSingleAt : List Range → ℕ → Type 0
 IsSingleAt ranges index = (range : Range) × (slice_get ranges index ≡ Some range) × IsSingle range
 
 -- ranges have the same head if they have the same begin, or if the one begins right after the other's begin
-abbrev pub AreNearAlike : List Range → List Headed → Type 0
-AreNearAlike ranges headed = (a b : Headed) → Contains headed a → Contains headed b
+abbrev pub HaveSameHeadsNear : List Range → List HeadedIndex → Type 0
+HaveSameHeadsNear ranges headed = (a b : HeadedIndex) → Contains headed a → Contains headed b
     → (begin_at ranges a.index ≡ begin_at ranges b.index) ⊎ (begin_at ranges a.index ++ 0 ∷ [] ≡ begin_at ranges b.index)
     → a.head ≡ b.head
 
@@ -80,7 +80,7 @@ IsStep key end next step =
     ⊎ (((step ≡ 1) × (key ≢ next) × (end ≡ next)) ⊎ ((step ≡ 2) × (key ≢ next) × (end ≢ next)))
 
 -- The keys, of this number, have the begins of the ranges listed, and the runs of these are numbered. Further keys may lie between.
-pub record AreNumberedAmong (ranges : List Range) (headed : List Headed) (keys : List (List ℕ)) (total : ℕ)
+pub record AreNumberedAmong (ranges : List Range) (headed : List HeadedIndex) (keys : List (List ℕ)) (total : ℕ)
     (runs : List (ℕ × ℕ)) : Type 0 where
   pub rising : AreRising keys
   pub has_begins : (key : List ℕ) → Contains (begins_of ranges headed) key → Contains keys key

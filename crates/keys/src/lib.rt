@@ -3,7 +3,7 @@
 //! A [`Key`] is a byte string of limited length, a [`Range`] has two of them, and a [`RangeRef`]
 //! borrows these. Keys are compared byte by byte, a proper prefix first.
 //!
-//! [`Ranks`] orders ranges by their begins and says which of the gaps between these each of them
+//! [`GapRuns`] orders ranges by their begins and says which of the gaps between these each of them
 //! covers, wherever the ranges lie ([`RangeList`]).
 //!
 //! [`key_head`] and [`common_prefix_len`] distinguish keys quickly: by the first eight bytes, and
@@ -18,6 +18,7 @@
 
 mod bytes;
 mod error;
+mod gap_runs;
 mod hashed_range;
 mod hashing;
 mod key;
@@ -26,14 +27,13 @@ mod prefix;
 mod range;
 mod range_list;
 mod range_ref;
-mod ranks;
 
 pub use error::KeyError;
+pub use gap_runs::{GapRuns, MAX_RANKED};
 pub use hashed_range::HashedRange;
 pub use hashing::{key_hash, single_hashes};
 pub use key::{Key, MAX_KEY_LENGTH};
-pub use prefix::{common_prefix_len, head_behind, key_head, same_bytes};
+pub use prefix::{common_prefix_len, head_after, key_head, same_bytes};
 pub use range::Range;
 pub use range_list::RangeList;
 pub use range_ref::RangeRef;
-pub use ranks::{MAX_RANKED, Ranks};

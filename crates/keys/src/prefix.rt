@@ -22,7 +22,7 @@ pub fn key_head(bytes: &[u8]) -> u64
 /// before.
 ///
 /// If fewer than eight bytes follow, it is found in the last eight of the key, if it has eight.
-pub fn head_behind(key: &[u8], prefix_len: usize) -> u64
+pub fn head_after(key: &[u8], prefix_len: usize) -> u64
     ensures key_head { result ≡ head_of (drop prefix_len key.now) }
     ensures are_bytes { IsBytes key.now }
 {
@@ -49,7 +49,7 @@ fn short_head(bytes: &[u8]) -> u64
 /// Returns how many bytes both begin with.
 ///
 /// Behind these the next bytes differ, or one of the keys ends. So they tell which key comes first,
-/// as [`crate::laws::beginnings`] states.
+/// as [`crate::laws::common_prefixes`] states.
 pub fn common_prefix_len(a: &[u8], b: &[u8]) -> usize
     ensures within { (result ≤ length a.now) × (result ≤ length b.now) }
     ensures same { take result a.now ≡ take result b.now }

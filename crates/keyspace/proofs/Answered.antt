@@ -24,7 +24,7 @@ use Rattle.std.proofs.lemmas.List.{length-append, length-map}
 use Rattle.std.proofs.lemmas.List.Elements.{filter-append}
 use Rattle.keyspace.specs.declared.batch.Batch.{Batch}
 use Rattle.keyspace.specs.declared.answer.Answer.{Answer}
-use Rattle.keyspace.specs.declared.answer.Answer.TheVariants as told
+use Rattle.keyspace.specs.declared.answer.Answer.TheVariants as reported
 use Rattle.keyspace.specs.Processed.{version_of}
 use Rattle.keyspace.specs.Writes.{writes}
 use Rattle.keyspace.specs.Judge.{judge}
@@ -106,7 +106,7 @@ module _ (proxy : ℕ) where
             ≡ seen s + one_if (p == proxy)) [
               | true ↦ seen_answer p (found s.processed p b.version) s
               | false ↦ let e =
-                  count_last is_answered s.answered (p, told.Reply (judge window (writes s.processed) b)) in
+                  count_last is_answered s.answered (p, reported.Reply (judge window (writes s.processed) b)) in
                   omega (arith, e)
             ]
       ]
@@ -125,12 +125,12 @@ module _ (proxy : ℕ) where
       let o = ap (count_of is_held) l.others_are in
       omega (arith, x, y, z, h, o)
 
-  seen_leave_then : (go_on : State → State) (window : ℤ) → ((s : State) → seen (go_on s) ≡ seen s)
+  seen_leave_then : (continue_with : State → State) (window : ℤ) → ((s : State) → seen (continue_with s) ≡ seen s)
       → (s : State)
       → (l : Option (Held × List Held)) → next_due (version_of s.processed) s.held ≡ l
-      → seen (leave_then go_on window s l) ≡ seen s
-  seen_leave_then go_on window f s None e = refl
-  seen_leave_then go_on window f s (Some l) e =
+      → seen (leave_then continue_with window s l) ≡ seen s
+  seen_leave_then continue_with window f s None e = refl
+  seen_leave_then continue_with window f s (Some l) e =
       let after = admit window l.0.0 l.0.1 (record s { held = l.1 }) in
       let x = f after in
       let y = seen_admit window l.0.0 l.0.1 (record s { held = l.1 }) in
@@ -144,20 +144,20 @@ module _ (proxy : ℕ) where
       seen_leave_then (leave turns window) window (seen_leave turns window) s
       (next_due (version_of s.processed) s.held) refl
 
-  count_told : (held : List Held)
-      → count_of is_answered (map (λ (h : Held). (h.0, told.Held h.1.version)) held) ≡ count_of is_held held
-  count_told [] = refl
-  count_told (h ∷ hs) =
-      let x = count_first is_answered (h.0, told.Held h.1.version)
-      (map (λ (h : Held). (h.0, told.Held h.1.version)) hs) in
+  count_reported : (held : List Held)
+      → count_of is_answered (map (λ (h : Held). (h.0, reported.Held h.1.version)) held) ≡ count_of is_held held
+  count_reported [] = refl
+  count_reported (h ∷ hs) =
+      let x = count_first is_answered (h.0, reported.Held h.1.version)
+      (map (λ (h : Held). (h.0, reported.Held h.1.version)) hs) in
       let y = count_first is_held h hs in
-      let z = count_told hs in
+      let z = count_reported hs in
       omega (arith, x, y, z)
 
   seen_finish : (window : ℤ) (s : State) → seen (step window Finish s) ≡ seen s
   seen_finish window s =
-      let x = count_both is_answered s.answered (map (λ (h : Held). (h.0, told.Held h.1.version)) s.held) in
-      let y = count_told s.held in
+      let x = count_both is_answered s.answered (map (λ (h : Held). (h.0, reported.Held h.1.version)) s.held) in
+      let y = count_reported s.held in
       omega (arith, x, y)
 
   seen_take : (window : ℤ) (p : ℕ) (b : Batch) (s : State)

@@ -122,12 +122,12 @@ admit_chain window proxy b s chain =
           ] refl
     ] refl
 
-leave_then_chain : (go_on : State → State) (window : ℤ)
-    → ((s : State) → IsChain window s.processed → IsChain window (go_on s).processed)
+leave_then_chain : (continue_with : State → State) (window : ℤ)
+    → ((s : State) → IsChain window s.processed → IsChain window (continue_with s).processed)
     → (s : State) (l : Option (Held × List Held)) → IsChain window s.processed
-    → IsChain window (leave_then go_on window s l).processed
-leave_then_chain go_on window f s None chain = chain
-leave_then_chain go_on window f s (Some l) chain =
+    → IsChain window (leave_then continue_with window s l).processed
+leave_then_chain continue_with window f s None chain = chain
+leave_then_chain continue_with window f s (Some l) chain =
     f _ (admit_chain window l.0.0 l.0.1 (record s { held = l.1 }) chain)
 
 leave_chain : (turns : ℕ) (window : ℤ) (s : State) → IsChain window s.processed

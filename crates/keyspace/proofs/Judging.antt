@@ -164,7 +164,7 @@ lt_trichotomy i m = grind arith
 
 module _ (ws : List Write) (earlier : List Range) (t : Txn) where
   -- what the places of an entry that is to tell them have to be
-  record Tells (places : List ℕ) : Type 0 where
+  record Reports (places : List ℕ) : Type 0 where
     hits : (i : ℕ) → IsHit ws t i → IsStrictlyIncreasing places × ((k : ℕ) → Contains places k ↔ IsHit ws t k)
     first : ((i : ℕ) → IsHit ws t i → ⊥) → (i : ℕ) × (places ≡ i ∷ []) × IsFirstToMeet earlier t i
 
@@ -203,14 +203,14 @@ module _ (ws : List Write) (earlier : List Range) (t : Txn) where
         ),
       )
 
-  told : (hits : List ℕ) → places_from 0 (is_hit ws t) t.reads ≡ hits → IsInConflict ws earlier t
-      → Tells (hits_or_first hits (places_from 0 (meets_earlier earlier) t.reads))
-  told [] e (i, inl h) = absurd (subst (In i) e (hits_in i h))
-  told [] e (i, inr m) = record {
+  reported : (hits : List ℕ) → places_from 0 (is_hit ws t) t.reads ≡ hits → IsInConflict ws earlier t
+      → Reports (hits_or_first hits (places_from 0 (meets_earlier earlier) t.reads))
+  reported [] e (i, inl h) = absurd (subst (In i) e (hits_in i h))
+  reported [] e (i, inr m) = record {
     hits = λ k h. absurd (subst (In k) e (hits_in k h));
     first = λ none. first_of (places_from 0 (meets_earlier earlier) t.reads) refl i (met_in i m);
   }
-  told (h ∷ hs) e c = record {
+  reported (h ∷ hs) e c = record {
     hits = λ k hit. (
       increasing_from_rises 0 (h ∷ hs) (subst (Rises 0) e (rises_places_from 0 (is_hit ws t) t.reads)),
       λ j. (
@@ -231,32 +231,32 @@ module _ (ws : List Write) (earlier : List Range) (t : Txn) where
       ]
 
   -- only those places can be told
-  same_told : (hits : List ℕ) → places_from 0 (is_hit ws t) t.reads ≡ hits → (places : List ℕ) → Tells places
+  same_reported : (hits : List ℕ) → places_from 0 (is_hit ws t) t.reads ≡ hits → (places : List ℕ) → Reports places
       → places ≡ hits_or_first hits (places_from 0 (meets_earlier earlier) t.reads)
-  same_told [] e places told =
-      let f = told.first (λ i h. subst (In i) e (hits_in i h)) in
+  same_reported [] e places reported =
+      let f = reported.first (λ i h. subst (In i) e (hits_in i h)) in
       let g = first_of (places_from 0 (meets_earlier earlier) t.reads) refl f.0 (met_in f.0 f.2.0) in
       f.1 ∙ ap (λ n. n ∷ []) (same_first f.0 g.0 f.2 g.2) ∙ sym g.1
-  same_told (h ∷ hs) e places told =
-      let f = told.hits h (in_hits h (subst (In h) (sym e) (inl refl))) in
+  same_reported (h ∷ hs) e places reported =
+      let f = reported.hits h (in_hits h (subst (In h) (sym e) (inl refl))) in
       same_rising 0 places (h ∷ hs) (rises_from_increasing places f.0)
       (subst (Rises 0) e (rises_places_from 0 (is_hit ws t) t.reads))
       (λ k i. subst (In k) e (hits_in k ((f.1 k).0 (contains_from_in places k i))))
       (λ k i. in_from_contains places k ((f.1 k).1 (in_hits k (subst (In k) (sym e) i))))
 
-  told_if_marked : IsInConflict ws earlier t → IsTrue t.marked → Tells (report ws earlier t)
-  told_if_marked c marked =
-      subst (λ b. Tells
+  reported_if_marked : IsInConflict ws earlier t → IsTrue t.marked → Reports (report ws earlier t)
+  reported_if_marked c marked =
+      subst (λ b. Reports
       (cond b (hits_or_first (places_from 0 (is_hit ws t) t.reads)
       (places_from 0 (meets_earlier earlier) t.reads)) [])) (sym marked)
-      (told (places_from 0 (is_hit ws t) t.reads) refl c)
+      (reported (places_from 0 (is_hit ws t) t.reads) refl c)
 
   -- places that are told for a verdict
   abbrev Report : Verdict → List ℕ → Type 0
-  Report verdict places = ((IsReported t verdict → ⊥) → places ≡ []) × (IsReported t verdict → Tells places)
+  Report verdict places = ((IsReported t verdict → ⊥) → places ≡ []) × (IsReported t verdict → Reports places)
 
-  not_told : (verdict : Verdict) → (verdict ≡ Conflict → ⊥) → Report verdict []
-  not_told verdict other = (λ _. refl, λ r. absurd (other r.1))
+  not_reported : (verdict : Verdict) → (verdict ≡ Conflict → ⊥) → Report verdict []
+  not_reported verdict other = (λ _. refl, λ r. absurd (other r.1))
 
   report_in_conflict : IsInConflict ws earlier t → Report Conflict (report ws earlier t)
   report_in_conflict c = (
@@ -266,7 +266,7 @@ module _ (ws : List Write) (earlier : List Range) (t : Txn) where
           | true ↦ λ e. absurd (silent (e, refl))
           | false ↦ λ e. refl
         ] refl,
-    λ r. told_if_marked c r.0,
+    λ r. reported_if_marked c r.0,
   )
 
   report_judged : (edge : ℤ)
@@ -276,12 +276,12 @@ module _ (ws : List Write) (earlier : List Range) (t : Txn) where
       cond old (without_places TooOld)
       (cond (is_in_conflict ws earlier t) (in_conflict_at (report ws earlier t))
       (without_places Committed)) in Report e.verdict e.places) [
-        | true ↦ not_told TooOld (λ e. cc)
+        | true ↦ not_reported TooOld (λ e. cc)
         | false ↦ elim (is_in_conflict ws earlier t) as (λ met. is_in_conflict ws earlier t ≡ met
             → let e : Entry = cond met (in_conflict_at (report ws earlier t)) (without_places Committed) in
             Report e.verdict e.places) [
               | true ↦ λ f. report_in_conflict (conflict_from_test ws earlier t f)
-              | false ↦ λ f. not_told Committed (λ e. cc)
+              | false ↦ λ f. not_reported Committed (λ e. cc)
             ] refl
       ]
 
@@ -295,8 +295,8 @@ module _ (ws : List Write) (earlier : List Range) (t : Txn) where
   same_report Committed xs ys h k = h.0 (λ r. let e : Committed ≡ Conflict = r.1 in cc)
       ∙ sym (k.0 (λ r. let e : Committed ≡ Conflict = r.1 in cc))
   same_report Conflict xs ys h k = elim t.marked as (λ b. t.marked ≡ b → xs ≡ ys) [
-    | true ↦ λ e. same_told (places_from 0 (is_hit ws t) t.reads) refl xs (h.1 (e, refl))
-        ∙ sym (same_told (places_from 0 (is_hit ws t) t.reads) refl ys (k.1 (e, refl)))
+    | true ↦ λ e. same_reported (places_from 0 (is_hit ws t) t.reads) refl xs (h.1 (e, refl))
+        ∙ sym (same_reported (places_from 0 (is_hit ws t) t.reads) refl ys (k.1 (e, refl)))
     | false ↦ λ e. h.0 (λ r. not_both_ways t.marked r.0 e) ∙ sym (k.0 (λ r. not_both_ways t.marked r.0 e))
   ] refl
 

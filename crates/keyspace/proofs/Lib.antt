@@ -9,7 +9,7 @@ pub mod Answered
 pub mod FieldsBack
 pub mod Slices
 pub mod RowsInTurn
-pub mod RangesTold
+pub mod RangesReported
 pub mod TablesRanges
 pub mod TablesTxns
 pub mod ReadHashes

@@ -4,18 +4,18 @@ use Rattle.std.proofs.lemmas.List.{map-append, length-map}
 use Rattle.std.proofs.lemmas.List.Elements.{All-nil, All-head, All-tail, All-append, All-weaker}
 use Rattle.keyspace.specs.declared.span.Span.{Span}
 use Rattle.keyspace.specs.Fields.{RangeFields}
-use Rattle.keyspace.specs.Tables.{range_told, LiesWithin}
+use Rattle.keyspace.specs.Tables.{range_of_span, LiesWithin}
 use Rattle.keyspace.specs.Putting.{ArePut}
 use Rattle.keyspace.proofs.Slices.{slice_range-append}
 
 pub ranges_kept : (buffer more : List ℕ) (spans : List Span) → All (LiesWithin (length buffer)) spans
-    → map (range_told (buffer ++ more)) spans ≡ map (range_told buffer) spans
+    → map (range_of_span (buffer ++ more)) spans ≡ map (range_of_span buffer) spans
 ranges_kept buffer more [] within = refl
 ranges_kept buffer more (span ∷ spans) within =
     let first = All-head (LiesWithin (length buffer)) span spans within in
     let begin = slice_range-append buffer more span.begin (span.begin + span.begin_length) first.begin in
     let end = slice_range-append buffer more span.end (span.end + span.end_length) first.end in
-    let range : range_told (buffer ++ more) span ≡ range_told buffer span = λ i. record { begin = begin i; end = end i } in
+    let range : range_of_span (buffer ++ more) span ≡ range_of_span buffer span = λ i. record { begin = begin i; end = end i } in
     ap₂ ◌∷◌ range (ranges_kept buffer more spans (All-tail (LiesWithin (length buffer)) span spans within))
 
 pub within_kept : (buffer more : List ℕ) (spans : List Span) → All (LiesWithin (length buffer)) spans
@@ -31,7 +31,7 @@ pub length-put : (buffer : List ℕ) (spans : List Span) (ranges : List RangeFie
     → ArePut buffer spans ranges new_buffer new_spans → length new_spans ≡ length spans + length ranges
 length-put buffer spans ranges new_buffer new_spans put =
     ap length put.spans_are ∙ length-append spans put.added
-    ∙ ap (λ n. length spans + n) (sym (length-map put.added (range_told new_buffer)) ∙ ap length put.told)
+    ∙ ap (λ n. length spans + n) (sym (length-map put.added (range_of_span new_buffer)) ∙ ap length put.reported)
 
 pub put_none : (buffer : List ℕ) (spans : List Span) → ArePut buffer spans [] buffer spans
 put_none buffer spans = record {
@@ -39,7 +39,7 @@ put_none buffer spans = record {
   added = [];
   buffer_is = sym (append-nil buffer);
   spans_are = sym (append-nil spans);
-  told = refl;
+  reported = refl;
   within = All-nil (LiesWithin (length buffer));
 }
 
@@ -54,9 +54,9 @@ put_then buffer spans ranges buffer₁ spans₁ ranges₁ buffer₂ spans₂ fir
       ∙ append_assoc buffer first.bytes second.bytes;
   spans_are = second.spans_are ∙ ap (λ added. added ++ second.added) first.spans_are
       ∙ append_assoc spans first.added second.added;
-  told = map-append (range_told buffer₂) first.added second.added
-      ∙ ap₂ ◌++◌ (ap (λ bytes. map (range_told bytes) first.added) second.buffer_is
-      ∙ ranges_kept buffer₁ second.bytes first.added first.within ∙ first.told) second.told;
+  reported = map-append (range_of_span buffer₂) first.added second.added
+      ∙ ap₂ ◌++◌ (ap (λ bytes. map (range_of_span bytes) first.added) second.buffer_is
+      ∙ ranges_kept buffer₁ second.bytes first.added first.within ∙ first.reported) second.reported;
   within = All-append (LiesWithin (length buffer₂)) first.added second.added
       (subst (λ bytes. All (LiesWithin (length bytes)) first.added) (sym second.buffer_is)
       (within_kept buffer₁ second.bytes first.added first.within)) second.within;

@@ -12,29 +12,29 @@ use Rattle.keyspace.specs.declared.span.Span.{Span}
 use Rattle.keyspace.specs.declared.row.Row.{Row}
 use Rattle.keyspace.specs.BatchRanges.{ranges_in}
 use Rattle.keyspace.specs.Fields.{TxnFields, range_fields, txn_fields, txns_with}
-use Rattle.keyspace.specs.Tables.{range_told, txn_told, txns_told, AreRows, AreTables}
+use Rattle.keyspace.specs.Tables.{range_of_span, txn_of_row, txns_of_tables, AreRows, AreTables}
 use Rattle.keyspace.proofs.callers.SameFields.{same_ranges}
 use Rattle.keyspace.proofs.FieldsBack.{fields_of_txns}
-use Rattle.keyspace.proofs.RangesTold.{part_told}
-use Rattle.keyspace.proofs.RowsInTurn.{rows_before, row_at, told_at}
-use Rattle.keyspace.proofs.TablesRanges.{few_spans, ranges_told}
+use Rattle.keyspace.proofs.RangesReported.{part_reported}
+use Rattle.keyspace.proofs.RowsInTurn.{rows_before, row_at, reported_at}
+use Rattle.keyspace.proofs.TablesRanges.{few_spans, ranges_reported}
 use Rattle.keyspace.proofs.TablesTxns.{length-txns}
 
 module _ (buffer : List ℕ) (spans : List Span) (rows : List Row) (tables : AreTables buffer spans rows) where
   abbrev txns : List Txn
-  txns = txns_with (txns_told buffer spans rows) tables.holds
+  txns = txns_with (txns_of_tables buffer spans rows) tables.holds
 
   pub row_within : (index : ℕ) (txn : Txn) → slice_get txns index ≡ Some txn → index < length rows
   row_within index txn is =
       subst (λ n. index < n) (length-txns buffer spans rows tables.holds) (slice_get_within txns index txn is)
 
   fields_at : (index from : ℕ) (row : Row) (txn : Txn) → AreRows 0 (take index rows) from → slice_get txns index ≡ Some txn
-      → row ≡ get_or rows index row → txn_fields txn ≡ txn_told buffer spans from row
+      → row ≡ get_or rows index row → txn_fields txn ≡ txn_of_row buffer spans from row
   fields_at index from row txn before is at =
       sym (ap txn_fields (get_or_from_slice_get txns index txn txn is))
       ∙ sym (get_or-map txn_fields txns index txn (txn_fields txn) (slice_get_within txns index txn is))
-      ∙ ap (λ (fs : List TxnFields). get_or fs index (txn_fields txn)) (fields_of_txns (txns_told buffer spans rows) tables.holds)
-      ∙ told_at buffer spans 0 rows index from row (txn_fields txn) before (row_within index txn is) at
+      ∙ ap (λ (fs : List TxnFields). get_or fs index (txn_fields txn)) (fields_of_txns (txns_of_tables buffer spans rows) tables.holds)
+      ∙ reported_at buffer spans 0 rows index from row (txn_fields txn) before (row_within index txn is) at
 
   -- the read version of a transaction is that of its row
   pub snapshot_at : (index : ℕ) (row : Row) (txn : Txn) → slice_get txns index ≡ Some txn → row ≡ get_or rows index row
@@ -50,7 +50,7 @@ module _ (buffer : List ℕ) (spans : List Span) (rows : List Row) (tables : Are
       let part = slice_range (ranges_in txns) from to in
       same_ranges txn.reads part
       (ap (λ (f : TxnFields). f.reads) (fields_at index from row txn before is at)
-      ∙ sym (part_told buffer spans (ranges_in txns) part from to (ranges_told buffer spans rows tables tables.holds) refl))
+      ∙ sym (part_reported buffer spans (ranges_in txns) part from to (ranges_reported buffer spans rows tables tables.holds) refl))
 
   -- where a read range stands among all ranges
   pub read_at : (index read from : ℕ) (txn : Txn) (range : Range) → AreRows 0 (take index rows) from
@@ -69,7 +69,7 @@ module _ (buffer : List ℕ) (spans : List Span) (rows : List Row) (tables : Are
       let part = slice_range (ranges_in txns) first row.end in
       same_ranges txn.writes part
       (ap (λ (f : TxnFields). f.writes) (fields_at index from row txn before is at)
-      ∙ sym (part_told buffer spans (ranges_in txns) part first row.end (ranges_told buffer spans rows tables tables.holds) refl))
+      ∙ sym (part_reported buffer spans (ranges_in txns) part first row.end (ranges_reported buffer spans rows tables tables.holds) refl))
 
   -- where a write range stands among all ranges
   pub write_at : (index write : ℕ) (row : Row) (txn : Txn) (range : Range) → slice_get txns index ≡ Some txn
@@ -90,9 +90,9 @@ module _ (buffer : List ℕ) (spans : List Span) (rows : List Row) (tables : Are
   -- there are only so many ranges
   pub few_ranges : length (ranges_in txns) ≤ 2048 * length rows
   few_ranges =
-      let told = ap length (ranges_told buffer spans rows tables tables.holds) in
+      let reported = ap length (ranges_reported buffer spans rows tables tables.holds) in
       let few = few_spans buffer spans rows tables in
-      omega (arith, few, told, length-map (ranges_in txns) range_fields, length-map spans (range_told buffer))
+      omega (arith, few, reported, length-map (ranges_in txns) range_fields, length-map spans (range_of_span buffer))
 
 module _ (ranges : List Range) (hashes : List (Option ℕ)) (are : AreHashesOf ranges hashes) (place : ℕ) (range : Range)
     (at : slice_get ranges place ≡ Some range) where

@@ -3,7 +3,7 @@ use Rattle.std.proofs.Common.{◌≡◌, ℕ, zero, suc, pos, false, ◌+◌, �
 use Rattle.keyspace.specs.declared.span.Span.{Span}
 use Rattle.keyspace.specs.declared.row.Row.{Row}
 use Rattle.keyspace.specs.Fields.{TxnFields}
-use Rattle.keyspace.specs.Tables.{txn_told, txns_from, AreRows}
+use Rattle.keyspace.specs.Tables.{txn_of_row, txns_from, AreRows}
 use Rattle.keyspace.proofs.callers.Rows.{rows_rise}
 
 -- what an index past the rows reads
@@ -42,23 +42,23 @@ row_at from (first ∷ rows) to (suc index) at row none are before within is =
     row_at first.end rows to index at row none are.1 before.1 (omega (arith, within)) is
 
 module _ (buffer : List ℕ) (spans : List Span) where
-  pub length-told : (from : ℕ) (rows : List Row) → length (txns_from buffer spans from rows) ≡ length rows
-  length-told from [] = refl
-  length-told from (row ∷ rows) = ap suc (length-told row.end rows)
+  pub length-reported : (from : ℕ) (rows : List Row) → length (txns_from buffer spans from rows) ≡ length rows
+  length-reported from [] = refl
+  length-reported from (row ∷ rows) = ap suc (length-reported row.end rows)
 
   -- the transaction at an index, whose spans begin where those of the rows before it end
-  pub told_at : (from : ℕ) (rows : List Row) (index at : ℕ) (row : Row) (none : TxnFields) → AreRows from (take index rows) at
+  pub reported_at : (from : ℕ) (rows : List Row) (index at : ℕ) (row : Row) (none : TxnFields) → AreRows from (take index rows) at
       → index < length rows → row ≡ get_or rows index row
-      → get_or (txns_from buffer spans from rows) index none ≡ txn_told buffer spans at row
-  told_at from [] index at row none before within is = absurd (omega (arith, within))
-  told_at from (first ∷ rows) zero at row none before within is =
-      ap (λ (n : ℕ). txn_told buffer spans n first) before ∙ ap (txn_told buffer spans at) (sym is)
-  told_at from (first ∷ rows) (suc index) at row none before within is =
-      told_at first.end rows index at row none before.1 (omega (arith, within)) is
+      → get_or (txns_from buffer spans from rows) index none ≡ txn_of_row buffer spans at row
+  reported_at from [] index at row none before within is = absurd (omega (arith, within))
+  reported_at from (first ∷ rows) zero at row none before within is =
+      ap (λ (n : ℕ). txn_of_row buffer spans n first) before ∙ ap (txn_of_row buffer spans at) (sym is)
+  reported_at from (first ∷ rows) (suc index) at row none before within is =
+      reported_at first.end rows index at row none before.1 (omega (arith, within)) is
 
   -- one row more
-  pub told_more : (from : ℕ) (rows : List Row) (at : ℕ) (row : Row) → AreRows from rows at
-      → txns_from buffer spans from (rows ++ row ∷ []) ≡ txns_from buffer spans from rows ++ txn_told buffer spans at row ∷ []
-  told_more from [] at row are = ap (λ (n : ℕ). txn_told buffer spans n row ∷ []) are
-  told_more from (first ∷ rows) at row are =
-      ap (λ (txns : List TxnFields). txn_told buffer spans from first ∷ txns) (told_more first.end rows at row are.1)
+  pub reported_more : (from : ℕ) (rows : List Row) (at : ℕ) (row : Row) → AreRows from rows at
+      → txns_from buffer spans from (rows ++ row ∷ []) ≡ txns_from buffer spans from rows ++ txn_of_row buffer spans at row ∷ []
+  reported_more from [] at row are = ap (λ (n : ℕ). txn_of_row buffer spans n row ∷ []) are
+  reported_more from (first ∷ rows) at row are =
+      ap (λ (txns : List TxnFields). txn_of_row buffer spans from first ∷ txns) (reported_more first.end rows at row are.1)

@@ -8,11 +8,11 @@ use Rattle.keyspace.specs.declared.span.Span.{Span}
 use Rattle.keyspace.specs.declared.row.Row.{Row}
 use Rattle.keyspace.specs.BatchRanges.{ranges_in}
 use Rattle.keyspace.specs.Fields.{RangeFields, TxnFields, range_fields, txn_fields, RangeHolds, TxnLimits, txns_with}
-use Rattle.keyspace.specs.Tables.{range_told, txns_from, txns_told, AreRows, AreTables}
+use Rattle.keyspace.specs.Tables.{range_of_span, txns_from, txns_of_tables, AreRows, AreTables}
 use Rattle.keyspace.proofs.callers.Rows.{rows_rise}
 use Rattle.keyspace.proofs.callers.SameFields.{same_ranges}
 use Rattle.keyspace.proofs.FieldsBack.{fields_of_txns}
-use Rattle.keyspace.proofs.RowsInTurn.{length-told}
+use Rattle.keyspace.proofs.RowsInTurn.{length-reported}
 use Rattle.keyspace.proofs.Slices.{slice_range-join}
 
 -- the ranges of transactions, as one list
@@ -42,55 +42,55 @@ few_in (txn ∷ txns) limits =
     let all = length-append (txn.reads ++ txn.writes) (fields_in txns) in
     omega arith
 
-told_in : (buffer : List ℕ) (spans : List Span) (from : ℕ) (rows : List Row) (to : ℕ) → AreRows from rows to
-    → fields_in (txns_from buffer spans from rows) ≡ map (range_told buffer) (slice_range spans from to)
-told_in buffer spans from [] to are =
+reported_in : (buffer : List ℕ) (spans : List Span) (from : ℕ) (rows : List Row) (to : ℕ) → AreRows from rows to
+    → fields_in (txns_from buffer spans from rows) ≡ map (range_of_span buffer) (slice_range spans from to)
+reported_in buffer spans from [] to are =
     let none : 0 ≡ to - from = omega (arith, are) in
-    ap (λ n. map (range_told buffer) (take n (drop from spans))) none
-told_in buffer spans from (row ∷ rows) to are =
-    let told = range_told buffer in
+    ap (λ n. map (range_of_span buffer) (take n (drop from spans))) none
+reported_in buffer spans from (row ∷ rows) to are =
+    let reported = range_of_span buffer in
     let middle = row.end - row.writes in
     let low : from ≤ middle = omega (arith, are.0) in
     let high : middle ≤ row.end = omega arith in
     let own : from ≤ row.end = omega (arith, are.0) in
-    ap₂ ◌++◌ (sym (map-append told (slice_range spans from middle) (slice_range spans middle row.end))
-    ∙ ap (map told) (slice_range-join spans from middle row.end low high)) (told_in buffer spans row.end rows to are.1)
-    ∙ sym (map-append told (slice_range spans from row.end) (slice_range spans row.end to))
-    ∙ ap (map told) (slice_range-join spans from row.end to own (rows_rise row.end rows to are.1))
+    ap₂ ◌++◌ (sym (map-append reported (slice_range spans from middle) (slice_range spans middle row.end))
+    ∙ ap (map reported) (slice_range-join spans from middle row.end low high)) (reported_in buffer spans row.end rows to are.1)
+    ∙ sym (map-append reported (slice_range spans from row.end) (slice_range spans row.end to))
+    ∙ ap (map reported) (slice_range-join spans from row.end to own (rows_rise row.end rows to are.1))
 
 module _ (buffer : List ℕ) (spans : List Span) (rows : List Row) (tables : AreTables buffer spans rows) where
-  told_by_spans : fields_in (txns_told buffer spans rows) ≡ map (range_told buffer) spans
-  told_by_spans =
-      told_in buffer spans 0 rows (length spans) tables.rows_fit
-      ∙ ap (map (range_told buffer)) (take_all (length spans - 0) spans (omega arith))
+  reported_by_spans : fields_in (txns_of_tables buffer spans rows) ≡ map (range_of_span buffer) spans
+  reported_by_spans =
+      reported_in buffer spans 0 rows (length spans) tables.rows_fit
+      ∙ ap (map (range_of_span buffer)) (take_all (length spans - 0) spans (omega arith))
 
-  pub spans_hold : All RangeHolds (map (range_told buffer) spans)
-  spans_hold = subst (All RangeHolds) told_by_spans (holds_in (txns_told buffer spans rows) tables.holds)
+  pub spans_hold : All RangeHolds (map (range_of_span buffer) spans)
+  spans_hold = subst (All RangeHolds) reported_by_spans (holds_in (txns_of_tables buffer spans rows) tables.holds)
 
   pub few_spans : length spans ≤ 2048 * length rows
   few_spans =
-      let few = few_in (txns_told buffer spans rows) tables.holds in
-      let as_spans : length (fields_in (txns_told buffer spans rows)) ≡ length spans =
-      ap length told_by_spans ∙ length-map spans (range_told buffer) in
-      let as_rows = length-told buffer spans 0 rows in
+      let few = few_in (txns_of_tables buffer spans rows) tables.holds in
+      let as_spans : length (fields_in (txns_of_tables buffer spans rows)) ≡ length spans =
+      ap length reported_by_spans ∙ length-map spans (range_of_span buffer) in
+      let as_rows = length-reported buffer spans 0 rows in
       omega arith
 
   -- transactions that the tables tell have the ranges of the spans
-  pub ranges_of_told : (txns : List Txn) → txns_told buffer spans rows ≡ map txn_fields txns
-      → map range_fields (ranges_in txns) ≡ map (range_told buffer) spans
-  ranges_of_told txns told = fields_of_ranges_in txns ∙ ap fields_in (sym told) ∙ told_by_spans
+  pub ranges_of_reported : (txns : List Txn) → txns_of_tables buffer spans rows ≡ map txn_fields txns
+      → map range_fields (ranges_in txns) ≡ map (range_of_span buffer) spans
+  ranges_of_reported txns reported = fields_of_ranges_in txns ∙ ap fields_in (sym reported) ∙ reported_by_spans
 
   -- the ranges of the transactions are those of the spans
-  pub ranges_told : (holds : All TxnLimits (txns_told buffer spans rows))
-      → map range_fields (ranges_in (txns_with (txns_told buffer spans rows) holds)) ≡ map (range_told buffer) spans
-  ranges_told holds =
-      fields_of_ranges_in (txns_with (txns_told buffer spans rows) holds)
-      ∙ ap fields_in (fields_of_txns (txns_told buffer spans rows) holds) ∙ told_by_spans
+  pub ranges_reported : (holds : All TxnLimits (txns_of_tables buffer spans rows))
+      → map range_fields (ranges_in (txns_with (txns_of_tables buffer spans rows) holds)) ≡ map (range_of_span buffer) spans
+  ranges_reported holds =
+      fields_of_ranges_in (txns_with (txns_of_tables buffer spans rows) holds)
+      ∙ ap fields_in (fields_of_txns (txns_of_tables buffer spans rows) holds) ∙ reported_by_spans
 
-  pub ranges_are : (holds : All TxnLimits (txns_told buffer spans rows)) (bytes : List ℕ) (places : List Span)
+  pub ranges_are : (holds : All TxnLimits (txns_of_tables buffer spans rows)) (bytes : List ℕ) (places : List Span)
       (ranges : List Range) → bytes ≡ buffer → places ≡ spans
-      → map range_fields ranges ≡ map (range_told bytes) places
-      → ranges ≡ ranges_in (txns_with (txns_told buffer spans rows) holds)
-  ranges_are holds bytes places ranges same_bytes same_places told =
-      same_ranges ranges (ranges_in (txns_with (txns_told buffer spans rows) holds))
-      (told ∙ ap₂ (λ bs ss. map (range_told bs) ss) same_bytes same_places ∙ sym (ranges_told holds))
+      → map range_fields ranges ≡ map (range_of_span bytes) places
+      → ranges ≡ ranges_in (txns_with (txns_of_tables buffer spans rows) holds)
+  ranges_are holds bytes places ranges same_bytes same_places reported =
+      same_ranges ranges (ranges_in (txns_with (txns_of_tables buffer spans rows) holds))
+      (reported ∙ ap₂ (λ bs ss. map (range_of_span bs) ss) same_bytes same_places ∙ sym (ranges_reported holds))

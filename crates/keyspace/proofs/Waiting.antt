@@ -132,12 +132,12 @@ admit_due window proxy b s h =
 abbrev pub IsQuiet : State → Type 0
 IsQuiet s = AllWait (version_of s.processed) s.held
 
-leave_then_quiet : (go_on : State → State) (window : ℤ) (turns : ℕ)
-    → ((s : State) → length s.held ≤ turns → IsQuiet (go_on s)) → (s : State) → length s.held ≤ suc turns
+leave_then_quiet : (continue_with : State → State) (window : ℤ) (turns : ℕ)
+    → ((s : State) → length s.held ≤ turns → IsQuiet (continue_with s)) → (s : State) → length s.held ≤ suc turns
     → (l : Option (Held × List Held)) → IsNext (version_of s.processed) s.held l
-    → IsQuiet (leave_then go_on window s l)
-leave_then_quiet go_on window turns f s n None k = k
-leave_then_quiet go_on window turns f s n (Some l) k =
+    → IsQuiet (leave_then continue_with window s l)
+leave_then_quiet continue_with window turns f s n None k = k
+leave_then_quiet continue_with window turns f s n (Some l) k =
     f (admit window l.0.0 l.0.1 (record s { held = l.1 }))
     (let e = ap length (admit_due window l.0.0 l.0.1 (record s { held = l.1 }) k.1) in omega (arith, k.0, e))
 

@@ -1,17 +1,17 @@
 -- Which ranges are write ranges, by the rows and by the transactions.
 use Rattle.std.proofs.Common.{◌≡◌, ℕ, ◌-◌, ◌+◌, ◌<◌, ◌≤◌, Bool, true, false, List, [], ◌∷◌, ◌++◌, length, map, filter, take, drop, get_or, replicate, flat_map, slice_range, refl, sym, ap, ap₂, subst, ◌∙◌, arith, All, append-nil, append_assoc, length-append, length-drop, length-take}
 use Rattle.std.proofs.lemmas.List.{length-map, length-replicate, take_all, take_more}
-use Rattle.keys.specs.Ranks.{AreChosenInOrder}
+use Rattle.keys.specs.GapRuns.{AreChosenInOrder}
 use Rattle.keys.specs.Singles.{is_marked, picked, HaveInOrder}
 use Rattle.keys.specs.declared.range.Range.{Range}
 use Rattle.keys.proofs.callers.Picked.{picked-append, picked-replicate}
-use Rattle.keys.proofs.callers.Ranks.{chosen_among}
+use Rattle.keys.proofs.callers.GapRuns.{chosen_among}
 use Rattle.keyspace.specs.declared.txn.Txn.{Txn}
 use Rattle.keyspace.specs.declared.span.Span.{Span}
 use Rattle.keyspace.specs.declared.row.Row.{Row}
 use Rattle.keyspace.specs.BatchRanges.{is_write_in, marks_of_txn, ranges_in, ranges_of_txn, write_marks, writes_in}
 use Rattle.keyspace.specs.Fields.{TxnFields, range_fields, txn_fields, TxnLimits, txns_with}
-use Rattle.keyspace.specs.Tables.{range_told, txns_from, txns_told, AreRows, AreTables}
+use Rattle.keyspace.specs.Tables.{range_of_span, txns_from, txns_of_tables, AreRows, AreTables}
 use Rattle.keyspace.specs.RowMarks.{marks_from, marks_of_rows}
 use Rattle.keyspace.proofs.callers.Rows.{rows_rise}
 use Rattle.keyspace.proofs.FieldsBack.{fields_of_txns}
@@ -50,13 +50,13 @@ marks_more from (first ∷ rows) at row are =
     ∙ sym (append_assoc reads (writes ++ others) last)
 
 -- what filling them up leaves: the marks of one row more
-pub marks_filled : (rows : List Row) (count index : ℕ) (row none : Row) (marks half whole : List Bool) → AreRows 0 rows count
+pub marks_filled : (rows : List Row) (count index : ℕ) (row none : Row) (marks half entire : List Bool) → AreRows 0 rows count
     → index < length rows → row ≡ get_or rows index none
     → marks ≡ marks_of_rows (take index rows) → AreRows 0 (take index rows) (length marks)
     → half ≡ take (row.end - row.writes) marks ++ replicate (row.end - row.writes - length marks) false
-    → whole ≡ take row.end half ++ replicate (row.end - length half) true
-    → (whole ≡ marks_of_rows (take (index + 1) rows)) × AreRows 0 (take (index + 1) rows) (length whole)
-marks_filled rows count index row none marks half whole are within is told before first second =
+    → entire ≡ take row.end half ++ replicate (row.end - length half) true
+    → (entire ≡ marks_of_rows (take (index + 1) rows)) × AreRows 0 (take (index + 1) rows) (length entire)
+marks_filled rows count index row none marks half entire are within is reported before first second =
     let middle = row.end - row.writes in
     let reads = replicate (middle - length marks) false in
     let writes = replicate row.writes true in
@@ -65,16 +65,16 @@ marks_filled rows count index row none marks half whole are within is told befor
     let half_long : length half ≡ middle =
     omega (arith, fits.0, ap length half_is, length-append marks reads, length-replicate (middle - length marks) false) in
     let count_writes : row.end - length half ≡ row.writes = omega (arith, fits.0, half_long) in
-    let whole_is : whole ≡ half ++ writes =
+    let entire_is : entire ≡ half ++ writes =
     second ∙ ap₂ (λ kept n. kept ++ replicate n true) (take_all row.end half (omega (arith, half_long))) count_writes in
-    let whole_long : row.end ≡ length whole =
-    omega (arith, fits.0, half_long, ap length whole_is, length-append half writes, length-replicate row.writes true) in
+    let entire_long : row.end ≡ length entire =
+    omega (arith, fits.0, half_long, ap length entire_is, length-append half writes, length-replicate row.writes true) in
     let taken : take (index + 1) rows ≡ take index rows ++ row ∷ [] =
     take_more rows index none within ∙ ap (λ r. take index rows ++ r ∷ []) (sym is) in (
-      whole_is ∙ ap (λ front. front ++ writes) half_is ∙ append_assoc marks reads writes
-          ∙ ap (λ front. front ++ (reads ++ writes)) told
+      entire_is ∙ ap (λ front. front ++ writes) half_is ∙ append_assoc marks reads writes
+          ∙ ap (λ front. front ++ (reads ++ writes)) reported
           ∙ sym (marks_more 0 (take index rows) (length marks) row before) ∙ ap marks_of_rows (sym taken),
-      subst (AreRows 0 (take (index + 1) rows)) (ap (λ (r : Row). r.end) (sym is) ∙ whole_long)
+      subst (AreRows 0 (take (index + 1) rows)) (ap (λ (r : Row). r.end) (sym is) ∙ entire_long)
           (rows_up_to 0 rows count index none are within),
     )
 
@@ -99,15 +99,15 @@ by_rows : (buffer : List ℕ) (spans : List Span) (from : ℕ) (rows : List Row)
     → marks_from from rows ≡ marks_of_fields (txns_from buffer spans from rows)
 by_rows buffer spans from [] to are within = refl
 by_rows buffer spans from (row ∷ rows) to are within =
-    let told = range_told buffer in
+    let reported = range_of_span buffer in
     let middle = row.end - row.writes in
     let ends : row.end ≤ length spans = omega (arith, rows_rise row.end rows to are.1, within) in
     let reads = slice_range spans from middle in
     let writes = slice_range spans middle row.end in
     let part = length-part spans middle row.end (omega arith) ends in
-    let count : length (map told reads) ≡ middle - from =
-    length-map reads told ∙ length-part spans from middle (omega (arith, are.0)) (omega (arith, ends)) in
-    let more : length (map told writes) ≡ row.writes = length-map writes told ∙ omega (arith, part, are.0) in
+    let count : length (map reported reads) ≡ middle - from =
+    length-map reads reported ∙ length-part spans from middle (omega (arith, are.0)) (omega (arith, ends)) in
+    let more : length (map reported writes) ≡ row.writes = length-map writes reported ∙ omega (arith, part, are.0) in
     sym (append_assoc (replicate (middle - from) false) (replicate row.writes true) (marks_from row.end rows))
     ∙ ap₂ ◌++◌ (ap₂ marks_for (sym count) (sym more)) (by_rows buffer spans row.end rows to are.1 within)
 
@@ -134,15 +134,15 @@ picked_writes (t ∷ txns) =
     ∙ ap₂ ◌++◌ (picked_of_txn t) (picked_writes txns)
 
 module _ (buffer : List ℕ) (spans : List Span) (rows : List Row) (tables : AreTables buffer spans rows)
-    (holds : All TxnLimits (txns_told buffer spans rows)) where
+    (holds : All TxnLimits (txns_of_tables buffer spans rows)) where
   abbrev txns : List Txn
-  txns = txns_with (txns_told buffer spans rows) holds
+  txns = txns_with (txns_of_tables buffer spans rows) holds
 
   -- the marks of the rows are those of the transactions that the tables mean
-  pub marks_told : marks_of_rows rows ≡ write_marks txns
-  marks_told =
+  pub marks_reported : marks_of_rows rows ≡ write_marks txns
+  marks_reported =
       by_rows buffer spans 0 rows (length spans) tables.rows_fit (omega arith)
-      ∙ sym (ap marks_of_fields (fields_of_txns (txns_told buffer spans rows) holds)) ∙ sym (by_fields txns)
+      ∙ sym (ap marks_of_fields (fields_of_txns (txns_of_tables buffer spans rows) holds)) ∙ sym (by_fields txns)
 
   -- those listed that are marked are the write ranges of the transactions, in order
   pub writes_in_order : (marks : List Bool) (ranges : List Range) (order their_order writes : List ℕ)
@@ -151,15 +151,15 @@ module _ (buffer : List ℕ) (spans : List Span) (rows : List Row) (tables : Are
       → AreChosenInOrder (is_write_in txns) (ranges_in txns) writes
   writes_in_order marks ranges order their_order writes same_marks same_ranges same_order have are =
       let chosen = chosen_among (is_marked marks) ranges order have in
-      let told = same_marks ∙ marks_told in
-      let moved = subst (λ (ms : List Bool). AreChosenInOrder (is_marked ms) ranges (filter (is_marked ms) order)) told chosen in
+      let reported = same_marks ∙ marks_reported in
+      let moved = subst (λ (ms : List Bool). AreChosenInOrder (is_marked ms) ranges (filter (is_marked ms) order)) reported chosen in
       subst (AreChosenInOrder (is_write_in txns) (ranges_in txns))
       (sym (are ∙ ap (filter (is_marked marks)) same_order
-      ∙ ap (λ (ms : List Bool). filter (is_marked ms) order) told))
+      ∙ ap (λ (ms : List Bool). filter (is_marked ms) order) reported))
       (subst (λ (rs : List Range). AreChosenInOrder (is_write_in txns) rs (filter (is_write_in txns) order)) same_ranges moved)
 
   -- and those picked
-  pub picked_told : (marks : List Bool) (ranges : List Range) → marks ≡ marks_of_rows rows → ranges ≡ ranges_in txns
+  pub picked_reported : (marks : List Bool) (ranges : List Range) → marks ≡ marks_of_rows rows → ranges ≡ ranges_in txns
       → picked marks ranges ≡ writes_in txns
-  picked_told marks ranges same_marks same_ranges =
-      ap₂ picked (same_marks ∙ marks_told) same_ranges ∙ picked_writes txns
+  picked_reported marks ranges same_marks same_ranges =
+      ap₂ picked (same_marks ∙ marks_reported) same_ranges ∙ picked_writes txns

@@ -2,7 +2,7 @@
 use Rattle.std.specs.Prelude.{◌≡◌, ℕ, List, ◌++◌, length, map, All}
 use Rattle.keyspace.specs.declared.span.Span.{Span}
 use Rattle.keyspace.specs.Fields.{RangeFields}
-use Rattle.keyspace.specs.Tables.{range_told, LiesWithin}
+use Rattle.keyspace.specs.Tables.{range_of_span, LiesWithin}
 
 -- the ranges have been appended: their keys to the buffer, and their spans to the others
 pub record ArePut (buffer : List ℕ) (spans : List Span) (ranges : List RangeFields) (new_buffer : List ℕ) (new_spans : List Span)
@@ -11,5 +11,5 @@ pub record ArePut (buffer : List ℕ) (spans : List Span) (ranges : List RangeFi
   pub added : List Span
   pub buffer_is : new_buffer ≡ buffer ++ bytes
   pub spans_are : new_spans ≡ spans ++ added
-  pub told : map (range_told new_buffer) added ≡ ranges
+  pub reported : map (range_of_span new_buffer) added ≡ ranges
   pub within : All (LiesWithin (length new_buffer)) added

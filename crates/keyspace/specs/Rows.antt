@@ -35,7 +35,7 @@ use Rattle.keyspace.specs.declared.batch.Batch.{Batch}
 use Rattle.keyspace.specs.declared.reply.Verdict.{Verdict}
 use Rattle.keyspace.specs.declared.reply.Verdict.TheVariants.{Conflict, TooOld, Committed}
 use Rattle.keyspace.specs.declared.answer.Answer.{Answer}
-use Rattle.keyspace.specs.declared.answer.Answer.TheVariants as told
+use Rattle.keyspace.specs.declared.answer.Answer.TheVariants as reported
 use Rattle.keys.specs.Key.{IsKey, is_before, IsAtMost}
 use Rattle.keyspace.specs.Run.{Step, Take, Finish, answers}
 
@@ -68,22 +68,22 @@ pub record Limits : Type 0 where
       × (length txns ≤ MAX_TXNS)
 
 -- what is answered, without the proofs of its limits
-pub data Told : Type 0 where
-  Replied : (version : ℕ) (entries : List (Verdict × List ℕ)) → Told
-  Never : (version : ℕ) → Told
-  Held : (version : ℕ) → Told
+pub data PlainAnswer : Type 0 where
+  Replied : (version : ℕ) (entries : List (Verdict × List ℕ)) → PlainAnswer
+  Never : (version : ℕ) → PlainAnswer
+  Held : (version : ℕ) → PlainAnswer
 
 abbrev pub number_of : ℤ → ℕ
 number_of (pos n) = n
 number_of (negsuc n) = 0
 
-abbrev pub told_of : Answer → Told
-told_of (told.Reply r) = Replied (number_of r.version) (map (λ e. (e.verdict, e.places)) r.entries)
-told_of (told.Never version) = Never (number_of version)
-told_of (told.Held version) = Held (number_of version)
+abbrev pub plain_answer : Answer → PlainAnswer
+plain_answer (reported.Reply r) = Replied (number_of r.version) (map (λ e. (e.verdict, e.places)) r.entries)
+plain_answer (reported.Never version) = Never (number_of version)
+plain_answer (reported.Held version) = Held (number_of version)
 
-abbrev pub answered : List Step → ℕ → List Told
-answered log proxy = map told_of (answers WINDOW log proxy)
+abbrev pub answered : List Step → ℕ → List PlainAnswer
+answered log proxy = map plain_answer (answers WINDOW log proxy)
 
 abbrev pub committed : Verdict × List ℕ
 committed = (Committed, [])
@@ -150,7 +150,7 @@ module _ (limits : Limits) where
   abbrev pub opening : Step
   opening = Take 0 (batch (negsuc 0) 0 (negsuc 0) [] refl)
 
-  abbrev pub after_opening : List Step → List Told
+  abbrev pub after_opening : List Step → List PlainAnswer
   after_opening log = answered (opening ∷ log) 0
 
   -- [a, b), [b, c), [c, d), [e, f), [x, y)

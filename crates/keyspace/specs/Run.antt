@@ -21,7 +21,7 @@ use Rattle.std.specs.Prelude.{
 }
 use Rattle.keyspace.specs.declared.batch.Batch.{Batch}
 use Rattle.keyspace.specs.declared.answer.Answer.{Answer}
-use Rattle.keyspace.specs.declared.answer.Answer.TheVariants as told
+use Rattle.keyspace.specs.declared.answer.Answer.TheVariants as reported
 use Rattle.keyspace.specs.Processed.{Processed, version_of}
 use Rattle.keyspace.specs.Writes.{writes}
 use Rattle.keyspace.specs.Judge.{judge}
@@ -54,7 +54,7 @@ hold proxy b s = record s { held = s.held ++ (proxy, b) ∷ [] }
 abbrev pub process : ℤ → ℕ → Batch → State → State
 process window proxy b s =
     let reply = judge window (writes s.processed) b in
-    answer proxy (told.Reply reply)
+    answer proxy (reported.Reply reply)
     (record s { processed = s.processed ++ record { proxy = proxy; batch = b; reply = reply } ∷ [] })
 
 -- by the batch's previous version: above the version it is held, below it is a repeat, else it is processed
@@ -67,8 +67,8 @@ admit window proxy b s =
 
 -- if a batch is due, it leaves and is admitted anew, and then the others are considered
 abbrev pub leave_then : (State → State) → ℤ → State → Option (Held × List Held) → State
-leave_then go_on window s None = s
-leave_then go_on window s (Some l) = go_on (admit window l.0.0 l.0.1 (record s { held = l.1 }))
+leave_then continue_with window s None = s
+leave_then continue_with window s (Some l) = continue_with (admit window l.0.0 l.0.1 (record s { held = l.1 }))
 
 -- Held batches leave one at a time, the choice made anew each time, until none is due. With each there is one fewer held,
 -- so as many turns as batches are held are enough.
@@ -83,7 +83,7 @@ leave_all window s = leave (length s.held) window s
 abbrev pub step : ℤ → Step → State → State
 step window (Take proxy b) s = leave_all window (admit window proxy b s)
 step window Finish s =
-    record s { held = []; answered = s.answered ++ map (λ h. (h.0, told.Held h.1.version)) s.held }
+    record s { held = []; answered = s.answered ++ map (λ h. (h.0, reported.Held h.1.version)) s.held }
 
 abbrev pub run_from : ℤ → List Step → State → State
 run_from window [] s = s

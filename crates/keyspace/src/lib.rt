@@ -12,7 +12,7 @@
 //!
 //! A batch keeps its transactions as [`Txns`]: one buffer with the bytes of all keys, a [`Span`] a
 //! range, and a [`Row`] a transaction. It lends them as [`TxnRef`], [`RangesRef`] and [`RangeRef`],
-//! so no key is copied once it is read. Their ranges are ranked ([`Ranks`]) when a batch is read,
+//! so no key is copied once it is read. Their ranges are ranked ([`GapRuns`]) when a batch is read,
 //! and not when batches are resolved in sequence.
 #![tactic(auto)]
 
@@ -36,7 +36,7 @@ pub use answer::Answer;
 pub use batch::{Batch, MAX_TXNS};
 pub use error::LimitError;
 pub use keys::{
-    Key, KeyError, MAX_KEY_LENGTH, Range, RangeList, RangeRef, Ranks, common_prefix_len, key_head,
+    GapRuns, Key, KeyError, MAX_KEY_LENGTH, Range, RangeList, RangeRef, common_prefix_len, key_head,
 };
 pub use ranges_ref::RangesRef;
 pub use reply::{Entry, Places, Reply, Verdict};

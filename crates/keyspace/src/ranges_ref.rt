@@ -3,7 +3,7 @@
 ghost use Rattle.std.specs.Prelude.{◌≡◌, ◌↔◌, ◌+◌, ◌<◌, ◌≤◌, [], Some, IsTrue, All, length, map};
 ghost use Rattle.std.specs.Prelude.{slice_get, slice_range};
 ghost use Rattle.keyspace.specs.Fields.{range_fields, RangeHolds};
-ghost use Rattle.keyspace.specs.Tables.{range_told, LiesWithin};
+ghost use Rattle.keyspace.specs.Tables.{range_of_span, LiesWithin};
 
 use crate::span::Span;
 use keys::{RangeList, RangeRef};
@@ -16,26 +16,26 @@ pub struct RangesRef<'a> {
     buffer: &'a [u8],
     spans: &'a [Span],
     ghost within: { All (LiesWithin (length buffer.now)) spans.now },
-    ghost holds: { All RangeHolds (map (range_told buffer.now) spans.now) },
+    ghost holds: { All RangeHolds (map (range_of_span buffer.now) spans.now) },
 }
 
 impl<'a> Model for RangesRef<'a> {
     ghost use Rattle.std.specs.Prelude.{List, map};
     ghost use Rattle.keys.specs.declared.range.Range.{Range};
     ghost use Rattle.keyspace.specs.Fields.{ranges_with};
-    ghost use Rattle.keyspace.specs.Tables.{range_told};
+    ghost use Rattle.keyspace.specs.Tables.{range_of_span};
 
     ghost Value = { List Range };
 
-    ghost view = { λ r. ranges_with (map (range_told r.buffer.now) r.spans.now) r.holds };
+    ghost view = { λ r. ranges_with (map (range_of_span r.buffer.now) r.spans.now) r.holds };
 }
 
 impl<'a> RangesRef<'a> {
     /// Lends the ranges of the spans, whose keys lie in the buffer.
     pub fn new(buffer: &'a [u8], spans: &'a [Span]) -> Self
         requires within { All (LiesWithin (length buffer.now)) spans.now }
-        requires holds { All RangeHolds (map (range_told buffer.now) spans.now) }
-        ensures told { map range_fields result ≡ map (range_told buffer.now) spans.now }
+        requires holds { All RangeHolds (map (range_of_span buffer.now) spans.now) }
+        ensures reported { map range_fields result ≡ map (range_of_span buffer.now) spans.now }
     {
         RangesRef { buffer, spans }
     }

@@ -3,7 +3,7 @@
 ghost use Rattle.std.specs.Prelude.{◌≡◌, [], ◌∷◌, ◌++◌, ◌<◌, ◌≤◌, length, vec_len, map, IfOk, OnOk};
 ghost use Rattle.keyspace.specs.Fields.{range_fields, txn_fields};
 ghost use Rattle.keyspace.specs.Putting.{ArePut};
-ghost use Rattle.keyspace.specs.Tables.{txns_told, AreTables};
+ghost use Rattle.keyspace.specs.Tables.{txns_of_tables, AreTables};
 ghost use Rattle.keyspace.specs.declared.batch.TheConstants.{MAX_TXNS};
 
 use crate::row::Row;
@@ -29,7 +29,7 @@ impl Tables {
     pub fn of(alloc: Global, txns: &[Txn]) -> Result<Self, AllocError>
         requires few { length txns.now ≤ MAX_TXNS }
         ensures tables { IfOk result (λ t. AreTables t.buffer.items t.spans.items t.rows.items) }
-        ensures told { IfOk result (λ t. txns_told t.buffer.items t.spans.items t.rows.items
+        ensures reported { IfOk result (λ t. txns_of_tables t.buffer.items t.spans.items t.rows.items
             ≡ map txn_fields txns.now) }
         ensures count { IfOk result (λ t. vec_len t.rows ≡ length txns.now) }
     {
@@ -50,9 +50,9 @@ impl Tables {
         requires few { vec_len self.old.rows < MAX_TXNS }
         ensures tables { OnOk result (AreTables self.new.buffer.items self.new.spans.items
             self.new.rows.items) }
-        ensures told { OnOk result (txns_told self.new.buffer.items self.new.spans.items
+        ensures reported { OnOk result (txns_of_tables self.new.buffer.items self.new.spans.items
             self.new.rows.items
-            ≡ txns_told self.old.buffer.items self.old.spans.items self.old.rows.items
+            ≡ txns_of_tables self.old.buffer.items self.old.spans.items self.old.rows.items
             ++ txn_fields txn.now ∷ []) }
     {
         put_ranges(&mut self.buffer, &mut self.spans, txn.reads.as_slice())?;

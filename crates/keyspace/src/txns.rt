@@ -5,12 +5,12 @@ ghost use Rattle.std.specs.Prelude.{map, slice_get};
 ghost use Rattle.std.specs.Prelude.{IfOk, IsSomeAnd};
 ghost use Rattle.keys.specs.Hash.{IsHashOf};
 ghost use Rattle.keys.specs.Range.{IsSingle};
-ghost use Rattle.keys.specs.Ranks.{AreChosenInOrder, AreRanked};
+ghost use Rattle.keys.specs.GapRuns.{AreChosenInOrder, AreRanked};
 ghost use Rattle.keys.specs.Singles.{AreRankedFor};
 ghost use Rattle.keys.specs.declared.range.Range.{Range};
 ghost use Rattle.keyspace.specs.BatchRanges.{is_write_in, ranges_in, writes_in};
 ghost use Rattle.keyspace.specs.Fields.{txn_fields};
-ghost use Rattle.keyspace.specs.Tables.{txns_told, AreTables, AreTables-prop};
+ghost use Rattle.keyspace.specs.Tables.{txns_of_tables, AreTables, AreTables-prop};
 ghost use Rattle.keyspace.specs.declared.batch.TheConstants.{MAX_TXNS};
 ghost use Rattle.keyspace.specs.declared.txn.Txn.{Txn as TxnValue};
 
@@ -21,7 +21,7 @@ use crate::tables::Tables;
 use crate::txn::Txn;
 use crate::txn_ref::TxnRef;
 use crate::write_order::{list_writes, mark_writes};
-use keys::{HashedRange, Ranks, single_hashes};
+use keys::{GapRuns, HashedRange, single_hashes};
 use std::alloc::{AllocError, Global};
 use std::marker::Model;
 
@@ -37,7 +37,7 @@ pub struct Txns {
     buffer: Vec<u8>,
     spans: Vec<Span>,
     rows: Vec<Row>,
-    ranks: Ranks,
+    ranks: GapRuns,
     // The indices of the write ranges that aren't empty, in the order of the ranks.
     write_order: Vec<u32>,
     // Of each range that is a single key; or none at all, if there is no such range.
@@ -51,20 +51,21 @@ impl Model for Txns {
     ghost use Rattle.std.specs.Prelude.{◌⊎◌, All, List};
     ghost use Rattle.keys.specs.Hash.{AreHashesOf};
     ghost use Rattle.keys.specs.Range.{IsSingle};
-    ghost use Rattle.keys.specs.Ranks.{AreChosenInOrder, AreRanked};
+    ghost use Rattle.keys.specs.GapRuns.{AreChosenInOrder, AreRanked};
     ghost use Rattle.keys.specs.Singles.{AreRankedFor};
     ghost use Rattle.keyspace.specs.BatchRanges.{is_write_in, ranges_in, writes_in};
     ghost use Rattle.keyspace.specs.Fields.{txns_with};
-    ghost use Rattle.keyspace.specs.Tables.{txns_told};
+    ghost use Rattle.keyspace.specs.Tables.{txns_of_tables};
     ghost use Rattle.keyspace.specs.declared.txn.Txn.{Txn};
 
     ghost Value = { List Txn };
 
-    ghost view = { λ t. txns_with (txns_told t.buffer.items t.spans.items t.rows.items)
+    ghost view = { λ t. txns_with (txns_of_tables t.buffer.items t.spans.items t.rows.items)
         t.tables.holds };
 
     ghost invariant = { λ t.
-        let txns = txns_with (txns_told t.buffer.items t.spans.items t.rows.items) t.tables.holds in
+        let txns = txns_with (txns_of_tables t.buffer.items t.spans.items t.rows.items)
+        t.tables.holds in
         AreRankedFor (writes_in txns) (ranges_in txns) t.ranks
         × (AreRanked (ranges_in txns) t.ranks ⊎ All IsSingle (ranges_in txns))
         × AreChosenInOrder (is_write_in txns) (ranges_in txns) t.write_order.items
@@ -93,12 +94,12 @@ impl Txns {
         requires tables { AreTables buffer.items spans.items rows.items }
         requires few { vec_len rows ≤ MAX_TXNS }
         ensures fields { IfOk result (λ txns. map txn_fields txns
-            ≡ txns_told buffer.items spans.items rows.items) }
+            ≡ txns_of_tables buffer.items spans.items rows.items) }
     {
         let ranges = RangesRef::new(&buffer, &spans);
         let hashes = single_hashes(alloc, &ranges)?;
         let written = mark_writes(alloc, &rows)?;
-        let (ranks, order) = Ranks::for_written(alloc, &ranges, &hashes, &written)?;
+        let (ranks, order) = GapRuns::for_written(alloc, &ranges, &hashes, &written)?;
         let write_order = list_writes(alloc, order, &written)?;
         Ok(Txns {
             buffer,
@@ -197,7 +198,7 @@ impl Txns {
     /// Returns which of the gaps between the begins of the ranges each of these covers. The index
     /// of a range is that in [`Txns::ranges`]. If all ranges are single keys, a key that is read
     /// and not written may have an empty run.
-    pub fn ranks(&self) -> &Ranks
+    pub fn ranks(&self) -> &GapRuns
         ensures ranked { AreRankedFor (writes_in self.now) (ranges_in self.now) result.now }
         ensures exact { AreRanked (ranges_in self.now) result.now
             ⊎ All IsSingle (ranges_in self.now) }

@@ -4,7 +4,7 @@ ghost use Rattle.std.specs.Prelude.{◌≡◌, ◌≤◌, ◌≤ℤ◌, ◌<ℤ�
 ghost use Rattle.std.specs.Prelude.{IfOk};
 ghost use Rattle.keyspace.specs.BatchRanges.{ranges_in};
 ghost use Rattle.keyspace.specs.Fields.{txn_fields};
-ghost use Rattle.keyspace.specs.Tables.{txns_told, AreTables, AreTables-prop};
+ghost use Rattle.keyspace.specs.Tables.{txns_of_tables, AreTables, AreTables-prop};
 ghost use Rattle.keyspace.specs.declared.batch.TheConstants.{MAX_TXNS};
 
 use crate::batch::Batch;
@@ -39,12 +39,12 @@ pub struct UnorderedBatch {
     ghost received_before: { received <ℤ version },
     ghost tables: { AreTables buffer.items spans.items rows.items } by { AreTables-prop buffer.items
         spans.items rows.items },
-    ghost few: { length (txns_told buffer.items spans.items rows.items) ≤ MAX_TXNS },
+    ghost few: { length (txns_of_tables buffer.items spans.items rows.items) ≤ MAX_TXNS },
 }
 
 impl Model for UnorderedBatch {
     ghost use Rattle.keyspace.specs.Fields.{txns_with, length-txns_with};
-    ghost use Rattle.keyspace.specs.Tables.{txns_told};
+    ghost use Rattle.keyspace.specs.Tables.{txns_of_tables};
     ghost use Rattle.keyspace.specs.contracts.batch.Batch as batch_type;
     ghost use Rattle.keyspace.specs.declared.batch.Batch.{Batch};
 
@@ -56,13 +56,13 @@ impl Model for UnorderedBatch {
       previous = b.previous;
       version = b.version;
       received = b.received;
-      txns = txns_with (txns_told b.buffer.items b.spans.items b.rows.items) b.tables.holds;
+      txns = txns_with (txns_of_tables b.buffer.items b.spans.items b.rows.items) b.tables.holds;
       natural = b.natural;
       previous_from = b.previous_from;
       rises = b.rises;
       received_from = b.received_from;
       received_before = b.received_before;
-      few = rw (length-txns_with (txns_told b.buffer.items b.spans.items b.rows.items)
+      few = rw (length-txns_with (txns_of_tables b.buffer.items b.spans.items b.rows.items)
           b.tables.holds) b.few;
     } };
 }
@@ -75,13 +75,14 @@ impl UnorderedBatch {
         requires received_from { negsuc 0 ≤ℤ received }
         requires received_before { received <ℤ version }
         requires tables { AreTables tables.buffer.items tables.spans.items tables.rows.items }
-        requires few { length (txns_told tables.buffer.items tables.spans.items tables.rows.items)
+        requires few { length
+            (txns_of_tables tables.buffer.items tables.spans.items tables.rows.items)
             ≤ MAX_TXNS }
         ensures previous { result.previous ≡ previous }
         ensures version { result.version ≡ version }
         ensures received { result.received ≡ received }
         ensures txns { map txn_fields result.txns
-            ≡ txns_told tables.buffer.items tables.spans.items tables.rows.items }
+            ≡ txns_of_tables tables.buffer.items tables.spans.items tables.rows.items }
     {
         let Tables {
             buffer,
@@ -117,7 +118,7 @@ impl UnorderedBatch {
     /// Returns the tables of the transactions.
     pub fn into_tables(self) -> Tables
         ensures tables { AreTables result.buffer.items result.spans.items result.rows.items }
-        ensures txns { txns_told result.buffer.items result.spans.items result.rows.items
+        ensures txns { txns_of_tables result.buffer.items result.spans.items result.rows.items
             ≡ map txn_fields self.txns }
     {
         Tables {

@@ -5,7 +5,7 @@ use Rattle.std.specs.Prelude.{Option, Some, slice_get}
 use Rattle.std.proofs.lemmas.Bool.{cases_lt}
 use Rattle.std.proofs.lemmas.Option.{none-some, same_Some}
 use Rattle.atomic_table.proofs.Lists.{one_turn}
-use Rattle.lane.specs.Lane.{IsBeginning}
+use Rattle.lane.specs.Lane.{IsPrefix}
 
 module _ {T : Type 0} where
   abbrev in_hand : Option T → List (ℕ × Option T) → Option T
@@ -36,15 +36,15 @@ module _ {T : Type 0} where
   item_after [] ys = refl
   item_after (x ∷ xs) ys = item_after xs ys
 
-  after : (xs ys : List T) (x : T) → slice_get ys 0 ≡ Some x → IsBeginning (xs ++ x ∷ []) (xs ++ ys)
+  after : (xs ys : List T) (x : T) → slice_get ys 0 ≡ Some x → IsPrefix (xs ++ x ∷ []) (xs ++ ys)
   after xs [] x e = absurd (none-some x e)
   after xs (y ∷ ys) x e =
       (ys, ap (λ z. xs ++ z ∷ ys) (same_Some y x e) ∙ sym (append_assoc xs (x ∷ []) ys))
 
   -- a beginning with the item that follows it
-  pub goes_on : (xs ys : List T) (x : T) → IsBeginning xs ys → slice_get ys (length xs) ≡ Some x
-      → IsBeginning (xs ++ x ∷ []) ys
-  goes_on xs ys x is e =
+  pub continues : (xs ys : List T) (x : T) → IsPrefix xs ys → slice_get ys (length xs) ≡ Some x
+      → IsPrefix (xs ++ x ∷ []) ys
+  continues xs ys x is e =
       let next = after xs is.0 x (sym (item_after xs is.0) ∙ ap (λ l. slice_get l (length xs)) (sym is.1) ∙ e) in
       (next.0, is.1 ∙ next.1)
 

@@ -2,8 +2,8 @@
 use Rattle.std.proofs.Common.{◌≡◌, ℕ, ◌+◌, List, [], ◌∷◌, ◌++◌, sym, refl, ap, ◌∙◌, append_assoc, arith}
 use Rattle.std.proofs.lemmas.List.{append-nil}
 use Rattle.lane.specs.declared.moves.Move.{Move}
-use Rattle.lane.specs.Moves.{count, is_send, is_take, is_port_look, is_intake_look, GoesOnBy}
-use Rattle.lane.specs.Lane.{IsBeginning, OneLog}
+use Rattle.lane.specs.Moves.{count, is_send, is_take, is_port_look, is_intake_look, ContinuesBy}
+use Rattle.lane.specs.Lane.{IsPrefix, OneLog}
 
 -- how many moves of a kind a log has that is one move longer
 more : (kind : Move → ℕ) (log : List Move) (move : Move) (n : ℕ) → count kind log ≡ n
@@ -21,13 +21,13 @@ one_more : (kind : Move → ℕ) (log : List Move) (move : Move) (n m : ℕ) →
     → count kind (log ++ move ∷ []) ≡ m
 one_more kind log move n m now is = more kind log move n is ∙ sym now
 
-longer : (part log : List Move) (move : Move) → IsBeginning part log → IsBeginning part (log ++ move ∷ [])
+longer : (part log : List Move) (move : Move) → IsPrefix part log → IsPrefix part (log ++ move ∷ [])
 longer part log move is =
     (is.0 ++ move ∷ [], ap (λ l. l ++ move ∷ []) is.1 ∙ append_assoc part is.0 (move ∷ []))
 
 -- a log goes on by a move, with all moves made before it
-pub goes_on_by : (part log : List Move) (move : Move) → IsBeginning part log → GoesOnBy move part (log ++ move ∷ [])
-goes_on_by part log move is = record { between = is.0; log = ap (λ l. l ++ move ∷ []) is.1 }
+pub continues_by : (part log : List Move) (move : Move) → IsPrefix part log → ContinuesBy move part (log ++ move ∷ [])
+continues_by part log move is = record { between = is.0; log = ap (λ l. l ++ move ∷ []) is.1 }
 
 module _ (port intake : List Move) (sends port_looks takes intake_looks : ℕ)
     (h : OneLog port intake sends port_looks takes intake_looks) (move : Move) where

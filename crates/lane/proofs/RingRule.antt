@@ -16,12 +16,12 @@ use Rattle.lane.specs.declared.ring.PortKnows.{PortKnows}
 use Rattle.lane.specs.declared.ring.IntakeKnows.{IntakeKnows}
 use Rattle.lane.specs.declared.ring.Known.{Known}
 use Rattle.lane.specs.declared.moves.Move.TheVariants.{Send, Take, PortLook, IntakeLook}
-use Rattle.lane.specs.Moves.{GoesOnBy, is_send, is_take}
+use Rattle.lane.specs.Moves.{ContinuesBy, is_send, is_take}
 use Rattle.lane.specs.Ring.{tail_word, Agree, Stand, Fits, IsRing, at_first, idle, that_takes, that_sends, that_does_both}
 use Rattle.lane.specs.Steps.{HeadLooked, Claimed, Sent, Closed, TailFound, Found, Took, port_looked, port_sent}
 use Rattle.lane.specs.Steps.{intake_looked, intake_took}
-use Rattle.lane.proofs.RingLists.{item_there, item_last, item_before, goes_on, one_slot}
-use Rattle.lane.proofs.RingLog.{by_port, by_intake, goes_on_by, as_many_of}
+use Rattle.lane.proofs.RingLists.{item_there, item_last, item_before, continues, one_slot}
+use Rattle.lane.proofs.RingLog.{by_port, by_intake, continues_by, as_many_of}
 
 -- a load leaves the words as they are
 loaded : (words : List ℕ) (i : ℕ) → words ≡ slice_set words i (slice_index words i)
@@ -182,8 +182,8 @@ module _ {T : Type 0} where
             (loaded s.words 0) (port_moves s h id me.0 p s.words s.homes at sends stand),
         record {
           looked = ap (λ (q : PortKnows T). (record me.0 { port = port_looked q n log }, me.1)) (sym known.1);
-          goes_on = subst (λ (q : PortKnows T). GoesOnBy PortLook q.log log) (sym known.1)
-              (goes_on_by h.port.log a.one_log.log PortLook a.one_log.of_port);
+          continues = subst (λ (q : PortKnows T). ContinuesBy PortLook q.log log) (sym known.1)
+              (continues_by h.port.log a.one_log.log PortLook a.one_log.of_port);
           moves = head ∙ sym (as_many_of is_take a.one_log.log PortLook _ refl a.one_log.of_takes.1);
           rises = omega (arith, head, a.seen_taken, ap (λ (q : PortKnows T). q.seen_taken) known.1);
           taken_sent = omega (
@@ -353,8 +353,8 @@ module _ {T : Type 0} where
         record {
           holds = record { item = x; held = held };
           sent = ap (λ (q : PortKnows T). (record me.0 { port = port_sent q x log }, rest me.1)) (sym known.1);
-          goes_on = subst (λ (q : PortKnows T). GoesOnBy Send q.log log) (sym known.1)
-              (goes_on_by h.port.log a.one_log.log Send a.one_log.of_port);
+          continues = subst (λ (q : PortKnows T). ContinuesBy Send q.log log) (sym known.1)
+              (continues_by h.port.log a.one_log.log Send a.one_log.of_port);
         },
       )
 
@@ -436,8 +436,8 @@ module _ {T : Type 0} where
             few = a.few;
             looked = ap (λ (q : IntakeKnows T). (record me.0 { intake = intake_looked q sent h.port.closed log }, me.1))
                 (sym known.1);
-            goes_on = subst (λ (q : IntakeKnows T). GoesOnBy IntakeLook q.log log) (sym known.1)
-                (goes_on_by h.intake.log a.one_log.log IntakeLook a.one_log.of_intake);
+            continues = subst (λ (q : IntakeKnows T). ContinuesBy IntakeLook q.log log) (sym known.1)
+                (continues_by h.intake.log a.one_log.log IntakeLook a.one_log.of_intake);
             moves = sym (as_many_of is_send a.one_log.log IntakeLook _ refl a.one_log.of_sends.1);
             rises = omega (arith, a.seen_sent, ap (λ (q : IntakeKnows T). q.seen_sent) known.1);
             stays = λ yes. a.seen_close (ap (λ (q : IntakeKnows T). q.seen_close) (sym known.1) ∙ yes);
@@ -537,7 +537,7 @@ module _ {T : Type 0} where
       let homes = slice_set s.homes (taken % n) (some None) in
       let wide : length homes ≡ n = length-set s.homes (taken % n) (some None) in
       let agree : Agree p t n = record {
-        in_order = goes_on h.intake.taken p.sent x a.in_order here;
+        in_order = continues h.intake.taken p.sent x a.in_order here;
         bounded = omega (arith, more, a.bounded);
         few = a.few;
         seen_taken = omega (arith, more, a.seen_taken);
@@ -587,8 +587,8 @@ module _ {T : Type 0} where
         record {
           holds = record { item = x; next = next; held = held };
           took = ap (λ (q : IntakeKnows T). (record me.0 { intake = intake_took q x log }, rest me.1)) (sym known.1);
-          goes_on = subst (λ (q : IntakeKnows T). GoesOnBy Take q.log log) (sym known.1)
-              (goes_on_by h.intake.log a.one_log.log Take a.one_log.of_intake);
+          continues = subst (λ (q : IntakeKnows T). ContinuesBy Take q.log log) (sym known.1)
+              (continues_by h.intake.log a.one_log.log Take a.one_log.of_intake);
           agree = λ yes. subst (λ (q : PortKnows T). Agree q t slots) (sym (mine.sends yes).1)
               (subst (λ m. Agree p t m) count agree);
         },

@@ -5,16 +5,16 @@ use Rattle.lane.specs.declared.moves.Move.{Move}
 use Rattle.lane.specs.Moves.{count, is_send, is_take, is_port_look, is_intake_look}
 
 -- the first list is a prefix of the second, which may be all of it
-abbrev pub IsBeginning : {T : Type 0} → List T → List T → Type 0
-IsBeginning {T} xs ys = (rest : List T) × (ys ≡ xs ++ rest)
+abbrev pub IsPrefix : {T : Type 0} → List T → List T → Type 0
+IsPrefix {T} xs ys = (rest : List T) × (ys ≡ xs ++ rest)
 
 -- The logs of the port and of the intake are beginnings of one log, and each has all moves of that
 -- end. That log has as many sends, takes and looks as there were. So an end can't say of a look that
 -- it came before a move of the other end which it came after.
 pub record OneLog (port intake : List Move) (sends port_looks takes intake_looks : ℕ) : Type 0 where
   pub log : List Move
-  pub of_port : IsBeginning port log
-  pub of_intake : IsBeginning intake log
+  pub of_port : IsPrefix port log
+  pub of_intake : IsPrefix intake log
   pub of_sends : (count is_send port ≡ sends) × (count is_send log ≡ sends)
   pub of_port_looks : (count is_port_look port ≡ port_looks) × (count is_port_look log ≡ port_looks)
   pub of_takes : (count is_take intake ≡ takes) × (count is_take log ≡ takes)
@@ -62,7 +62,7 @@ module _ {T : Type 0} where
   -- *Lane*, of the two ends of one lane
   pub record Lane (port : PortView T) (intake : IntakeView T) : Type 0 where
     -- the taken items are a prefix of the sent ones
-    pub in_order : IsBeginning intake.taken port.sent
+    pub in_order : IsPrefix intake.taken port.sent
     -- at most `capacity` items were sent and not taken
     pub bounded : length port.sent ≤ length intake.taken + port.capacity
     -- what an end has seen of the other isn't more than what is
@@ -94,14 +94,14 @@ module _ {T : Type 0} where
       record { lane = lane; capacity = capacity; taken = []; seen_sent = 0; seen_close = false; looks = 0; log = [] }
 
   -- the same port later: what it has seen, and how often it looked, doesn't fall
-  pub record PortGoesOn (old new : PortView T) : Type 0 where
+  pub record PortContinues (old new : PortView T) : Type 0 where
     pub lane : new.lane ≡ old.lane
     pub capacity : new.capacity ≡ old.capacity
     pub seen_taken : old.seen_taken ≤ new.seen_taken
     pub looks : old.looks ≤ new.looks
 
   -- the same intake later
-  pub record IntakeGoesOn (old new : IntakeView T) : Type 0 where
+  pub record IntakeContinues (old new : IntakeView T) : Type 0 where
     pub lane : new.lane ≡ old.lane
     pub capacity : new.capacity ≡ old.capacity
     pub seen_sent : old.seen_sent ≤ new.seen_sent

@@ -42,6 +42,6 @@ taken_by log = count is_take log
 
 -- An end makes this move, and its log continues with it, after the moves that both ends made before
 -- it.
-pub record GoesOnBy (move : Move) (old new : List Move) : Type 0 where
+pub record ContinuesBy (move : Move) (old new : List Move) : Type 0 where
   pub between : List Move
   pub log : new ≡ (old ++ between) ++ move ∷ []

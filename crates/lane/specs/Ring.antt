@@ -4,7 +4,7 @@ use lib.ListN.{get_elem?}
 use Rattle.std.specs.Prelude.{◌≡◌, ◌⊎◌, ℕ, ◌+◌, ◌%◌, ◌^◌, ◌<◌, ◌≤◌, Bool, true, false, if◌then◌else◌}
 use Rattle.std.specs.Prelude.{List, [], length, slice_get, slice_index, Option, Some, None}
 use Rattle.atomic_table.specs.Table.{State}
-use Rattle.lane.specs.Lane.{IsBeginning, OneLog}
+use Rattle.lane.specs.Lane.{IsPrefix, OneLog}
 use Rattle.lane.specs.declared.ring.PortKnows.{PortKnows}
 use Rattle.lane.specs.declared.ring.IntakeKnows.{IntakeKnows}
 use Rattle.lane.specs.declared.ring.Known.{Known}
@@ -17,7 +17,7 @@ module _ {T : Type 0} where
   -- what the two ends know, of a ring of n slots
   pub record Agree (port : PortKnows T) (intake : IntakeKnows T) (slots : ℕ) : Type 0 where
     -- the taken items are a prefix of the sent ones
-    pub in_order : IsBeginning intake.taken port.sent
+    pub in_order : IsPrefix intake.taken port.sent
     pub bounded : length port.sent ≤ length intake.taken + slots
     pub few : length port.sent ≤ 2 ^ 62
     -- what an end has seen of the other isn't more than what is

@@ -3,7 +3,7 @@ use Rattle.std.specs.Prelude.{◌≡◌, ℕ, ◌+◌, ◌%◌, ◌^◌, ◌<◌
 use Rattle.atomic_table.specs.Table.{Me, rest}
 use Rattle.lane.specs.declared.moves.Move.{Move}
 use Rattle.lane.specs.declared.moves.Move.TheVariants.{Send, Take, PortLook, IntakeLook}
-use Rattle.lane.specs.Moves.{GoesOnBy, sent_by, taken_by}
+use Rattle.lane.specs.Moves.{ContinuesBy, sent_by, taken_by}
 use Rattle.lane.specs.Ring.{Agree, tail_word}
 use Rattle.lane.specs.declared.ring.PortKnows.{PortKnows}
 use Rattle.lane.specs.declared.ring.IntakeKnows.{IntakeKnows}
@@ -20,7 +20,7 @@ module _ {T : Type 0} where
       : Type 0 where
     pub looked : new ≡ (record old.0 { port = port_looked old.0.port found new.0.port.log }, old.1)
     -- the look is a move, before which this many items were taken
-    pub goes_on : GoesOnBy PortLook old.0.port.log new.0.port.log
+    pub continues : ContinuesBy PortLook old.0.port.log new.0.port.log
     pub moves : found ≡ taken_by new.0.port.log
     pub rises : old.0.port.seen_taken ≤ found
     pub taken_sent : found ≤ length old.0.port.sent
@@ -57,7 +57,7 @@ module _ {T : Type 0} where
   pub record Sent (slots : ℕ) (old : Me (Option T) (Known T)) (new : Me (Option T) (Known T)) : Type 0 where
     pub holds : HoldsItem slots old
     pub sent : new ≡ (record old.0 { port = port_sent old.0.port holds.item new.0.port.log }, rest old.1)
-    pub goes_on : GoesOnBy Send old.0.port.log new.0.port.log
+    pub continues : ContinuesBy Send old.0.port.log new.0.port.log
 
   pub record Closed (old : Me (Option T) (Known T)) (new : Me (Option T) (Known T)) : Type 0 where
     pub closed : new ≡ (record old.0 { port = record old.0.port { closed = true } }, old.1)
@@ -72,7 +72,7 @@ module _ {T : Type 0} where
     pub few : sent ≤ 2 ^ 62
     pub looked : new ≡ (record old.0 { intake = intake_looked old.0.intake sent closed new.0.intake.log }, old.1)
     -- the look is a move, before which this many items were sent
-    pub goes_on : GoesOnBy IntakeLook old.0.intake.log new.0.intake.log
+    pub continues : ContinuesBy IntakeLook old.0.intake.log new.0.intake.log
     pub moves : sent ≡ sent_by new.0.intake.log
     pub rises : old.0.intake.seen_sent ≤ sent
     pub stays : old.0.intake.seen_close ≡ true → closed ≡ true
@@ -123,7 +123,7 @@ module _ {T : Type 0} where
   pub record Took (slots : ℕ) (old : Me (Option T) (Known T)) (new : Me (Option T) (Known T)) : Type 0 where
     pub holds : HoldsEmpty slots old
     pub took : new ≡ (record old.0 { intake = intake_took old.0.intake holds.item new.0.intake.log }, rest old.1)
-    pub goes_on : GoesOnBy Take old.0.intake.log new.0.intake.log
+    pub continues : ContinuesBy Take old.0.intake.log new.0.intake.log
     -- a token that sends too learns that the two agree
     pub agree : old.0.sends ≡ true → Agree old.0.port new.0.intake slots
 

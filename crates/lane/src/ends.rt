@@ -1,7 +1,8 @@
 //! How a lane is made: both of its ends at once.
 
 ghost use Rattle.std.specs.Prelude.{◌≡◌, ◌<◌, ◌≤◌, ◌↔◌, IsTrue, IfOk};
-ghost use Rattle.lane.specs.Lane.{Lane, SameLane, SeesWhatIs, PortGoesOn, IntakeGoesOn, new_port};
+ghost use Rattle.lane.specs.Lane.{Lane, SameLane, SeesWhatIs, PortContinues, IntakeContinues};
+ghost use Rattle.lane.specs.Lane.{new_port};
 ghost use Rattle.lane.specs.Lane.{new_intake};
 
 use crate::error::LaneError;
@@ -36,10 +37,10 @@ pub fn agree<T>(port: &mut Port<T>, intake: &mut Intake<T>) -> bool
     requires same_lane { SameLane port.old intake.old }
     ensures lane_before { Lane port.old intake.old }
     ensures lane { Lane port.new intake.new }
-    ensures port { PortGoesOn port.old port.new }
+    ensures port { PortContinues port.old port.new }
     ensures sent { port.new.sent ≡ port.old.sent }
     ensures closed { port.new.closed ≡ port.old.closed }
-    ensures intake { IntakeGoesOn intake.old intake.new }
+    ensures intake { IntakeContinues intake.old intake.new }
     ensures taken { intake.new.taken ≡ intake.old.taken }
     ensures looked { SeesWhatIs port.old intake.old port.new intake.new }
     ensures all_taken { IsTrue result ↔ (intake.old.taken ≡ port.old.sent) }

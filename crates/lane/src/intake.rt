@@ -3,10 +3,11 @@
 ghost use Rattle.std.specs.Prelude.{◌≡◌, ◌<◌, ◌≤◌, ◌+◌, ◌^◌, [], ◌∷◌, ◌++◌, true, false, length};
 ghost use Rattle.std.specs.Prelude.{drop, slice_get, Some};
 ghost use Rattle.std.specs.Arc.{arc_value};
-ghost use Rattle.lane.specs.Lane.{Lane, SameLane, SeesWhatIs, PortGoesOn, IntakeGoesOn, HasEnded};
+ghost use Rattle.lane.specs.Lane.{Lane, SameLane, SeesWhatIs, PortContinues, IntakeContinues};
+ghost use Rattle.lane.specs.Lane.{HasEnded};
 ghost use Rattle.lane.specs.Lane.{new_intake};
 ghost use Rattle.lane.specs.Ends.{IsIntake, AreTaken, IsTokenOf};
-ghost use Rattle.lane.specs.Moves.{GoesOnBy, sent_by};
+ghost use Rattle.lane.specs.Moves.{ContinuesBy, sent_by};
 ghost use Rattle.lane.specs.declared.moves.Move.TheVariants.{IntakeLook};
 ghost use Rattle.lane.specs.Ring.{Agree, new_intake_knows};
 ghost use Rattle.lane.specs.Steps.{TailLooked, HoldsNext, Found, HoldsEmpty, Emptied, Took};
@@ -100,13 +101,13 @@ impl<T> Intake<T> {
     /// Takes the next item, in the order sent, or reports that the lane is empty or at its end.
     /// After `End` the answer is always `End`.
     pub fn take(&mut self) -> Taken<T>
-        ensures intake { IntakeGoesOn self.old self.new }
+        ensures intake { IntakeContinues self.old self.new }
         ensures taken { self.new.taken ≡ self.old.taken ++ items_of result }
         ensures empty_looks { IfEmpty result (self.old.looks < self.new.looks) }
         ensures empty { IfEmpty result (length self.new.taken ≡ self.new.seen_sent) }
         ensures empty_before_close { IfEmpty result (self.new.seen_close ≡ false) }
         // The look is the last move of the log. At that moment all that was sent was taken.
-        ensures empty_look { IfEmpty result (GoesOnBy IntakeLook self.old.log self.new.log) }
+        ensures empty_look { IfEmpty result (ContinuesBy IntakeLook self.old.log self.new.log) }
         ensures empty_then { IfEmpty result (sent_by self.new.log ≡ length self.new.taken) }
         ensures end { IfEnd result (HasEnded self.new) }
         ensures ended { HasEnded self.old → result ≡ Taken.End }
@@ -123,10 +124,10 @@ impl<T> Intake<T> {
         requires same_lane { SameLane port.old self.old }
         ensures lane_before { Lane port.old self.old }
         ensures lane { Lane port.new self.new }
-        ensures port { PortGoesOn port.old port.new }
+        ensures port { PortContinues port.old port.new }
         ensures sent { port.new.sent ≡ port.old.sent }
         ensures closed { port.new.closed ≡ port.old.closed }
-        ensures intake { IntakeGoesOn self.old self.new }
+        ensures intake { IntakeContinues self.old self.new }
         ensures looked { SeesWhatIs port.old self.old port.new self.new }
         ensures taken { self.new.taken ≡ self.old.taken ++ items_of result }
         ensures next { result ≡ next_of (drop (length self.old.taken) port.old.sent)

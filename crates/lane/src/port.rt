@@ -4,8 +4,8 @@ ghost use Rattle.std.specs.Prelude.{◌≡◌, ◌+◌, ◌^◌, ◌<◌, ◌≤
 ghost use Rattle.std.specs.Prelude.{length};
 ghost use Rattle.std.specs.Prelude.{Err, IsOk, OnOk, OnErr, IfErr, IsTrue};
 ghost use Rattle.std.specs.Arc.{arc_value};
-ghost use Rattle.lane.specs.Lane.{PortGoesOn, new_port};
-ghost use Rattle.lane.specs.Moves.{GoesOnBy, taken_by};
+ghost use Rattle.lane.specs.Lane.{PortContinues, new_port};
+ghost use Rattle.lane.specs.Moves.{ContinuesBy, taken_by};
 ghost use Rattle.lane.specs.declared.moves.Move.TheVariants.{PortLook};
 ghost use Rattle.lane.specs.Ends.{IsPort, AreSent, IsTokenOf};
 ghost use Rattle.lane.specs.Ring.{new_port_knows};
@@ -105,11 +105,11 @@ impl<T> Port<T> {
     /// [`MAX_SENT`] items, else `Full` where the port, looking anew in that call, has seen none of
     /// the last `capacity` items taken.
     pub fn send(&mut self, item: T) -> Result<(), Refused<T>>
-        ensures port { PortGoesOn self.old self.new }
+        ensures port { PortContinues self.old self.new }
         ensures sent { OnOk result (self.new.sent ≡ self.old.sent ++ item ∷ []) }
         ensures unchanged { OnErr result (self.new.sent ≡ self.old.sent) }
         ensures closed_stays { self.new.closed ≡ self.old.closed }
-        ensures handed_back { IfErr result (λ refused. item_of refused ≡ item) }
+        ensures returned { IfErr result (λ refused. item_of refused ≡ item) }
 
         // The refusals in their order.
         ensures closed { (result ≡ Err (Refused.Closed item)) ↔ (self.old.closed ≡ true) }
@@ -120,7 +120,7 @@ impl<T> Port<T> {
             → length self.new.sent ≡ self.new.seen_taken + self.new.capacity }
         // That look is the last move of the log. At that moment the lane held `capacity` items.
         ensures full_look { result ≡ Err (Refused.Full item)
-            → GoesOnBy PortLook self.old.log self.new.log }
+            → ContinuesBy PortLook self.old.log self.new.log }
         ensures full_then { result ≡ Err (Refused.Full item)
             → length self.new.sent ≡ taken_by self.new.log + self.new.capacity }
 

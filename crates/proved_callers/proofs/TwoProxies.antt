@@ -10,17 +10,17 @@ use Rattle.keyspace.specs.declared.batch.Batch.{Batch}
 use Rattle.keyspace.specs.Processed.{Processed}
 use Rattle.keyspace.specs.Run.{Step, run, answers, part}
 use Rattle.serial.specs.Replies.{IsSent, IsCommittedAt, ReportsCommitted}
-use Rattle.lane.specs.Lane.{PortGoesOn, IntakeGoesOn}
+use Rattle.lane.specs.Lane.{PortContinues, IntakeContinues}
 use Rattle.resolver.specs.declared.client.Client.{Client}
 use Rattle.proved_callers.specs.declared.serving.Served.{Served}
-use Rattle.resolver.specs.Core.{GoesOn, IsBeginning}
+use Rattle.resolver.specs.Core.{Continues, IsPrefix}
 use Rattle.resolver.specs.declared.turn.Account.{Account}
-use Rattle.resolver.specs.Lanes.{Each, LanesGoOn, has_ended, sent_to}
+use Rattle.resolver.specs.Lanes.{Each, LanesContinue, has_ended, sent_to}
 use Rattle.resolver.specs.Resolver.{ResolverState, IsResolving, TakesOnlyFrom, AreClients, IsNewClient}
 use Rattle.resolver.specs.Settled.{Settled, SettledFor}
 use Rattle.proved_callers.specs.Served.{ServedFor, IsOneOf, AreServed, HasDone, AreServing}
 use Rattle.resolver.proofs.callers.Lists.{slice_get-set_same, slice_get-set_other, slice_get_inside}
-use Rattle.resolver.proofs.callers.Later.{ClientGoesOn, port_same, intake_same, clients_same, clients_set, lanes_same, AreClients-later}
+use Rattle.resolver.proofs.callers.Later.{ClientContinues, port_same, intake_same, clients_same, clients_set, lanes_same, AreClients-later}
 
 -- what stands at an index of a list, after a write there
 written_at : {A : Type 0} (xs : List A) (i j : ℕ) (x y : A) → j ≡ i → i < length xs → slice_get (set xs i x) j ≡ Some y
@@ -37,11 +37,11 @@ both_same x (suc (suc i)) y at = absurd (none-some y at)
 module _ (window : ℤ) (r : ResolverState) (clients : List Client) (sent : List (List Batch))
     (taken : List (List Answer)) (are : AreServing window r clients sent taken) where
   -- and after a turn of the resolver
-  pub serving_turned : (s : ResolverState) → IsResolving s → GoesOn r.core s.core
-      → Each (λ _ l m. LanesGoOn l m) r.lanes s.lanes → AreServing window s clients sent taken
-  serving_turned s resolving goes_on lanes = record {
+  pub serving_turned : (s : ResolverState) → IsResolving s → Continues r.core s.core
+      → Each (λ _ l m. LanesContinue l m) r.lanes s.lanes → AreServing window s clients sent taken
+  serving_turned s resolving continues lanes = record {
     resolving = resolving;
-    window_is = goes_on.window ∙ are.window_is;
+    window_is = continues.window ∙ are.window_is;
     same_lanes = AreClients-later r.lanes s.lanes clients clients are.same_lanes lanes (clients_same clients);
     sent_count = are.sent_count;
     taken_count = are.taken_count;
@@ -49,27 +49,27 @@ module _ (window : ℤ) (r : ResolverState) (clients : List Client) (sent : List
   }
 
   -- and after the client at a number has sent or taken something
-  module _ (proxy : ℕ) (old new : Client) (at : slice_get clients proxy ≡ Some old) (goes_on : ClientGoesOn old new)
+  module _ (proxy : ℕ) (old new : Client) (at : slice_get clients proxy ≡ Some old) (continues : ClientContinues old new)
       (batches : List Batch) (answers : List Answer) (done : HasDone batches answers new) where
     inside : proxy < length clients
     inside = slice_get_within clients proxy old at
 
-    each_moved : (other : ℕ) (c : Client) (bs : List Batch) (told : List Answer)
+    each_moved : (other : ℕ) (c : Client) (bs : List Batch) (answers_taken : List Answer)
         → slice_get (set clients proxy new) other ≡ Some c → slice_get (set sent proxy batches) other ≡ Some bs
-        → slice_get (set taken proxy answers) other ≡ Some told → HasDone bs told c
-    each_moved other c bs told c_at bs_at told_at = elim (cases_eq other proxy) [
+        → slice_get (set taken proxy answers) other ≡ Some answers_taken → HasDone bs answers_taken c
+    each_moved other c bs answers_taken c_at bs_at reported_at = elim (cases_eq other proxy) [
       | inl here ↦
           let client = written_at clients proxy other new c here inside c_at in
           let sent_is = written_at sent proxy other batches bs here (omega (arith, inside, are.sent_count)) bs_at in
-          let taken_is = written_at taken proxy other answers told here (omega (arith, inside, are.taken_count)) told_at in
+          let taken_is = written_at taken proxy other answers answers_taken here (omega (arith, inside, are.taken_count)) reported_at in
           record {
             sent = ap (λ k. k.requests.sent) (sym client) ∙ done.sent ∙ sent_is;
             taken = ap (λ k. k.replies.taken) (sym client) ∙ done.taken ∙ taken_is;
           }
       | inr elsewhere ↦
-          are.each other c bs told (sym (slice_get-set_other clients proxy other new elsewhere) ∙ c_at)
+          are.each other c bs answers_taken (sym (slice_get-set_other clients proxy other new elsewhere) ∙ c_at)
           (sym (slice_get-set_other sent proxy other batches elsewhere) ∙ bs_at)
-          (sym (slice_get-set_other taken proxy other answers elsewhere) ∙ told_at)
+          (sym (slice_get-set_other taken proxy other answers elsewhere) ∙ reported_at)
     ]
 
     pub serving_moved : AreServing window r (set clients proxy new) (set sent proxy batches) (set taken proxy answers)
@@ -78,7 +78,7 @@ module _ (window : ℤ) (r : ResolverState) (clients : List Client) (sent : List
       window_is = are.window_is;
       same_lanes =
           AreClients-later r.lanes r.lanes clients (set clients proxy new) are.same_lanes (lanes_same r.lanes)
-          (clients_set clients proxy old new at goes_on);
+          (clients_set clients proxy old new at continues);
       sent_count = length-set sent proxy batches ∙ are.sent_count ∙ sym (length-set clients proxy new);
       taken_count = length-set taken proxy answers ∙ are.taken_count ∙ sym (length-set clients proxy new);
       each = each_moved;
@@ -87,13 +87,13 @@ module _ (window : ℤ) (r : ResolverState) (clients : List Client) (sent : List
   -- after the client at a number has sent these batches
   pub serving_sent : (proxy : ℕ) (old new : Client) (before batches : List Batch) (answers : List Answer)
       → slice_get clients proxy ≡ Some old → slice_get sent proxy ≡ Some before → slice_get taken proxy ≡ Some answers
-      → PortGoesOn old.requests new.requests → new.requests.sent ≡ batches → new.replies ≡ old.replies
+      → PortContinues old.requests new.requests → new.requests.sent ≡ batches → new.replies ≡ old.replies
       → AreServing window r (set clients proxy new) (set sent proxy batches) (set taken proxy answers)
   serving_sent proxy old new before batches answers at sent_at taken_at port sends replies =
       serving_moved proxy old new at
       (record {
         requests = port;
-        replies = subst (IntakeGoesOn old.replies) (sym replies) (intake_same old.replies);
+        replies = subst (IntakeContinues old.replies) (sym replies) (intake_same old.replies);
       })
       batches answers
       (record {
@@ -104,12 +104,12 @@ module _ (window : ℤ) (r : ResolverState) (clients : List Client) (sent : List
   -- after the client at a number has taken answers, which are these now
   pub serving_received : (proxy : ℕ) (old new : Client) (batches : List Batch) (before answers : List Answer)
       → slice_get clients proxy ≡ Some old → slice_get sent proxy ≡ Some batches → slice_get taken proxy ≡ Some before
-      → IntakeGoesOn old.replies new.replies → new.replies.taken ≡ answers → new.requests ≡ old.requests
+      → IntakeContinues old.replies new.replies → new.replies.taken ≡ answers → new.requests ≡ old.requests
       → AreServing window r (set clients proxy new) (set sent proxy batches) (set taken proxy answers)
   serving_received proxy old new batches before answers at sent_at taken_at intake takes requests =
       serving_moved proxy old new at
       (record {
-        requests = subst (PortGoesOn old.requests) (sym requests) (port_same old.requests);
+        requests = subst (PortContinues old.requests) (sym requests) (port_same old.requests);
         replies = intake;
       })
       batches answers
@@ -166,14 +166,14 @@ serving_opened window r clients capacity resolving window_is same count new = re
 
 -- what was settled for a client, of its batches and answers
 served_for : (window : ℤ) (log : List Step) (ended : Bool) (answers_sent : List Answer) (account : Account) (proxy : ℕ) (c : Client)
-    (batches : List Batch) (told : List Answer) → SettledFor window [] log ended answers_sent account proxy c
+    (batches : List Batch) (answers_taken : List Answer) → SettledFor window [] log ended answers_sent account proxy c
     → ((version : ℤ) (j : ℕ) → ReportsCommitted c.replies.taken version j
     → IsCommittedAt (run window log).processed proxy version j)
-    → HasDone batches told c → ServedFor window log account.complete proxy batches told
-served_for window log ended answers_sent account proxy c batches told settled reported done = record {
-  batches = subst (IsBeginning (part log proxy)) done.sent settled.batches;
+    → HasDone batches answers_taken c → ServedFor window log account.complete proxy batches answers_taken
+served_for window log ended answers_sent account proxy c batches answers_taken settled reported done = record {
+  batches = subst (IsPrefix (part log proxy)) done.sent settled.batches;
   all_batches = λ yes. settled.all_batches (settled.all_ended yes) ∙ done.sent;
-  in_order = subst (λ taken. IsBeginning taken (answers window log proxy)) done.taken settled.receives.received;
+  in_order = subst (λ taken. IsPrefix taken (answers window log proxy)) done.taken settled.receives.received;
   all_received = λ yes. sym done.taken ∙ settled.receives.all_received yes;
   each_answered = λ yes. ap length (sym done.taken) ∙ settled.receives.each_answered yes ∙ ap length done.sent;
   reported = λ version j reports.

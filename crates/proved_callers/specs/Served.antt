@@ -9,7 +9,7 @@ use Rattle.serial.specs.Serial.{IsSerializable}
 use Rattle.serial.specs.Replies.{IsCommittedAt, ReportsCommitted}
 use Rattle.resolver.specs.declared.client.Client.{Client}
 use Rattle.proved_callers.specs.declared.serving.Served.{Served}
-use Rattle.resolver.specs.Core.{IsBeginning}
+use Rattle.resolver.specs.Core.{IsPrefix}
 use Rattle.resolver.specs.Resolver.{ResolverState, IsResolving, AreClients, TakesOnlyFrom, FinishesLast}
 
 -- a client that has sent these batches and taken these answers
@@ -32,10 +32,10 @@ pub record AreServing (window : ℤ) (r : ResolverState) (clients : List Client)
 pub record ServedFor (window : ℤ) (log : List Step) (complete : Bool) (proxy : ℕ) (sent : List Batch)
     (received : List Answer) : Type 0 where
   -- the log holds its batches once, as sent; all of them where all is complete
-  pub batches : IsBeginning (part log proxy) sent
+  pub batches : IsPrefix (part log proxy) sent
   pub all_batches : complete ≡ true → part log proxy ≡ sent
   -- it has received, in order and once, the answers of the reference resolver; all of them where all is complete
-  pub in_order : IsBeginning received (answers window log proxy)
+  pub in_order : IsPrefix received (answers window log proxy)
   pub all_received : complete ≡ true → received ≡ answers window log proxy
   -- if all is complete, it has received one answer per batch
   pub each_answered : complete ≡ true → length received ≡ length sent

@@ -3,7 +3,7 @@
 ghost use Rattle.std.specs.Prelude.{◌≡◌, true, [], ◌∷◌, List, All, IfOk, OnOk};
 ghost use Rattle.keyspace.specs.declared.TheConstants.{WINDOW};
 ghost use Rattle.keyspace.specs.Run.{Step};
-ghost use Rattle.lane.specs.Lane.{PortGoesOn, IntakeGoesOn};
+ghost use Rattle.lane.specs.Lane.{PortContinues, IntakeContinues};
 ghost use Rattle.resolver.specs.Resolver.{IsNewClient};
 ghost use Rattle.keyspace.specs.declared.batch.Batch.{Batch};
 ghost use Rattle.proved_callers.specs.Served.{AreServed, AreServing};
@@ -119,7 +119,7 @@ fn send_only(client: &mut Client, batch: Batch)
     requires new { IsNewClient 1 client.old }
     ensures sent { client.new.requests.sent ≡ batch ∷ [] }
     ensures closed { client.new.requests.closed ≡ true }
-    ensures port { PortGoesOn client.old.requests client.new.requests }
+    ensures port { PortContinues client.old.requests client.new.requests }
     ensures replies { client.new.replies ≡ client.old.replies }
 {
     client.requests.send(batch).unwrap();
@@ -130,7 +130,7 @@ fn send_only(client: &mut Client, batch: Batch)
 fn receive(client: &mut Client, received: &mut Vec<Answer>) -> Result<(), AllocError>
     requires so_far { client.old.replies.taken ≡ received.old.items }
     ensures taken { OnOk result (client.new.replies.taken ≡ received.new.items) }
-    ensures intake { IntakeGoesOn client.old.replies client.new.replies }
+    ensures intake { IntakeContinues client.old.replies client.new.replies }
     ensures requests { client.new.requests ≡ client.old.requests }
 {
     if let Taken::Item(answer) = client.replies.take() {

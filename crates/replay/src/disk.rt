@@ -155,7 +155,7 @@ impl<R: fs::Files<File = File> + AllocGlobal> Files for Disk<'_, R> {
 
 // Returns the number of bytes of a file if its progress is shown.
 fn length_if_shown(file: &File, extent: Extent) -> Option<u64> {
-    if extent == Extent::Beginning {
+    if extent == Extent::FirstBatches {
         return None;
     }
     let length = file.metadata().ok()?.len();

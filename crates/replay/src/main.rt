@@ -5,9 +5,11 @@
 //! those of the process.
 #![tactic(auto)]
 
-ghost use Rattle.std.specs.Prelude.{◌≡◌, ◌<◌, ◌⊎◌, IsErr};
-ghost use Rattle.std.specs.Io.KnownBytes.{Appends, Keeps};
+ghost use Rattle.std.specs.Prelude.{◌≡◌, ◌<◌, ◌⊎◌, ℕ, IsErr, List, None};
+ghost use Rattle.std.specs.Io.KnownBytes.{Appends};
 ghost use Rattle.replay_output.specs.Start.{start_line};
+ghost use Rattle.replay_program.specs.Ended.{IsQuiet};
+ghost use Rattle.replay_program.specs.Replayed.{written};
 
 mod disk;
 mod known_files;
@@ -61,7 +63,9 @@ fn start<
     out: io::Result<BufWriter<O>>,
     error: &mut E,
 ) -> Status
-    ensures quiet { result ≡ Status.Done → Keeps (E.given error.old) (E.given error.new) }
+    ensures quiet { result ≡ Status.Done → (words : List (List ℕ)) × IsQuiet (λ _. None) words
+        (written (E.given error.old) (E.given error.new) (E.failures error.old)
+        (E.failures error.new)) }
     ensures no_buffer { IsErr out → (result ≡ Status.Failed)
         × ((E.failures error.old < E.failures error.new)
         ⊎ Appends (E.given error.old) (E.given error.new) (start_line StartError.Memory)) }

@@ -6,7 +6,7 @@ use Rattle.clap.specs.Words.{Row, all_of}
 use Rattle.replay_output.specs.declared.options.form.Form.{Form}
 use Rattle.replay_output.specs.declared.options.form.Form.TheVariants.{Words, Frames, Json, Kept}
 use Rattle.replay_summary.specs.declared.text.SummaryForm.{SummaryForm}
-use Rattle.replay_arguments.specs.Words.{
+use Rattle.replay_arguments.specs.Arguments.{
   HasExplain,
   HoldsExplain,
   HoldsForm,

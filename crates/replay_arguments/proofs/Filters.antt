@@ -6,8 +6,8 @@ use Rattle.std.proofs.Common.{refl, sym, ap, ◌∙◌, subst, arith, get_or}
 use Rattle.std.proofs.lemmas.Bool.{false≢true}
 use Rattle.std.proofs.lemmas.Str.Parse.{digit_at}
 use Rattle.std.proofs.lemmas.Str.Pattern.{IsSplitOnceResult, split_after, split_parts}
-use Rattle.replay_output.specs.Filter.{least_version}
-use Rattle.replay_arguments.specs.Words.{IsEnd, IsVersions}
+use Rattle.replay_output.specs.LineFilter.{least_version}
+use Rattle.replay_arguments.specs.Arguments.{IsEnd, IsVersions}
 
 -- no text is found where none was read
 pub none_found : (found : Option (List ℕ)) (read : Option (Bor (List ℕ))) → is_some read ≡ false
@@ -63,14 +63,14 @@ module _ (text : List ℕ) (r : Option (Bor (List ℕ) × Bor (List ℕ))) (spli
     -- a text that is cut twice, with these ends, is a range of versions
     pub made : (to : List ℕ) (first below : Option ℤ) (least : ℤ) → rest.now ≡ 46 ∷ to → IsEnd from.now first → IsEnd to below
         → least ≡ unwrap_or first least_version → IsVersions text least below
-    made to first below least behind start end is =
+    made to first below least after start end is =
         let parts = subst (λ (o : Option (Bor (List ℕ) × Bor (List ℕ))). MatchOption o ((i : ℕ) → i < length text → get_or text i 0 ≢ 46)
         (λ x. (text ≡ x.0.now ++ (46 ∷ x.1.now)) × ((i : ℕ) → i < length x.0.now → get_or x.0.now i 0 ≢ 46)))
         some (split_parts 46 text r split (omega arith)) in
         record {
           from = from.now;
           to = to;
-          split = parts.0 ∙ ap (λ (l : List ℕ). from.now ++ (46 ∷ l)) behind;
+          split = parts.0 ∙ ap (λ (l : List ℕ). from.now ++ (46 ∷ l)) after;
           first = first;
           from_first = start;
           least_is = is;

@@ -6,7 +6,7 @@ use Rattle.clap.specs.Values.{bool_text}
 use Rattle.clap.specs.Words.{ReadsOne, Row, all_of, is_simple, one_of, one_text, rows_of}
 use Rattle.clap.specs.declared.parser.matches.Found.{Found}
 use Rattle.replay_arguments.specs.Command.{replay_app}
-use Rattle.replay_arguments.specs.Words.{HoldsForm, HoldsNumbers, IsFormOf, is_frames, is_json}
+use Rattle.replay_arguments.specs.Arguments.{HoldsForm, HoldsNumbers, IsFormOf, is_frames, is_json}
 use Rattle.replay_output.specs.declared.options.form.Form.{Form}
 use Rattle.replay_output.specs.declared.options.Options.{Options}
 use Rattle.replay_arguments.proofs.Numbers.{Some-injective, bool_err, has_read}

@@ -17,7 +17,7 @@ use Rattle.replay_arguments.specs.declared.arguments.task.Task.{Task}
 use Rattle.replay_arguments.specs.declared.arguments.task.Task.TheVariants.{Print, Explain, Summarize, Stream, Check}
 use Rattle.replay_arguments.specs.Asked.{HoldsAsked, IsLineOf, IsTaskOf}
 use Rattle.replay_arguments.specs.Asks.{Asks, HoldsTask, top_of}
-use Rattle.replay_arguments.specs.Words.{
+use Rattle.replay_arguments.specs.Arguments.{
   HoldsExplain,
   HoldsFilter,
   HoldsForm,

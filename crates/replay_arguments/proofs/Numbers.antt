@@ -7,7 +7,7 @@ use Rattle.clap.specs.Values.{IsSignedIn, IsUnsignedIn, bool_text}
 use Rattle.clap.specs.Words.{ReadsOne, one_text, rows_of}
 use Rattle.clap.specs.declared.parser.matches.Found.{Found}
 use Rattle.clap.proofs.WalkLemmas.{one_text-rows}
-use Rattle.replay_arguments.specs.Words.{Has}
+use Rattle.replay_arguments.specs.Arguments.{Has}
 
 module _ {T E : Type 0} (found : Found) (id : List ℕ) (gives : List ℕ → Result T E → Type 0) (read : Option T)
     (value : (text : List ℕ) → one_text found id ≡ Some text → ReadsOne gives text read) where

@@ -8,9 +8,9 @@ use Rattle.clap.specs.Words.{IsAmong, Kinds, Row, all_of, is_simple_and_free}
 use Rattle.clap.specs.declared.error.kind.ErrorKind.{ErrorKind}
 use Rattle.clap.specs.declared.error.kind.ErrorKind.TheVariants.{DisplayHelp, DisplayVersion, OutOfMemory}
 use Rattle.resolver.specs.declared.resolver_core.TheConstants.{MAX_PROXIES}
-use Rattle.replay_arguments.specs.declared.arguments.refusal.Refusal.{Refusal}
-use Rattle.replay_arguments.specs.declared.arguments.refusal.Refusal.TheVariants.{Memory, Refused, Shown}
-use Rattle.replay_arguments.specs.Words.{
+use Rattle.replay_arguments.specs.declared.arguments.refusal.ArgumentsRefusal.{ArgumentsRefusal}
+use Rattle.replay_arguments.specs.declared.arguments.refusal.ArgumentsRefusal.TheVariants.{Memory, Refused, Shown}
+use Rattle.replay_arguments.specs.Arguments.{
   HasFiles,
   HasRecords,
   HasRecordsEach,
@@ -38,7 +38,7 @@ request_is_no_memory kind memory (inl help) = let bad : OutOfMemory ≡ DisplayH
 request_is_no_memory kind memory (inr version) = let bad : OutOfMemory ≡ DisplayVersion = sym memory ∙ version in cc
 
 -- the refusal of an error of one of these kinds, or of want of memory
-pub IsRefusalBy-of : (kinds : Kinds) (kind : ErrorKind) (refusal : Refusal)
+pub IsRefusalBy-of : (kinds : Kinds) (kind : ErrorKind) (refusal : ArgumentsRefusal)
     → (kind ≡ OutOfMemory) ⊎ IsAmong kind kinds → IsRefusalOf kind refusal → IsRefusalBy kinds refusal
 IsRefusalBy-of kinds kind (Shown text) (inl memory) request = absurd (request_is_no_memory kind memory request)
 IsRefusalBy-of kinds kind (Shown text) (inr among) request = (kind, among, request)

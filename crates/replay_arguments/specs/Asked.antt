@@ -5,7 +5,7 @@ use Rattle.replay_output.specs.declared.options.form.Form.TheVariants.{Kept}
 use Rattle.replay_arguments.specs.Details.{HoldsDetails}
 use Rattle.replay_arguments.specs.Names.{HoldsNames}
 use Rattle.replay_arguments.specs.Printing.{HoldsPrinting}
-use Rattle.replay_arguments.specs.Words.{HoldsNumbers, HoldsReports, HoldsSharding}
+use Rattle.replay_arguments.specs.Arguments.{HoldsNumbers, HoldsReports, HoldsSharding}
 use Rattle.replay_arguments.specs.declared.arguments.CommandLine.{CommandLine}
 use Rattle.replay_arguments.specs.declared.arguments.asked.Asked.{Asked}
 use Rattle.replay_arguments.specs.declared.arguments.task.Task.{Task}

@@ -6,7 +6,7 @@ use Rattle.resolver.specs.declared.resolver_core.TheConstants.{MAX_PROXIES}
 use Rattle.replay_output.specs.declared.options.form.Form.{Form}
 use Rattle.replay_output.specs.declared.options.form.Form.TheVariants.{Kept}
 use Rattle.replay_summary.specs.declared.text.SummaryForm.{SummaryForm}
-use Rattle.replay_arguments.specs.Words.{
+use Rattle.replay_arguments.specs.Arguments.{
   AsksForAll,
   HasInputOnce,
   HoldsExplain,

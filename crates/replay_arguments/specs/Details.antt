@@ -1,7 +1,7 @@
 -- The details that are found among the arguments.
 use Rattle.std.specs.Prelude.{◌≡◌, List, true, is_some}
 use Rattle.clap.specs.Words.{Row}
-use Rattle.replay_arguments.specs.Words.{HoldsTop, HoldsVerbose, IsSummarized}
+use Rattle.replay_arguments.specs.Arguments.{HoldsTop, HoldsVerbose, IsSummarized}
 use Rattle.replay_arguments.specs.declared.arguments.details.Details.{Details}
 
 -- they are what these rows ask for: ranges are listed in a summary that is printed

@@ -2,7 +2,7 @@
 pub mod Opening
 pub mod Command
 pub mod KeptInputs
-pub mod Words
+pub mod Arguments
 pub mod Printing
 pub mod Details
 pub mod Names

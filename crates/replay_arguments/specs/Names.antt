@@ -4,7 +4,7 @@ use Rattle.std.specs.Borrow.{Bor}
 use Rattle.clap.specs.Words.{Row, all_of, first_of}
 use Rattle.resolver.specs.declared.resolver_core.TheConstants.{MAX_PROXIES}
 use Rattle.replay_output.specs.declared.options.form.Form.TheVariants.{Kept}
-use Rattle.replay_arguments.specs.Words.{HasInputOnce, HoldsSummaryFile, IsBeside, KeepsInputs, named}
+use Rattle.replay_arguments.specs.Arguments.{HasInputOnce, HoldsSummaryFile, IsBeside, KeepsInputs, named}
 use Rattle.replay_arguments.specs.declared.arguments.names.Names.{Names}
 use Rattle.replay_arguments.specs.declared.arguments.printing.Printing.{Printing}
 

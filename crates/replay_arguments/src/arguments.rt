@@ -4,8 +4,8 @@ ghost use Rattle.std.specs.Prelude.{◌≡◌, IfErr, IfOk, OnOk, map, string_by
 ghost use Rattle.clap.specs.Words.{found_of, rows_of};
 ghost use Rattle.replay_arguments.specs.Asked.{IsLineOf};
 ghost use Rattle.replay_arguments.specs.Asks.{Asks};
-ghost use Rattle.replay_arguments.specs.Words.{AsksForText, IsMistaken, IsRefusalBy, IsTaken};
-ghost use Rattle.replay_arguments.specs.Words.{faults_of, rows_of_words};
+ghost use Rattle.replay_arguments.specs.Arguments.{AsksForText, IsMistaken, IsRefusalBy, IsTaken};
+ghost use Rattle.replay_arguments.specs.Arguments.{faults_of, rows_of_words};
 
 use crate::arguments::asked::{Asked, asked_of};
 use crate::arguments::task::task_of;
@@ -31,7 +31,7 @@ mod summary_file;
 mod task;
 
 pub use details::MAX_TOP;
-pub use refusal::Refusal;
+pub use refusal::ArgumentsRefusal;
 pub use sharding::{MAX_RESOLVERS, Sharding};
 pub use summary_file::SummaryFile;
 pub use task::Task;
@@ -49,19 +49,23 @@ pub struct CommandLine<'a> {
     pub output: Option<&'a str>,
     /// The file for the summary that is written beside the answers, if one is requested.
     pub summary_to: Option<SummaryFile<'a>>,
-    /// A failure is explained by one more line on standard error.
+    /// A failure is explained by one more line on standard error. Without one, a line says if all
+    /// batches are held.
     pub verbose: bool,
     pub options: Options,
     pub sharding: Sharding<'a>,
 }
 
 /// Reads the words of the command line, of which the first is the program's name. An error says how
-/// the program ends instead of replaying, by [`Refusal::end`].
-pub fn read_words<'a>(alloc: Global, words: &'a [String]) -> Result<CommandLine<'a>, Refusal>
+/// the program ends instead of replaying, by [`ArgumentsRefusal::end`].
+pub fn read_words<'a>(
+    alloc: Global,
+    words: &'a [String],
+) -> Result<CommandLine<'a>, ArgumentsRefusal>
     ensures asks { IfOk result (Asks (map string_bytes words.entry.now)) }
-    ensures shown { (text : _) → result ≡ Err (Refusal.Shown text)
+    ensures shown { (text : _) → result ≡ Err (ArgumentsRefusal.Shown text)
         → AsksForText (map string_bytes words.entry.now) }
-    ensures refused { (text : _) → result ≡ Err (Refusal.Refused text)
+    ensures refused { (text : _) → result ≡ Err (ArgumentsRefusal.Refused text)
         → IsMistaken (map string_bytes words.entry.now) }
 {
     let matches = parse(alloc, words)?;
@@ -87,7 +91,7 @@ impl<'a> CommandLine<'a> {
     }
 }
 
-fn parse<'a>(alloc: Global, words: &'a [String]) -> Result<ArgMatches<'a>, Refusal>
+fn parse<'a>(alloc: Global, words: &'a [String]) -> Result<ArgMatches<'a>, ArgumentsRefusal>
     ensures rows { IfOk result (λ matches.
         rows_of (found_of matches) ≡ rows_of_words (map string_bytes words.entry.now)) }
     ensures taken { OnOk result (IsTaken (map string_bytes words.entry.now)) }
@@ -95,6 +99,6 @@ fn parse<'a>(alloc: Global, words: &'a [String]) -> Result<ArgMatches<'a>, Refus
 {
     match command::command(alloc)?.try_get_matches_from(words) {
         Ok(matches) => Ok(matches),
-        Err(error) => Err(Refusal::of_clap(alloc, &error)?),
+        Err(error) => Err(ArgumentsRefusal::of_clap(alloc, &error)?),
     }
 }

@@ -1,18 +1,18 @@
 //! The command line of the program `replay`, and the files that it names.
 //!
 //! [`read_words`] reads the arguments. It returns a [`CommandLine`], which has one [`Task`], or a
-//! [`Refusal`] that says how the program ends. [`open_files`] opens the files by their names,
-//! through any [`Files`].
+//! [`ArgumentsRefusal`] that says how the program ends. [`open_files`] opens the files by their
+//! names, through any [`Files`].
 //!
 //! What a command line asks for is defined in `specs/Asks.antt`, and why arguments are of no use in
-//! `specs/Words.antt`. `specs/Opening.antt` defines what is opened.
+//! `specs/Arguments.antt`. `specs/Opening.antt` defines what is opened.
 #![tactic(auto)]
 
 mod arguments;
 mod opening;
 
 pub use arguments::{
-    CommandLine, MAX_RESOLVERS, MAX_TOP, Refusal, Sharding, SummaryFile, Task, read_words,
+    ArgumentsRefusal, CommandLine, MAX_RESOLVERS, MAX_TOP, Sharding, SummaryFile, Task, read_words,
 };
 pub use opening::{
     Extent, FileError, Files, OpeningError, STANDARD_INPUT, WrittenFile, create_files,

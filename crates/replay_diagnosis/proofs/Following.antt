@@ -10,7 +10,7 @@ all_weaker : {A : Type 0} (P Q : A → Type 0) (xs : List A) → ((x : A) → P 
 all_weaker P Q [] weaker all = tt
 all_weaker P Q (x ∷ xs) weaker all = (weaker x all.0, all_weaker P Q xs weaker all.1)
 
-all_both : {A : Type 0} (P : A → Type 0) (xs ys : List A) → AllByRecursion P xs → AllByRecursion P ys → AllByRecursion P (xs ++ ys)
+pub all_both : {A : Type 0} (P : A → Type 0) (xs ys : List A) → AllByRecursion P xs → AllByRecursion P ys → AllByRecursion P (xs ++ ys)
 all_both P [] ys first second = second
 all_both P (x ∷ xs) ys first second = (first.0, all_both P xs ys first.1 second)
 
@@ -70,9 +70,9 @@ none_begins version batches lt none =
     (λ b le is. absurd (omega (arith, ints, lt, le, is))) none
 
 -- a batch that follows no later version than -1 follows that
-pub follows_beginning : (version : ℤ) (batches : List Batch) → version ≤ℤ negsuc 0 → Follows version batches
+pub follows_start : (version : ℤ) (batches : List Batch) → version ≤ℤ negsuc 0 → Follows version batches
     → Follows (negsuc 0) batches
-follows_beginning version batches le follows =
+follows_start version batches le follows =
     let batch = follows.1 in
     let same : version ≡ negsuc 0 = omega (arith, ints, le, follows.4, batch.previous_from) in
     subst (λ (v : ℤ). Follows v batches) same follows

@@ -8,7 +8,7 @@ use Rattle.wire.specs.NextFrame.{IsFrameOf}
 use Rattle.wire.specs.Upgrade.{AreFrames}
 use Rattle.wire.proofs.callers.Known.{consumes_none, consumes_then}
 use Rattle.replay_diagnosis.specs.declared.position.Position.{Position}
-use Rattle.replay_diagnosis.specs.declared.batches.Batches.{Batches}
+use Rattle.replay_diagnosis.specs.declared.batches.FileBatches.{FileBatches}
 use Rattle.replay_diagnosis.specs.declared.finding.Finding.{Finding}
 use Rattle.replay_diagnosis.specs.Following.{HasLeast}
 use Rattle.replay_diagnosis.specs.Content.{ContainsBatches, FoundIn, IsFindingAt, position_after}
@@ -28,7 +28,7 @@ frames_last bytes part (first ∷ batches) batch frames is =
     )
 
 -- the bytes that were read are the frames of these batches; and the position of the next frame
-pub record FramesSoFar (left now : Option (List ℕ)) (number offset : ℕ) (found : Batches) : Type 0 where
+pub record FramesSoFar (left now : Option (List ℕ)) (number offset : ℕ) (found : FileBatches) : Type 0 where
   pub bytes : List ℕ
   pub batches : List Batch
   pub frames : AreFrames bytes batches
@@ -37,7 +37,11 @@ pub record FramesSoFar (left now : Option (List ℕ)) (number offset : ℕ) (fou
   pub offset_is : offset ≡ length bytes
   pub least : HasLeast batches found.least_previous
 
-pub no_frames : (left : Option (List ℕ)) (found : Batches) → HasLeast [] found.least_previous → FramesSoFar left left 1 0 found
+-- the same, wherever the next frame is
+abbrev pub FramesUpTo : Option (List ℕ) → Option (List ℕ) → FileBatches → Type 0
+FramesUpTo left now found = (number offset : ℕ) × FramesSoFar left now number offset found
+
+pub no_frames : (left : Option (List ℕ)) (found : FileBatches) → HasLeast [] found.least_previous → FramesSoFar left left 1 0 found
 no_frames left found least = record {
   bytes = [];
   batches = [];
@@ -48,7 +52,7 @@ no_frames left found least = record {
   least = least;
 }
 
-pub one_frame_more : (left now next : Option (List ℕ)) (number offset len after : ℕ) (found more : Batches) (part : List ℕ) (batch : Batch)
+pub one_frame_more : (left now next : Option (List ℕ)) (number offset len after : ℕ) (found more : FileBatches) (part : List ℕ) (batch : Batch)
     → FramesSoFar left now number offset found → Consumes now next part → IsFrameOf part batch → len ≡ length part
     → after ≡ offset + len
     → ((batches : List Batch) → HasLeast batches found.least_previous → HasLeast (batches ++ batch ∷ []) more.least_previous)
@@ -63,13 +67,26 @@ one_frame_more left now next number offset len after found more part batch so_fa
   least = added so_far.batches so_far.least;
 }
 
+pub frames_more : (left now next : Option (List ℕ)) (found more : FileBatches) (part : List ℕ) (batch : Batch)
+    → FramesUpTo left now found → Consumes now next part → IsFrameOf part batch
+    → ((batches : List Batch) → HasLeast batches found.least_previous → HasLeast (batches ++ batch ∷ []) more.least_previous)
+    → FramesUpTo left next more
+frames_more left now next found more part batch so_far read is added =
+    let number = so_far.0 in
+    let offset = so_far.1 in (
+      number + 1,
+      offset + length part,
+      one_frame_more left now next number offset (length part) (offset + length part) found more part batch so_far.2 read is refl refl
+          added,
+    )
+
 -- the bytes that were read are all, if nothing is left
 all_read : (left now : Option (List ℕ)) (bytes : List ℕ) → Consumes left now bytes → IsAtEnd now → IfSome left (λ all. all ≡ bytes)
 all_read None now bytes read end = tt
 all_read (Some xs) None bytes read end = absurd read
 all_read (Some xs) (Some ys) bytes read end = read ∙ ap (λ (t : List ℕ). bytes ++ t) end ∙ append-nil bytes
 
-pub contains : (left now : Option (List ℕ)) (number offset : ℕ) (found : Batches) → FramesSoFar left now number offset found
+pub contains : (left now : Option (List ℕ)) (number offset : ℕ) (found : FileBatches) → FramesSoFar left now number offset found
     → IsAtEnd now → ContainsBatches left found
 contains left now number offset found so_far end = record {
   bytes = so_far.bytes;
@@ -79,7 +96,7 @@ contains left now number offset found so_far end = record {
   least = so_far.least;
 }
 
-pub found_in : (left now : Option (List ℕ)) (number offset : ℕ) (batches : Batches) (position : Position) (finding : Finding)
+pub found_in : (left now : Option (List ℕ)) (number offset : ℕ) (batches : FileBatches) (position : Position) (finding : Finding)
     → FramesSoFar left now number offset batches → position ≡ record { frame = number; offset = offset }
     → IsFindingAt position now finding → FoundIn left finding
 found_in left now number offset batches position finding so_far at next =

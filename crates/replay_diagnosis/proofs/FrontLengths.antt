@@ -29,9 +29,9 @@ long_length bytes le lt =
     let b = lt-ltb _ _ lt in
     rw (a, b) refl
 
-whole_length : (bytes : List ℕ) → 4 ≤ length bytes → big_number 4 bytes ≤ 4194304 → frame_length bytes ≡ 4 + big_number 4 bytes
+entire_length : (bytes : List ℕ) → 4 ≤ length bytes → big_number 4 bytes ≤ 4194304 → frame_length bytes ≡ 4 + big_number 4 bytes
 unfolding frame_length
-whole_length bytes le low =
+entire_length bytes le low =
     let a = le-ltb _ _ le in
     let b = le-ltb _ _ low in
     rw (a, b) refl
@@ -48,7 +48,7 @@ short_fault bytes lt =
             | inl long ↦ let b = lt-ltb _ _ long in absurd (omega (arith, lt, le, long_length bytes le long))
             | inr low ↦
                 let b = le-ltb _ _ low in
-                let c : length bytes < 4 + big_number 4 bytes = omega (arith, lt, whole_length bytes le low) in
+                let c : length bytes < 4 + big_number 4 bytes = omega (arith, lt, entire_length bytes le low) in
                 let d = lt-ltb _ _ c in
                 rw (a, b, d) refl
           ]

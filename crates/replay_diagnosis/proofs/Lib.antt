@@ -1,4 +1,5 @@
 pub mod Following
+pub mod Holding
 pub mod FramesRead
 pub mod FrontLengths
 pub mod Classified

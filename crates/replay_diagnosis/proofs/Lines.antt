@@ -76,7 +76,6 @@ unreadable_within at fits =
 
 finding_within : (finding : Finding) → FindingFits finding → IsWithin (finding_text finding)
 finding_within found.CannotOpen fits = refl
-finding_within found.Directory fits = refl
 finding_within found.StandardInput fits = refl
 finding_within found.Memory fits = refl
 finding_within (found.Unreadable at) fits = unreadable_within at fits

@@ -87,5 +87,4 @@ settled position left now front (found.Truncated at missing) taken some end is =
 settled position left now front (found.NotAFrame at fault) taken some end is =
     (is.0, no_frame fault left now front taken some end is.1, no_json position left now front taken some is.2)
 settled position left now front found.CannotOpen taken some end is = absurd is
-settled position left now front found.Directory taken some end is = absurd is
 settled position left now front found.StandardInput taken some end is = absurd is

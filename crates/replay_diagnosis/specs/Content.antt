@@ -11,7 +11,7 @@ use Rattle.wire.specs.NextFrame.{IsFaultOf}
 use Rattle.wire.specs.NextReply.{IsReplyFaultOf}
 use Rattle.wire.specs.Upgrade.{AreFrames}
 use Rattle.replay_diagnosis.specs.declared.position.Position.{Position}
-use Rattle.replay_diagnosis.specs.declared.batches.Batches.{Batches}
+use Rattle.replay_diagnosis.specs.declared.batches.FileBatches.{FileBatches}
 use Rattle.replay_diagnosis.specs.declared.finding.Finding.{Finding}
 use Rattle.replay_diagnosis.specs.declared.finding.Finding.TheVariants as found
 use Rattle.replay_diagnosis.specs.Following.{HasLeast}
@@ -62,7 +62,6 @@ IsFindingAt position left (found.Truncated at missing) =
 IsFindingAt position left (found.NotAFrame at fault) =
     (at ≡ position) × IfSome left (IsNoFrame fault) × IfSome left (IsNoJson position)
 IsFindingAt position left found.CannotOpen = ⊥
-IsFindingAt position left found.Directory = ⊥
 IsFindingAt position left found.StandardInput = ⊥
 
 -- The bytes that were left begin with the frames of some batches, and the finding is what comes after them.
@@ -75,7 +74,7 @@ pub record FoundIn (left : Option (List ℕ)) (finding : Finding) : Type 0 where
   pub next : IsFindingAt (position_after bytes batches) now finding
 
 -- The bytes that were left are the frames of some batches, and nothing else.
-pub record ContainsBatches (left : Option (List ℕ)) (found : Batches) : Type 0 where
+pub record ContainsBatches (left : Option (List ℕ)) (found : FileBatches) : Type 0 where
   pub bytes : List ℕ
   pub batches : List Batch
   pub frames : AreFrames bytes batches

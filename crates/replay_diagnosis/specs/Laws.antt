@@ -1,13 +1,15 @@
--- What each line is like, whatever was found.
-use Rattle.std.specs.Prelude.{◌≡◌, ℕ, ◌<◌, ◌^◌, ◌==◌, Bool, false, List, ◌++◌, codes}
+-- What each line is like, whatever was found, and why batches are held.
+use Rattle.std.specs.Prelude.{◌≡◌, ℕ, ◌<◌, ◌^◌, ◌==◌, ℤ, Bool, false, List, [], ◌++◌, codes}
 use Rattle.std.specs.List.{list_any}
 use Rattle.std.specs.Int.{w64}
 use Rattle.std.specs.Int.RustNames.{FitsSigned}
+use Rattle.keyspace.specs.Run.{Step, part, run}
 use Rattle.replay_diagnosis.specs.declared.position.Position.{Position}
 use Rattle.replay_diagnosis.specs.declared.finding.Finding.{Finding}
 use Rattle.replay_diagnosis.specs.declared.finding.Finding.TheVariants as found
 use Rattle.replay_diagnosis.specs.declared.finding.RunFinding.{RunFinding}
 use Rattle.replay_diagnosis.specs.declared.finding.RunFinding.TheVariants as run
+use Rattle.replay_diagnosis.specs.Following.{NoneBegins}
 use Rattle.replay_diagnosis.specs.Remedy.{remedy_line, run_remedy_line}
 
 abbrev pub has_line_feed : List ℕ → Bool
@@ -39,3 +41,7 @@ EachRemedyIsALine = (name : List ℕ) (finding : Finding) → FindingFits findin
 
 abbrev pub EachRunRemedyIsALine : Type 0
 EachRunRemedyIsALine = (finding : RunFinding) → RunFindingFits finding → IsIndentedLine (run_remedy_line finding)
+
+-- Over a log in which no batch follows version -1, the reference resolver processes none.
+abbrev pub NoneIsProcessed : Type 0
+NoneIsProcessed = (window : ℤ) (log : List Step) → ((proxy : ℕ) → NoneBegins (part log proxy)) → (run window log).processed ≡ []

@@ -36,7 +36,6 @@ unreadable_text at =
 -- what was found in a file, and what to do, after the file's name
 abbrev pub finding_text : Finding → List ℕ
 finding_text found.CannotOpen = codes " can't be opened: check the name and the permissions"
-finding_text found.Directory = codes " is a directory: name the files in it"
 finding_text found.StandardInput = codes " is standard input, which can't be read again: record it to a file, and replay that"
 finding_text found.Memory = codes " can't be examined for want of memory: free memory"
 finding_text (found.Unreadable at) = unreadable_text at

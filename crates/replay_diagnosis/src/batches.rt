@@ -9,21 +9,21 @@ ghost use Rattle.replay_diagnosis.specs.Following.{NoneFollowsBelow};
 use keyspace::Batch;
 
 // The version that the first batch of a chain follows.
-const BEGINNING: i64 = -1;
+pub(crate) const CHAIN_START: i64 = -1;
 
 /// Which versions some batches follow.
 #[derive(Clone, Copy, Debug, PartialEq, Eq)]
-pub struct Batches {
+pub struct FileBatches {
     /// The least version that one of them follows. None if there is no batch.
     pub least_previous: Option<i64>,
 }
 
-impl Batches {
+impl FileBatches {
     /// No batches.
     pub fn none() -> Self
         ensures none { HasLeast [] result.least_previous }
     {
-        Batches {
+        FileBatches {
             least_previous: None,
         }
     }
@@ -37,7 +37,7 @@ impl Batches {
     }
 
     /// Adds the batches of another file.
-    pub fn join(&mut self, others: &Batches)
+    pub fn join(&mut self, others: &FileBatches)
         ensures joined { (batches more : List BatchValue) → HasLeast batches self.old.least_previous
             → HasLeast more others.now.least_previous
             → HasLeast (batches ++ more) self.new.least_previous }
@@ -58,7 +58,7 @@ impl Batches {
             → (batches ≡ []) ⊎ Follows (negsuc 0) batches) }
     {
         match self.least_previous {
-            Some(previous) if previous > BEGINNING => Some(previous),
+            Some(previous) if previous > CHAIN_START => Some(previous),
             _ => None,
         }
     }

@@ -8,7 +8,7 @@ ghost use Rattle.wire.specs.NextFrame.{IsFrameOf};
 ghost use Rattle.replay_diagnosis.specs.Content.{ContainsBatches, FoundIn, IsFindingAt};
 ghost use Rattle.replay_diagnosis.specs.Content.{IsUnreadable};
 
-use crate::batches::Batches;
+use crate::batches::FileBatches;
 use crate::classifying::classify;
 use crate::finding::Finding;
 use crate::position::Position;
@@ -19,7 +19,7 @@ use wire::{Source, WireError, decode_batch, fill_frame};
 /// Reads frames of batches from the beginning of a file to its end, or to what is no such frame.
 /// Returns what the batches follow, or what was found instead of the next frame. Takes memory for
 /// one frame at a time.
-pub fn examine<R: Source>(alloc: Global, reader: &mut R) -> Result<Batches, Finding>
+pub fn examine<R: Source>(alloc: Global, reader: &mut R) -> Result<FileBatches, Finding>
     ensures batches { IfOk result (ContainsBatches (R.remaining reader.old)) }
     ensures end { OnOk result (IsAtEnd (R.remaining reader.new)) }
     ensures finding { IfErr result (FoundIn (R.remaining reader.old)) }
@@ -30,7 +30,7 @@ pub fn examine<R: Source>(alloc: Global, reader: &mut R) -> Result<Batches, Find
         → R.failures reader.new ≡ R.failures reader.old) }
 {
     let mut frame = Vec::new(alloc);
-    let mut batches = Batches::none();
+    let mut batches = FileBatches::none();
     let mut offset = 0u64;
     for number in 1..u64::MAX {
         let position = Position {
@@ -52,7 +52,7 @@ pub fn examine<R: Source>(alloc: Global, reader: &mut R) -> Result<Batches, Find
 
 // Reads the next frame into the buffer and returns its batch, or none at the end of the file. The
 // frame is at this position.
-fn next_batch<R: Source>(
+pub(crate) fn next_batch<R: Source>(
     alloc: Global,
     position: Position,
     reader: &mut R,

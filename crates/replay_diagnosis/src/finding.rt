@@ -1,4 +1,4 @@
-//! What is to be said about a run that failed.
+//! What is to be said about a run.
 
 use crate::position::Position;
 use wire::WireError;
@@ -8,8 +8,6 @@ use wire::WireError;
 pub enum Finding {
     /// The file can't be opened. [`examine`](crate::examine) never returns this.
     CannotOpen,
-    /// The file is a directory. [`examine`](crate::examine) never returns this.
-    Directory,
     /// The file is standard input, whose bytes are gone. [`examine`](crate::examine) never returns
     /// this.
     StandardInput,
@@ -32,7 +30,8 @@ pub enum Finding {
     NotAFrame(Position, WireError),
 }
 
-/// What is to be said about a run that failed, and about no single file.
+/// What is to be said about a run, and about no single file. All but the first are of a run that
+/// failed.
 #[derive(Clone, Copy, Debug, PartialEq, Eq)]
 pub enum RunFinding {
     /// No batch follows version -1, so each is held. This is the least version that one follows.

@@ -69,7 +69,6 @@ fn put_finding(out: &mut Vec<u8>, finding: &Finding) -> io::Result<()>
         Finding::CannotOpen => {
             out.write_all(b" can't be opened: check the name and the permissions")
         }
-        Finding::Directory => out.write_all(b" is a directory: name the files in it"),
         Finding::StandardInput => out.write_all(
             b" is standard input, which can't be read again: record it to a file, and replay that",
         ),

@@ -37,9 +37,9 @@ if_appended (Err e) next more same is = tt
 
 -- the text of a transaction that is too old
 pub too_old : (form : ExplanationForm) (window : ℤ) (kept : List Processed) (b : Batch) (j : ℕ) (t : Txn) (verdict : Verdict)
-    (places : List ℕ) (snapshot oldest : ℤ) → verdict ≡ TooOld → snapshot ≡ t.snapshot → oldest ≡ edge window b
-    → too_old_text form j snapshot oldest ≡ txn_lines form window kept b j t verdict places
-too_old form window kept b j t verdict places snapshot oldest is snapshot_is oldest_is =
+    (snapshot oldest : ℤ) → verdict ≡ TooOld → snapshot ≡ t.snapshot → oldest ≡ edge window b
+    → too_old_text form j snapshot oldest ≡ txn_lines form window kept b j t verdict
+too_old form window kept b j t verdict snapshot oldest is snapshot_is oldest_is =
     ap (λ (z : ℤ). too_old_text form j z oldest) snapshot_is
     ∙ ap (λ (z : ℤ). too_old_text form j t.snapshot z) oldest_is
-    ∙ ap (λ (v : Verdict). txn_lines form window kept b j t v places) (sym is)
+    ∙ ap (λ (v : Verdict). txn_lines form window kept b j t v) (sym is)

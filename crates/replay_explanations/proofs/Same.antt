@@ -15,17 +15,17 @@ use Rattle.explanations.specs.Explains.{explaining, newest_of}
 use Rattle.explanations.specs.History.{HistoryState, Keeps}
 use Rattle.explanations.proofs.callers.Following.{same_explaining}
 use Rattle.replay_explanations.specs.declared.form.ExplanationForm.{ExplanationForm}
-use Rattle.replay_explanations.specs.Lines.{asked_about, explanation, lines_from, read_line, txn_lines, whole}
+use Rattle.replay_explanations.specs.Lines.{explanation, indices_from, lines_from, read_line, txn_lines, entire}
 
 lines_same : (form : ExplanationForm) (window : ℤ) (ps qs : List Processed) (b : Batch) (first : ℕ) (ts : List Txn) (es : List Entry)
     → ((j k : ℕ) (t : Txn) (e : Entry) → j ≡ first + k → slice_get ts k ≡ Some t → slice_get es k ≡ Some e
-    → txn_lines form window ps b j t e.verdict e.places ≡ txn_lines form window qs b j t e.verdict e.places)
+    → txn_lines form window ps b j t e.verdict ≡ txn_lines form window qs b j t e.verdict)
     → lines_from form window ps b first ts es ≡ lines_from form window qs b first ts es
 lines_same form window ps qs b first [] es h = refl
 lines_same form window ps qs b first (t ∷ ts) [] h = refl
 lines_same form window ps qs b first (t ∷ ts) (e ∷ es) h =
     ap (λ (xs : List ℕ). xs ++ lines_from form window ps b (first + 1) ts es) (h first zero t e (omega arith) refl refl)
-    ∙ ap (λ (xs : List ℕ). txn_lines form window qs b first t e.verdict e.places ++ xs)
+    ∙ ap (λ (xs : List ℕ). txn_lines form window qs b first t e.verdict ++ xs)
     (lines_same form window ps qs b (first + 1) ts es (λ j k u f same at_u at_f. h j (suc k) u f (omega (arith, same)) at_u at_f))
 
 module _ (form : ExplanationForm) (window : ℤ) (ps : List Processed) (p : Processed) (h : HistoryState) (chain : IsChain window (ps ++ p ∷ []))
@@ -45,18 +45,18 @@ module _ (form : ExplanationForm) (window : ℤ) (ps : List Processed) (p : Proc
           (same_explaining window ps p h chain keeps newest low j t e at_t at_e is i range read)
 
   txn_same : (j : ℕ) (t : Txn) (e : Entry) → slice_get p.batch.txns j ≡ Some t → slice_get p.reply.entries j ≡ Some e
-      → txn_lines form window (ps ++ p ∷ []) p.batch j t e.verdict e.places ≡ txn_lines form window h.kept p.batch j t e.verdict e.places
+      → txn_lines form window (ps ++ p ∷ []) p.batch j t e.verdict ≡ txn_lines form window h.kept p.batch j t e.verdict
   txn_same j t e at_t at_e = go e.verdict refl
     where
       go : (verdict : Verdict) → e.verdict ≡ verdict
-          → txn_lines form window (ps ++ p ∷ []) p.batch j t verdict e.places ≡ txn_lines form window h.kept p.batch j t verdict e.places
+          → txn_lines form window (ps ++ p ∷ []) p.batch j t verdict ≡ txn_lines form window h.kept p.batch j t verdict
       go Committed is = refl
       go TooOld is = refl
-      go Conflict is = λ x. flat_map (λ i. read_same j t e at_t at_e is i x) (asked_about e.places (length t.reads))
+      go Conflict is = λ x. flat_map (λ i. read_same j t e at_t at_e is i x) (indices_from 0 (length t.reads))
 
   pub same_explanation : explanation form window (ps ++ p ∷ []) p ≡ explanation form window h.kept p
   same_explanation =
-      ap (whole form) (lines_same form window (ps ++ p ∷ []) h.kept p.batch 0 p.batch.txns p.reply.entries
+      ap (entire form) (lines_same form window (ps ++ p ∷ []) h.kept p.batch 0 p.batch.txns p.reply.entries
       (λ j k t e is at_t at_e.
       let same : k ≡ j = omega (arith, is) in
       txn_same j t e (ap (slice_get p.batch.txns) (sym same) ∙ at_t) (ap (slice_get p.reply.entries) (sym same) ∙ at_e)))

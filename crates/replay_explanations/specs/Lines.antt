@@ -67,15 +67,13 @@ abbrev pub indices_from : ℕ → ℕ → List ℕ
 indices_from first zero = []
 indices_from first (suc n) = first ∷ indices_from (first + 1) n
 
--- the read ranges of a conflicting transaction that are asked about: those of its report if it has one, otherwise all
-abbrev pub asked_about : List ℕ → ℕ → List ℕ
-asked_about [] reads = indices_from 0 reads
-asked_about (place ∷ places) reads = place ∷ places
+-- the line of read range i of the transaction at index j of the batch that was processed last; there is none if no write explains it
+abbrev pub line_at : ExplanationForm → List Processed → Batch → ℕ → Txn → ℕ → List ℕ
+line_at form ps b j t i = read_line form b.version j i (slice_get t.reads i) (explaining ps b j i)
 
--- the lines of the conflicting transaction at index j of the batch that was processed last
-abbrev pub conflict_lines : ExplanationForm → List Processed → Batch → ℕ → Txn → List ℕ → List ℕ
-conflict_lines form ps b j t places =
-    flat_map (λ i. read_line form b.version j i (slice_get t.reads i) (explaining ps b j i)) (asked_about places (length t.reads))
+-- the lines of the conflicting transaction at index j of that batch, in the order of its read ranges, whether or not it has a report
+abbrev pub conflict_lines : ExplanationForm → List Processed → Batch → ℕ → Txn → List ℕ
+conflict_lines form ps b j t = flat_map (λ i. line_at form ps b j t i) (indices_from 0 (length t.reads))
 
 -- the line of the transaction at index j, which is too old
 abbrev pub too_old_line : ℕ → ℤ → ℤ → List ℕ
@@ -89,26 +87,26 @@ too_old_text Words j snapshot oldest = too_old_line j snapshot oldest
 too_old_text Json j snapshot oldest = too_old_json j snapshot oldest
 
 -- the lines of a transaction, by its verdict
-abbrev pub txn_lines : ExplanationForm → ℤ → List Processed → Batch → ℕ → Txn → Verdict → List ℕ → List ℕ
-txn_lines form window ps b j t Committed places = []
-txn_lines form window ps b j t TooOld places = too_old_text form j t.snapshot (edge window b)
-txn_lines form window ps b j t Conflict places = conflict_lines form ps b j t places
+abbrev pub txn_lines : ExplanationForm → ℤ → List Processed → Batch → ℕ → Txn → Verdict → List ℕ
+txn_lines form window ps b j t Committed = []
+txn_lines form window ps b j t TooOld = too_old_text form j t.snapshot (edge window b)
+txn_lines form window ps b j t Conflict = conflict_lines form ps b j t
 
 -- the lines of transactions with their entries; the first of them has this index
 abbrev pub lines_from : ExplanationForm → ℤ → List Processed → Batch → ℕ → List Txn → List Entry → List ℕ
 lines_from form window ps b j (t ∷ ts) (e ∷ es) =
-    txn_lines form window ps b j t e.verdict e.places ++ lines_from form window ps b (j + 1) ts es
+    txn_lines form window ps b j t e.verdict ++ lines_from form window ps b (j + 1) ts es
 lines_from form window ps b j [] es = []
 lines_from form window ps b j (t ∷ ts) [] = []
 
 -- the lines as they are, or the objects as a member
-abbrev pub whole : ExplanationForm → List ℕ → List ℕ
-whole Words lines = lines
-whole Json objects = member_json objects
+abbrev pub entire : ExplanationForm → List ℕ → List ℕ
+entire Words lines = lines
+entire Json objects = member_json objects
 
 -- the text of the batch that was processed last of these
 abbrev pub explanation : ExplanationForm → ℤ → List Processed → Processed → List ℕ
-explanation form window ps p = whole form (lines_from form window ps p.batch 0 p.batch.txns p.reply.entries)
+explanation form window ps p = entire form (lines_from form window ps p.batch 0 p.batch.txns p.reply.entries)
 
 -- the lines of the batch of this proxy and version, if it was processed after these; each batch is explained by those up to it
 abbrev pub explanation_from : ExplanationForm → ℤ → List Processed → List Processed → ℕ → ℤ → List ℕ

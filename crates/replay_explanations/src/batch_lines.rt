@@ -7,7 +7,7 @@ ghost use Rattle.keyspace.specs.declared.batch.Batch.{Batch as BatchValue};
 ghost use Rattle.keyspace.specs.declared.txn.Txn.{Txn};
 ghost use Rattle.explanations.specs.Explains.{explaining_newest, newest_of};
 ghost use Rattle.replay_explanations.specs.Lines.{conflict_lines, indices_from, lines_from};
-ghost use Rattle.replay_explanations.specs.Lines.{read_line, txn_lines, whole};
+ghost use Rattle.replay_explanations.specs.Lines.{read_line, txn_lines, entire};
 
 use crate::form::{ExplanationForm, put_conflict, put_too_old};
 use crate::json::member_of;
@@ -27,7 +27,7 @@ pub(crate) fn lines_of(
         length entries.now ≡ length batch.txns) }
     ensures text { IfOk result (λ text. (batch : BatchValue)
         → newest_of history.now.kept ≡ Some batch
-        → text.items ≡ whole form (lines_from form history.now.window history.now.kept batch 0
+        → text.items ≡ entire form (lines_from form history.now.window history.now.kept batch 0
         batch.txns entries.now)) }
 {
     let mut text = Vec::new(alloc);
@@ -72,7 +72,7 @@ fn put_txn(
     requires within { txn < length batch.now.txns }
     ensures text { OnOk result ((t : Txn) → slice_get batch.now.txns txn ≡ Some t
         → out.new.items ≡ out.old.items ++ txn_lines form history.now.window history.now.kept
-        batch.now txn t entry.now.verdict entry.now.places) }
+        batch.now txn t entry.now.verdict) }
 {
     match entry.verdict {
         Verdict::Committed => Ok(()),
@@ -86,7 +86,7 @@ fn put_txn(
                 oldest_readable(history.window(), batch),
             )
         }
-        Verdict::Conflict => put_conflicts(out, form, history, batch, txn, entry.places.as_slice()),
+        Verdict::Conflict => put_conflicts(out, form, history, batch, txn),
     }
 }
 
@@ -98,36 +98,21 @@ fn oldest_readable(window: i64, batch: &Batch) -> i64
     (batch.version - window).max(0)
 }
 
-// Appends the lines of a transaction in conflict. Those of its report, if it has one, else all
-// read ranges are looked at.
+// Appends the lines of a transaction in conflict.
 fn put_conflicts(
     out: &mut Vec<u8>,
     form: ExplanationForm,
     history: &History,
     batch: &Batch,
     txn: usize,
-    places: &[u16],
 ) -> Result<(), AllocError>
     requires newest { newest_of history.now.kept ≡ Some batch.now }
     requires within { txn < length batch.now.txns }
     ensures text { OnOk result ((t : Txn) → slice_get batch.now.txns txn ≡ Some t
-        → out.new.items ≡ out.old.items
-        ++ conflict_lines form history.now.kept batch.now txn t places.now) }
+        → out.new.items ≡ out.old.items ++ conflict_lines form history.now.kept batch.now txn t) }
 {
     let transaction = batch.txns.txn(txn);
-    if places.is_empty() {
-        put_all(out, form, history, batch.version, txn, &transaction.reads)
-    } else {
-        put_reported(
-            out,
-            form,
-            history,
-            batch.version,
-            txn,
-            &transaction.reads,
-            places,
-        )
-    }
+    put_all(out, form, history, batch.version, txn, &transaction.reads)
 }
 
 // Appends the lines of all read ranges.
@@ -145,26 +130,6 @@ fn put_all(
 {
     for read in 0..reads.len() {
         put_read_line(out, form, history, version, txn, reads, read)?;
-    }
-    Ok(())
-}
-
-// Appends the lines of the read ranges at the places.
-fn put_reported(
-    out: &mut Vec<u8>,
-    form: ExplanationForm,
-    history: &History,
-    version: i64,
-    txn: usize,
-    reads: &RangesRef<'_>,
-    places: &[u16],
-) -> Result<(), AllocError>
-    ensures text { OnOk result (out.new.items ≡ out.old.items ++ flat_map (λ read.
-        read_line form version txn read (slice_get reads.now read)
-        (explaining_newest history.now.kept txn read)) places.now) }
-{
-    for place in places {
-        put_read_line(out, form, history, version, txn, reads, usize::from(*place))?;
     }
     Ok(())
 }

@@ -3,7 +3,8 @@
 //!
 //! An [`Explainer`] observes the batches that a resolver processes. It keeps the text of each batch
 //! with a rejection by proxy and version, and [`Explainer::explanation`] returns it. The [`laws`]
-//! say that each transaction rejected as a conflict has a line, or an object.
+//! say that each transaction rejected as a conflict has a line, or an object, and so has each of
+//! its read ranges in conflict.
 //!
 //! `specs/` says, in reading order, the objects of JSON (`Json`), which lines or objects a batch
 //! has (`Lines`) and what an explainer holds of the batches that it saw (`Explainer`). `forms`

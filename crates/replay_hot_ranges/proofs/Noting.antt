@@ -9,21 +9,21 @@ use Rattle.std.proofs.lemmas.Map.Views.{tells_apart}
 use Rattle.keys.specs.declared.range.Range.{Range}
 use Rattle.replay_hot_ranges.specs.Conflicts.{InConflict}
 use Rattle.replay_hot_ranges.specs.Counts.{Ends, Side, count_of, has_ends, is_about}
-use Rattle.replay_hot_ranges.specs.Tally.{IsTallyOf, IsTallyWith, conflicts_at, conflicts_in, is_last, is_last_in}
+use Rattle.replay_hot_ranges.specs.RangeTally.{IsTallyOf, IsTallyWith, conflicts_at, conflicts_in, is_last, is_last_in}
 use Rattle.replay_hot_ranges.specs.Top.{ends_cmp}
 use Rattle.replay_hot_ranges.specs.declared.tally.Count.{Count}
-use Rattle.replay_hot_ranges.specs.declared.tally.Tally.{Tally}
+use Rattle.replay_hot_ranges.specs.declared.tally.RangeTally.{RangeTally}
 use Rattle.replay_hot_ranges.proofs.Keys.{ends_exact, is_at-range}
 
 -- an empty map
-pub none_counted : (tally : Tally) → tally.counts.entries ≡ [] → (ends : Ends) → conflicts_at tally ends ≡ 0
+pub none_counted : (tally : RangeTally) → tally.counts.entries ≡ [] → (ends : Ends) → conflicts_at tally ends ≡ 0
 none_counted tally empty ends = ap (λ es. conflicts_in (lookup (is_at (ends_cmp ends)) es)) empty
 
-pub none_last : (tally : Tally) → tally.counts.entries ≡ [] → (ends : Ends) (txn : ℕ) → is_last tally txn ends ≡ false
+pub none_last : (tally : RangeTally) → tally.counts.entries ≡ [] → (ends : Ends) (txn : ℕ) → is_last tally txn ends ≡ false
 none_last tally empty ends txn = ap (λ es. is_last_in (lookup (is_at (ends_cmp ends)) es) txn) empty
 
 -- what is set at the key of a range
-module _ (old new : Tally) (range : Range) (txn : ℕ) (count : Count)
+module _ (old new : RangeTally) (range : Range) (txn : ℕ) (count : Count)
     (sets : (ends : Ends) → tree.get ends_cmp new.counts ends
     ≡ cond (is_at (ends_cmp (range.begin, range.end)) ends) (Some count) (tree.get ends_cmp old.counts ends))
     (last_is : count.last ≡ txn)
@@ -79,7 +79,7 @@ same_number n = grind arith
 other_number : (n m : ℕ) → n < m → (n == m) ≡ false
 other_number n m h = grind arith
 
-module _ (side : Side) (txns : List (List InConflict)) (conflicts : List InConflict) (newest : ℕ) (old new : Tally) (range : Range)
+module _ (side : Side) (txns : List (List InConflict)) (conflicts : List InConflict) (newest : ℕ) (old new : RangeTally) (range : Range)
     (conflict : InConflict) (side_is : side conflict ≡ range)
     (counts : (ends : Ends) → conflicts_at new ends
     ≡ cond (has_ends ends range && not (is_last old newest ends)) (conflicts_at old ends + 1) (conflicts_at old ends))
@@ -121,7 +121,7 @@ module _ (side : Side) (txns : List (List InConflict)) (conflicts : List InConfl
   }
 
 -- a transaction is begun
-pub begun : (side : Side) (txns : List (List InConflict)) (newest next : ℕ) (tally : Tally) → next ≡ newest + 1
+pub begun : (side : Side) (txns : List (List InConflict)) (newest next : ℕ) (tally : RangeTally) → next ≡ newest + 1
     → IsTallyOf side txns newest tally → IsTallyWith side txns [] next tally
 begun side txns newest next tally one_more before = record {
   counts = λ ends. before.counts ends ∙ plus_none (count_of side txns ends);
@@ -133,9 +133,9 @@ begun side txns newest next tally one_more before = record {
     plus_none n = omega arith
 
 -- and has all its conflicts
-pub ended : (side : Side) (txns : List (List InConflict)) (conflicts : List InConflict) (newest : ℕ) (tally : Tally)
+pub ended : (side : Side) (txns : List (List InConflict)) (conflicts : List InConflict) (newest : ℕ) (tally : RangeTally)
     → IsTallyWith side txns conflicts newest tally → IsTallyOf side (txns ++ conflicts ∷ []) newest tally
-ended side txns conflicts newest tally whole = record {
-  counts = λ ends. whole.counts ends ∙ sym (sum_by_push (λ (c : List InConflict). cond (is_about side ends c) 1 0) txns conflicts);
-  numbers = whole.numbers;
+ended side txns conflicts newest tally entire = record {
+  counts = λ ends. entire.counts ends ∙ sym (sum_by_push (λ (c : List InConflict). cond (is_about side ends c) 1 0) txns conflicts);
+  numbers = entire.numbers;
 }

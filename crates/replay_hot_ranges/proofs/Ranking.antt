@@ -22,11 +22,11 @@ use Rattle.std.proofs.lemmas.Option.{get_or_from_slice_get, slice_get_within}
 use Rattle.std.proofs.lemmas.Simd.{map-map}
 use Rattle.keys.proofs.callers.Lists.{some_at}
 use Rattle.replay_hot_ranges.specs.Counts.{Ends}
-use Rattle.replay_hot_ranges.specs.Tally.{conflicts_at, conflicts_in, rows_of}
+use Rattle.replay_hot_ranges.specs.RangeTally.{conflicts_at, conflicts_in, rows_of}
 use Rattle.replay_hot_ranges.specs.Top.{IsTop, ends_cmp, ends_of, row_cmp, row_of}
 use Rattle.replay_hot_ranges.specs.declared.hot_range.HotRange.{HotRange}
 use Rattle.replay_hot_ranges.specs.declared.tally.Count.{Count}
-use Rattle.replay_hot_ranges.specs.declared.tally.Tally.{Tally}
+use Rattle.replay_hot_ranges.specs.declared.tally.RangeTally.{RangeTally}
 use Rattle.replay_hot_ranges.proofs.Keys.{ends_exact, ends_total}
 
 abbrev Row : Type 0
@@ -94,7 +94,7 @@ tied n m same =
 ends_flip : (x y : Ends) → eq_by_cmp ends_cmp x y ≡ eq_by_cmp ends_cmp y x
 ends_flip x y = (eq_by_cmp_equiv ends_total).symm x y
 
-module _ (tally : Tally) (ordered : tree.IsOrdered ends_cmp tally.counts) (all sorted : List HotRange)
+module _ (tally : RangeTally) (ordered : tree.IsOrdered ends_cmp tally.counts) (all sorted : List HotRange)
     (rows : map row_of all ≡ rows_of tally) (moved : IsPermutation all sorted) (falls : IsSortedBy precedes sorted)
     (stable : IsStableBy precedes all sorted) where
   ends_are : map ends_of all ≡ keys_of tally.counts.entries
@@ -280,7 +280,7 @@ module _ (tally : Tally) (ordered : tree.IsOrdered ends_cmp tally.counts) (all s
 
 -- from the clauses of `sort_by`, where each call compares the counts, the second one first
 pub top_from_sort_by : {F : Type 0} {g : Mut F (Bor HotRange × (Bor HotRange × Unit {0})) Ordering} {f : F}
-    (tally : Tally) (ordered : tree.IsOrdered ends_cmp tally.counts) (all sorted : List HotRange) (rows : map row_of all ≡ rows_of tally)
+    (tally : RangeTally) (ordered : tree.IsOrdered ends_cmp tally.counts) (all sorted : List HotRange) (rows : map row_of all ≡ rows_of tally)
     (moved : IsPermutation all sorted)
     (falls : (lt : HotRange → HotRange → Bool) → IsStrictWeakOrder lt → ComparesAs g lt f → IsSortedBy lt sorted)
     (stable : (lt : HotRange → HotRange → Bool) → IsStrictWeakOrder lt → ComparesAs g lt f → IsStableBy lt all sorted) (most : ℕ)

@@ -10,7 +10,7 @@ use Rattle.explanations.specs.History.{Keeps}
 use Rattle.explanations.proofs.callers.Following.{chain_before, edge_within, follows_more}
 use Rattle.replay_hot_ranges.specs.Conflicts.{InConflict, rejected, rejected_after, rejected_from, rejected_last}
 use Rattle.replay_hot_ranges.specs.HotRanges.{HasCounted, HasSeen}
-use Rattle.replay_hot_ranges.specs.Tally.{AreTallies}
+use Rattle.replay_hot_ranges.specs.RangeTally.{AreTallies}
 use Rattle.replay_hot_ranges.specs.declared.hot_ranges.HotRanges.{HotRanges}
 use Rattle.replay_hot_ranges.proofs.Same.{same_rejected}
 

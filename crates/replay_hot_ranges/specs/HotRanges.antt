@@ -4,7 +4,7 @@ use Rattle.keyspace.specs.Chain.{IsChain}
 use Rattle.keyspace.specs.Processed.{Processed}
 use Rattle.explanations.specs.History.{FollowsChain}
 use Rattle.replay_hot_ranges.specs.Conflicts.{rejected}
-use Rattle.replay_hot_ranges.specs.Tally.{AreTallies}
+use Rattle.replay_hot_ranges.specs.RangeTally.{AreTallies}
 use Rattle.replay_hot_ranges.specs.declared.hot_ranges.HotRanges.{HotRanges}
 
 -- it has the conflicts of these batches

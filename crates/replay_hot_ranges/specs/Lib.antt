@@ -4,5 +4,5 @@ pub mod Counts
 pub mod Top
 pub mod Laws
 pub mod Text
-pub mod Tally
+pub mod RangeTally
 pub mod HotRanges

@@ -9,7 +9,7 @@ ghost use Rattle.explanations.specs.Explains.{explaining_newest, newest_of};
 ghost use Rattle.replay_hot_ranges.specs.Conflicts.{InConflict, conflicts_of, in_conflict};
 ghost use Rattle.replay_hot_ranges.specs.Conflicts.{newest, rejected_by, rejected_from};
 
-use crate::tally::Tally;
+use crate::tally::RangeTally;
 use explanations::{History, WrittenRef};
 use keys::RangeRef;
 use keyspace::{Batch, Entry, RangesRef, Verdict};
@@ -21,12 +21,12 @@ pub struct Tallies {
     alloc: Global,
     // the number of the transaction that was counted last
     txns: usize,
-    pub reads: Tally,
-    pub writes: Tally,
+    pub reads: RangeTally,
+    pub writes: RangeTally,
 }
 
 impl Tallies {
-    ghost use Rattle.replay_hot_ranges.specs.Tally.{AreTallies, AreTalliesWith};
+    ghost use Rattle.replay_hot_ranges.specs.RangeTally.{AreTallies, AreTalliesWith};
 
     /// Creates tallies of no transaction, without taking memory.
     pub fn new(alloc: Global) -> Self
@@ -35,8 +35,8 @@ impl Tallies {
         Tallies {
             alloc,
             txns: 0,
-            reads: Tally::new(alloc),
-            writes: Tally::new(alloc),
+            reads: RangeTally::new(alloc),
+            writes: RangeTally::new(alloc),
         }
     }
 

@@ -7,7 +7,7 @@
 //!
 //! In reading order, `specs/` has the conflicts of a transaction (`Conflicts`), how ranges are
 //! counted (`Counts`), which of them are listed (`Top`) and the printed text (`Text`).
-//! `Tally` and `HotRanges` say what is kept.
+//! `RangeTally` and `HotRanges` say what is kept.
 #![tactic(auto)]
 
 mod counting;

@@ -11,7 +11,7 @@ use std::collections::BTreeMap;
 
 /// The count of each range that has one, by its begin and its end.
 #[derive(Debug, Drop)]
-pub struct Tally {
+pub struct RangeTally {
     counts: BTreeMap<(Key, Key), Count>,
 }
 
@@ -25,7 +25,7 @@ struct Count {
 }
 
 impl Count {
-    ghost use Rattle.replay_hot_ranges.specs.Tally.{conflicts_in, is_last_in};
+    ghost use Rattle.replay_hot_ranges.specs.RangeTally.{conflicts_in, is_last_in};
 
     // Returns the count of a range once the transaction of this number is counted, which one that
     // was counted last isn't again. A count beyond 64 bits is an error.
@@ -53,8 +53,8 @@ impl Count {
     }
 }
 
-impl Tally {
-    ghost use Rattle.replay_hot_ranges.specs.Tally.{conflicts_at, is_last, rows_of};
+impl RangeTally {
+    ghost use Rattle.replay_hot_ranges.specs.RangeTally.{conflicts_at, is_last, rows_of};
     ghost use Rattle.replay_hot_ranges.specs.Top.{ends_cmp, row_of};
     ghost use Rattle.std.specs.BTreeMap.{IsOrdered};
 
@@ -63,7 +63,7 @@ impl Tally {
         ensures none { (ends : Ends) → conflicts_at result ends ≡ 0 }
         ensures no_last { (ends : Ends) (txn : ℕ) → is_last result txn ends ≡ false }
     {
-        Tally {
+        RangeTally {
             counts: BTreeMap::new(alloc),
         }
     }

@@ -13,7 +13,7 @@ module _ {X : Type 0} (P : X → Type 0) (version : X → ℤ) where
   All-put (y ∷ ys) x one all =
       elim (cases_Bool (int_lt (version x) (version y))) [
         | inl before ↦ subst (All P) (sym (cond-true _ _ _ before)) (All-cons P x (y ∷ ys) one all)
-        | inr behind ↦ subst (All P) (sym (cond-false _ _ _ behind))
+        | inr after ↦ subst (All P) (sym (cond-false _ _ _ after))
             (All-cons P y (put_in_order version ys x) (All-head P y ys all) (All-put ys x one (All-tail P y ys all)))
       ]
 
@@ -27,39 +27,39 @@ module _ {X : Type 0} (P : X → Type 0) (version : X → ℤ) where
   pub All-in_order : (received : List X) → All P received → All P (in_order_by version received)
   All-in_order received all = All-put_all [] received (λ k d inside. absurd (omega arith)) all
 
-module _ {X Y : Type 0} (tells : X → Y) (version : X → ℤ) (version_told : Y → ℤ) where
+module _ {X Y : Type 0} (reports : X → Y) (version : X → ℤ) (item_version : Y → ℤ) where
   -- its version is that of what it tells of
   abbrev Agrees : X → Type 0
-  Agrees x = version x ≡ version_told (tells x)
+  Agrees x = version x ≡ item_version (reports x)
 
   map-put : (xs : List X) (x : X) → Agrees x → All Agrees xs
-      → map tells (put_in_order version xs x) ≡ put_in_order version_told (map tells xs) (tells x)
+      → map reports (put_in_order version xs x) ≡ put_in_order item_version (map reports xs) (reports x)
   map-put [] x one all = refl
   map-put (y ∷ ys) x one all =
       let first = All-head Agrees y ys all in
-      let same : int_lt (version_told (tells x)) (version_told (tells y)) ≡ int_lt (version x) (version y) =
+      let same : int_lt (item_version (reports x)) (item_version (reports y)) ≡ int_lt (version x) (version y) =
       sym (λ i. int_lt (one i) (first i)) in
       elim (cases_Bool (int_lt (version x) (version y))) [
         | inl before ↦
-            ap (map tells) (cond-true _ _ _ before) ∙ sym (cond-true _ _ _ (same ∙ before))
-        | inr behind ↦
-            ap (map tells) (cond-false _ _ _ behind)
-            ∙ ap (λ l. tells y ∷ l) (map-put ys x one (All-tail Agrees y ys all))
-            ∙ sym (cond-false _ _ _ (same ∙ behind))
+            ap (map reports) (cond-true _ _ _ before) ∙ sym (cond-true _ _ _ (same ∙ before))
+        | inr after ↦
+            ap (map reports) (cond-false _ _ _ after)
+            ∙ ap (λ l. reports y ∷ l) (map-put ys x one (All-tail Agrees y ys all))
+            ∙ sym (cond-false _ _ _ (same ∙ after))
       ]
 
   map-put_all : (start received : List X) → All Agrees start → All Agrees received
-      → map tells (fold (put_in_order version) start received)
-      ≡ fold (put_in_order version_told) (map tells start) (map tells received)
+      → map reports (fold (put_in_order version) start received)
+      ≡ fold (put_in_order item_version) (map reports start) (map reports received)
   map-put_all start [] before all = refl
   map-put_all start (x ∷ received) before all =
       let one = All-head Agrees x received all in
       map-put_all (put_in_order version start x) received (All-put Agrees version start x one before)
       (All-tail Agrees x received all)
-      ∙ ap (λ l. fold (put_in_order version_told) l (map tells received)) (map-put start x one before)
+      ∙ ap (λ l. fold (put_in_order item_version) l (map reports received)) (map-put start x one before)
 
   pub map-in_order : (received : List X) → All Agrees received
-      → map tells (in_order_by version received) ≡ in_order_by version_told (map tells received)
+      → map reports (in_order_by version received) ≡ in_order_by item_version (map reports received)
   map-in_order received all = map-put_all [] received (λ k d inside. absurd (omega arith)) all
 
 not_before_lesser : (lesser version other : ℤ) → int_lt lesser version ≡ true → int_lt other version ≡ false
@@ -67,7 +67,7 @@ not_before_lesser : (lesser version other : ℤ) → int_lt lesser version ≡ t
 not_before_lesser lesser version other below far =
     elim (cases_Bool (int_lt other lesser)) [
       | inl before ↦ absurd (never lesser version other below far before)
-      | inr behind ↦ behind
+      | inr after ↦ after
     ]
   where
     never : (lesser version other : ℤ) → int_lt lesser version ≡ true → int_lt other version ≡ false
@@ -78,7 +78,7 @@ not_before : (lesser version : ℤ) → int_lt lesser version ≡ true → int_l
 not_before lesser version below =
     elim (cases_Bool (int_lt version lesser)) [
       | inl before ↦ absurd (never lesser version below before)
-      | inr behind ↦ behind
+      | inr after ↦ after
     ]
   where
     never : (lesser version : ℤ) → int_lt lesser version ≡ true → int_lt version lesser ≡ true → ⊥
@@ -97,7 +97,7 @@ module _ {X : Type 0} (version : X → ℤ) where
   NoneBefore-put least (y ∷ ys) x far none =
       elim (cases_Bool (int_lt (version x) (version y))) [
         | inl before ↦ subst (NoneBefore version least) (sym (cond-true _ _ _ before)) (far, none)
-        | inr behind ↦ subst (NoneBefore version least) (sym (cond-false _ _ _ behind))
+        | inr after ↦ subst (NoneBefore version least) (sym (cond-false _ _ _ after))
             (none.0, NoneBefore-put least ys x far none.1)
       ]
 
@@ -109,8 +109,8 @@ module _ {X : Type 0} (version : X → ℤ) where
           (not_before (version x) (version y) before, NoneBefore-lesser (version x) (version y) ys before rise.0),
           rise,
         )
-        | inr behind ↦ subst (Rise version) (sym (cond-false _ _ _ behind))
-            (NoneBefore-put (version y) ys x behind rise.0, Rise-put ys x rise.1)
+        | inr after ↦ subst (Rise version) (sym (cond-false _ _ _ after))
+            (NoneBefore-put (version y) ys x after rise.0, Rise-put ys x rise.1)
       ]
 
   Rise-put_all : (start received : List X) → Rise version start → Rise version (fold (put_in_order version) start received)

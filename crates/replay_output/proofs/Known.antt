@@ -21,12 +21,12 @@ take_within (suc n) (x ∷ first) next =
 -- what was written whole, and then a beginning of what follows
 pub begins_then : (old between new : Option (List ℕ)) (first next : List ℕ) → Appends old between first
     → Begins between new next → Begins old new (first ++ next)
-begins_then old between None first next whole begins = tt
-begins_then None between (Some zs) first next whole begins = (zero, tt)
-begins_then (Some xs) None (Some zs) first next whole begins = absurd whole
-begins_then (Some xs) (Some ys) (Some zs) first next whole begins = (
+begins_then old between None first next entire begins = tt
+begins_then None between (Some zs) first next entire begins = (zero, tt)
+begins_then (Some xs) None (Some zs) first next entire begins = absurd entire
+begins_then (Some xs) (Some ys) (Some zs) first next entire begins = (
   length first + begins.0,
-  begins.1 ∙ ap (λ (text : List ℕ). text ++ take begins.0 next) whole
+  begins.1 ∙ ap (λ (text : List ℕ). text ++ take begins.0 next) entire
       ∙ append_assoc xs first (take begins.0 next)
       ∙ ap (λ (text : List ℕ). xs ++ text) (sym (take-append-add first next begins.0)),
 )
@@ -52,9 +52,9 @@ module _ {X : Type 0} (text : X → List ℕ) where
   pub begins_at : (xs : List X) (i : ℕ) (x : X) → i < length xs → x ≡ get_or xs i x
       → (old between new : Option (List ℕ)) → Appends old between (flat_map text (take i xs))
       → Begins between new (text x) → Begins old new (flat_map text xs)
-  begins_at xs i x inside is old between new whole begins =
+  begins_at xs i x inside is old between new entire begins =
       subst (Begins old new) (sym (split_at xs i x inside is))
-      (begins_then old between new _ _ whole (begins_within between new (text x) _ begins))
+      (begins_then old between new _ _ entire (begins_within between new (text x) _ begins))
 
 -- the text of pieces that are seen as lists
 pub flat_map-seen : {X Y : Type 0} (text : Y → List ℕ) (view : X → Y) (xs : List X)
@@ -64,14 +64,14 @@ flat_map-seen text view (x ∷ xs) = ap (λ l. text (view x) ++ l) (flat_map-see
 
 module _ {X Y : Type 0} (text : Y → List ℕ) (view : X → Y) where
   -- all pieces were written
-  pub whole_seen : (xs : List X) (i : ℕ) → length xs ≤ i → (old new : Option (List ℕ))
+  pub entire_seen : (xs : List X) (i : ℕ) → length xs ≤ i → (old new : Option (List ℕ))
       → Appends old new (flat_map (λ (x : X). text (view x)) (take i xs)) → Appends old new (flat_map text (map view xs))
-  whole_seen xs i end old new whole =
-      subst (Appends old new) (ap (flat_map (λ (x : X). text (view x))) (take_all i xs end) ∙ sym (flat_map-seen text view xs)) whole
+  entire_seen xs i end old new entire =
+      subst (Appends old new) (ap (flat_map (λ (x : X). text (view x))) (take_all i xs end) ∙ sym (flat_map-seen text view xs)) entire
 
   pub begins_seen : (xs : List X) (i : ℕ) (x : X) → i < length xs → x ≡ get_or xs i x
       → (old between new : Option (List ℕ)) → Appends old between (flat_map (λ (x : X). text (view x)) (take i xs))
       → Begins between new (text (view x)) → Begins old new (flat_map text (map view xs))
-  begins_seen xs i x inside is old between new whole begins =
+  begins_seen xs i x inside is old between new entire begins =
       subst (Begins old new) (sym (flat_map-seen text view xs))
-      (begins_at (λ (y : X). text (view y)) xs i x inside is old between new whole begins)
+      (begins_at (λ (y : X). text (view y)) xs i x inside is old between new entire begins)

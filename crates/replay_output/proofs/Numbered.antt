@@ -47,42 +47,42 @@ module _ {Y : Type 0} (change : Y → Y) where
 
 module _ {X Y : Type 0} (view : X → Y) (change : Y → Y) where
   -- the next piece is still as it was
-  pub changed_to-next : (whole : List Y) (xs : List X) (i : ℕ) (x : X) → i < length xs → x ≡ get_or xs i x
-      → map view xs ≡ changed_to change i whole → (i < length whole) × (view x ≡ get_or whole i (view x))
-  changed_to-next whole xs i x inside is so_far =
-      let long : length xs ≡ length whole =
-      sym (length-map xs view) ∙ ap length so_far ∙ length-changed_to change i whole in
-      let inside_whole : i < length whole = omega arith in (
-        inside_whole,
+  pub changed_to-next : (entire : List Y) (xs : List X) (i : ℕ) (x : X) → i < length xs → x ≡ get_or xs i x
+      → map view xs ≡ changed_to change i entire → (i < length entire) × (view x ≡ get_or entire i (view x))
+  changed_to-next entire xs i x inside is so_far =
+      let long : length xs ≡ length entire =
+      sym (length-map xs view) ∙ ap length so_far ∙ length-changed_to change i entire in
+      let inside_entire : i < length entire = omega arith in (
+        inside_entire,
         ap view is ∙ sym (get_or-map view xs i x (view x) inside)
-            ∙ ap (λ l. get_or l i (view x)) so_far ∙ get-changed_to change whole i (view x) inside_whole,
+            ∙ ap (λ l. get_or l i (view x)) so_far ∙ get-changed_to change entire i (view x) inside_entire,
       )
 
   -- the next piece is changed
-  pub changed_to-more : (whole : List Y) (xs : List X) (i : ℕ) (x y : X) → i < length xs → x ≡ get_or xs i x
-      → view y ≡ change (view x) → map view xs ≡ changed_to change i whole
-      → map view (set xs i y) ≡ changed_to change (i + 1) whole
-  changed_to-more whole xs i x y inside is changes so_far =
-      let next = changed_to-next whole xs i x inside is so_far in
-      let inside_whole = next.0 in
+  pub changed_to-more : (entire : List Y) (xs : List X) (i : ℕ) (x y : X) → i < length xs → x ≡ get_or xs i x
+      → view y ≡ change (view x) → map view xs ≡ changed_to change i entire
+      → map view (set xs i y) ≡ changed_to change (i + 1) entire
+  changed_to-more entire xs i x y inside is changes so_far =
+      let next = changed_to-next entire xs i x inside is so_far in
+      let inside_entire = next.0 in
       let found = next.1 in
       map-set view xs i y
       ∙ ap (λ v. set (map view xs) i v) (changes ∙ ap change found)
-      ∙ ap (λ l. set l i (change (get_or whole i (view x)))) so_far
-      ∙ set-changed_to change whole i (view x) inside_whole
-      ∙ ap (λ n. changed_to change n whole) (sym (add-one i))
+      ∙ ap (λ l. set l i (change (get_or entire i (view x)))) so_far
+      ∙ set-changed_to change entire i (view x) inside_entire
+      ∙ ap (λ n. changed_to change n entire) (sym (add-one i))
 
   -- the piece is as it was
-  pub changed_to-same : (whole : List Y) (xs : List X) (i : ℕ) (x y : X) → x ≡ get_or xs i x → view y ≡ view x
-      → map view xs ≡ changed_to change i whole → map view (set xs i y) ≡ changed_to change i whole
-  changed_to-same whole xs i x y is same so_far = map-set_same view xs i y x (same ∙ ap view is) ∙ so_far
+  pub changed_to-same : (entire : List Y) (xs : List X) (i : ℕ) (x y : X) → x ≡ get_or xs i x → view y ≡ view x
+      → map view xs ≡ changed_to change i entire → map view (set xs i y) ≡ changed_to change i entire
+  changed_to-same entire xs i x y is same so_far = map-set_same view xs i y x (same ∙ ap view is) ∙ so_far
 
 -- so many items has the next list, which is still as it was
-pub count_next : {X Z : Type 0} (view : X → List Z) (change : List Z → List Z) (whole : List (List Z)) (xs : List X) (i : ℕ) (x : X)
-    → i < length xs → x ≡ get_or xs i x → map view xs ≡ changed_to change i whole → count_at whole i ≡ length (view x)
-count_next view change whole xs i x inside is so_far =
-    let next = changed_to-next view change whole xs i x inside is so_far in
-    ap length (get_or_default whole i [] (view x) next.0 ∙ sym next.1)
+pub count_next : {X Z : Type 0} (view : X → List Z) (change : List Z → List Z) (entire : List (List Z)) (xs : List X) (i : ℕ) (x : X)
+    → i < length xs → x ≡ get_or xs i x → map view xs ≡ changed_to change i entire → count_at entire i ≡ length (view x)
+count_next view change entire xs i x inside is so_far =
+    let next = changed_to-next view change entire xs i x inside is so_far in
+    ap length (get_or_default entire i [] (view x) next.0 ∙ sym next.1)
 
 module _ {X Y : Type 0} (view : X → Y) (text_of : ℕ × Y → List ℕ) where
   -- the text of pieces that are numbered from n on

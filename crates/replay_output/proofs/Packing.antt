@@ -58,7 +58,7 @@ repeat_more front n text =
 -- the unit that stands for the same word once more
 pub once_more : (unit : ℕ) (word : Word) → FIRST_WORD ≤ unit → word_of unit ≡ word
     → spelled (unit + WORDS) ≡ spelled unit ++ word_text word
-once_more unit word behind is =
+once_more unit word after is =
     let times : times_of (unit + WORDS) ≡ times_of unit + 1 = omega arith in
     let number : (unit + WORDS - FIRST_WORD) % WORDS ≡ (unit - FIRST_WORD) % WORDS = omega arith in
     let text = word_text (word_of unit) in
@@ -66,7 +66,7 @@ once_more unit word behind is =
     ∙ ap (λ (n : ℕ). repeat (times_of (unit + WORDS)) (word_text (numbered n))) number
     ∙ ap (λ (n : ℕ). repeat n text) times
     ∙ sym (repeat_more [] (times_of unit) text)
-    ∙ ap (λ (front : List ℕ). front ++ text) (sym (spelled_word unit behind))
+    ∙ ap (λ (front : List ℕ). front ++ text) (sym (spelled_word unit after))
     ∙ ap (λ (w : Word). spelled unit ++ word_text w) is
 
 -- the text after the last unit is replaced by one that stands for more
@@ -104,9 +104,9 @@ split_run units i j le =
 pub begins_run : (units : List ℕ) (i j : ℕ) → i ≤ j → (old between new : Option (List ℕ))
     → Appends old between (spelled_all (take i units)) → Begins between new (spelled_all (slice_range units i j))
     → Begins old new (spelled_all units)
-begins_run units i j le old between new whole begins =
+begins_run units i j le old between new entire begins =
     subst (Begins old new) (split_run units i j le)
-    (begins_then old between new _ _ whole
+    (begins_then old between new _ _ entire
     (begins_within between new (spelled_all (slice_range units i j)) (spelled_all (drop j units)) begins))
 
 word_some : (word : Word) → 1 ≤ length (word_text word)

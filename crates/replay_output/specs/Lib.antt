@@ -1,5 +1,5 @@
 -- In reading order.
-pub mod Filter
+pub mod LineFilter
 pub mod Quieted
 pub mod Lines
 pub mod Packed

@@ -16,7 +16,7 @@ use Rattle.checking.specs.InOrder.{in_order_by}
 use Rattle.replay_output.specs.declared.options.style.Style.{Style}
 use Rattle.replay_output.specs.declared.options.form.Form.{Form}
 use Rattle.replay_output.specs.declared.options.form.Form.TheVariants.{Words, Frames, Json, Kept}
-use Rattle.replay_output.specs.Filter.{is_shown}
+use Rattle.replay_output.specs.LineFilter.{is_shown}
 
 -- a conflict, with the places of its report where it has any
 abbrev pub conflict_word : List ℕ → List ℕ

@@ -1,11 +1,11 @@
 -- Options with which no line is shown. This project's own.
 use Rattle.std.specs.Prelude.{true}
-use Rattle.replay_output.specs.declared.options.filtering.Filter.{Filter}
+use Rattle.replay_output.specs.declared.options.filtering.LineFilter.{LineFilter}
 use Rattle.replay_output.specs.declared.options.style.Style.{Style}
 use Rattle.replay_output.specs.declared.options.Options.{Options}
 
 -- the same filter, with which no line is shown
-abbrev pub quiet_filter : Filter → Filter
+abbrev pub quiet_filter : LineFilter → LineFilter
 quiet_filter filter = record filter { quiet = true }
 
 -- the same style, with which no line is shown

@@ -1,8 +1,8 @@
 //! What a run of the program `replay` prints, and how it ends.
 //!
 //! [`Options`] says how a run is set up, its [`Style`] how answers are printed: in which [`Form`],
-//! and which of them, by a [`Filter`]. Its [`Reports`] says which transactions report their read
-//! ranges in conflict. [`Line`] is the line of one answer, ready to be printed.
+//! and which of them, by a [`LineFilter`]. Its [`Reports`] says which transactions report their
+//! read ranges in conflict. [`Line`] is the line of one answer, ready to be printed.
 //! [`print_report`] prints the lines of all answers in order, and then what failed, of each proxy
 //! ([`ProxyFailure`]) and of the run ([`Ending`]). [`fail_to_start`] prints why a run could not
 //! start. [`Status`] is how the program ends.
@@ -11,7 +11,8 @@
 //! bytes for another program. [`print_unwritten`] names the proxies for which that failed.
 //!
 //! The texts are defined in `specs/Lines.antt`, `specs/Record.antt`, `specs/Failures.antt`,
-//! `specs/Unwritten.antt` and `specs/Start.antt`, and which lines are shown in `specs/Filter.antt`.
+//! `specs/Unwritten.antt` and `specs/Start.antt`, and which lines are shown in
+//! `specs/LineFilter.antt`.
 #![tactic(auto)]
 
 mod failures;
@@ -29,7 +30,7 @@ pub use failures::{
     Ending, ProxyFailure, begin_line, fault_text, note_loss, nothing_failed, print_failures,
 };
 pub use line::{Line, PackedText};
-pub use options::{Filter, Form, Options, Reports, Style};
+pub use options::{Form, LineFilter, Options, Reports, Style};
 pub use records::write_record;
 pub use report::{PrintError, Report, print_answers, print_report, sort_lines};
 pub use start::{StartError, fail_to_start, print_start_error};

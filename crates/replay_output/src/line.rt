@@ -99,7 +99,7 @@ impl Line {
 }
 
 impl Versioned for Line {
-    ghost version_told = { version_of_line };
+    ghost item_version = { version_of_line };
 
     fn version(&self) -> i64 {
         self.counted.version
@@ -107,7 +107,7 @@ impl Versioned for Line {
 }
 
 impl HasCounted for Line {
-    ghost counted_told = { counted_of_line };
+    ghost item_counted = { counted_of_line };
 
     fn counted(&self) -> Counted {
         self.counted

@@ -5,7 +5,7 @@ ghost use Rattle.keyspace.specs.declared.TheConstants.{WINDOW};
 ghost use Rattle.lane.specs.declared.ends.TheConstants.{MAX_CAPACITY};
 ghost use Rattle.conflict.specs.declared.conflict_set.TheConstants.{MAX_WINDOW};
 ghost use Rattle.stepmap.specs.declared.step_map.TheConstants.{MAX_LIMIT};
-ghost use Rattle.replay_output.specs.Filter.{all_lines};
+ghost use Rattle.replay_output.specs.LineFilter.{all_lines};
 ghost use Rattle.replay_output.specs.declared.options.form.Form.TheVariants.{Words};
 ghost use Rattle.replay_output.specs.declared.options.reports.Reports.TheVariants.{Asked};
 
@@ -20,7 +20,7 @@ mod quieting;
 mod reports;
 mod style;
 
-pub use filtering::Filter;
+pub use filtering::LineFilter;
 pub use form::Form;
 pub use reports::Reports;
 pub use style::Style;

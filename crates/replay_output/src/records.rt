@@ -16,10 +16,10 @@ use wire::{Sink, encode_reply, write_and_flush};
 /// Returns `Memory` also if the frame of the reply exceeds
 /// [`MAX_BODY_LENGTH`](wire::MAX_BODY_LENGTH). The right reply to a batch that was read doesn't.
 pub fn write_record<W: Sink>(alloc: Global, out: &mut W, answer: &Answer) -> Result<(), AnswerError>
-    ensures whole { OnOk result (Appends (W.given out.old) (W.given out.new)
+    ensures entire { OnOk result (Appends (W.given out.old) (W.given out.new)
         (answer_record answer.now)) }
     ensures nothing { result ≡ Err AnswerError.Memory → W.given out.new ≡ W.given out.old }
-    ensures beginning { result ≡ Err AnswerError.Write → IfSome (W.given out.new) (λ _.
+    ensures prefix { result ≡ Err AnswerError.Write → IfSome (W.given out.new) (λ _.
         (n : ℕ) × Appends (W.given out.old) (W.given out.new) (take n (answer_record answer.now))) }
     ensures write { (result ≡ Err AnswerError.Write) ↔ (W.failures out.old < W.failures out.new) }
     ensures ok { OnOk result (W.failures out.new ≡ W.failures out.old) }

@@ -23,7 +23,7 @@ pub struct Report {
     /// Whether the lines of all answers were written and flushed.
     pub printed: Result<(), PrintError>,
     /// Whether the lines of all failures were written.
-    pub told: Result<(), Failed>,
+    pub reported: Result<(), Failed>,
     pub status: Status,
 }
 
@@ -51,21 +51,21 @@ pub fn print_report<O: Sink, E: Sink>(
         → TakesToSort (map vec_items received.old) proxy }
     ensures nothing { (proxy : ℕ) → result.printed ≡ Err (PrintError.Memory proxy)
         → O.given out.new ≡ O.given out.old }
-    ensures beginning { (print : Print) → AreLinesBy print (map vec_items received.old)
+    ensures prefix { (print : Print) → AreLinesBy print (map vec_items received.old)
         → result.printed ≡ Err PrintError.Write → IfSome (O.given out.new) (λ _. (n : ℕ)
         × Appends (O.given out.old) (O.given out.new)
         (take n (lines_by print (map answers_of (map vec_items received.old))))) }
     ensures write { (result.printed ≡ Err PrintError.Write)
         ↔ (O.failures out.old < O.failures out.new) }
-    ensures failure_lines { OnOk result.told (Appends (E.given error.old) (E.given error.new)
+    ensures failure_lines { OnOk result.reported (Appends (E.given error.old) (E.given error.new)
         (failure_lines failures.new ending)) }
-    ensures told { IsErr result.told ↔ (E.failures error.old < E.failures error.new) }
+    ensures reported { IsErr result.reported ↔ (E.failures error.old < E.failures error.new) }
     ensures loss { (proxy : ℕ) → result.printed ≡ Err (PrintError.Memory proxy)
         → failures.new ≡ with_loss proxy failures.old }
     ensures no_loss { ((proxy : ℕ) → result.printed ≢ Err (PrintError.Memory proxy))
         → failures.new ≡ failures.old }
     ensures done { result.status ≡ Status.Done
-        ↔ (IsOk result.printed × IsOk result.told × NothingFailed failures.old ending) }
+        ↔ (IsOk result.printed × IsOk result.reported × NothingFailed failures.old ending) }
     ensures quiet { result.status ≡ Status.Done → Keeps (E.given error.old) (E.given error.new) }
     ensures ends { result.status ≢ Status.Usage }
     ensures same { result.status ≢ Status.Differs }
@@ -74,12 +74,12 @@ pub fn print_report<O: Sink, E: Sink>(
     if let Err(PrintError::Memory(proxy)) = printed {
         note_loss(failures, proxy);
     }
-    let told = print_failures(error, failures, ending);
+    let reported = print_failures(error, failures, ending);
     let clean = nothing_failed(failures, ending);
     Report {
-        status: Status::of(clean && printed.is_ok() && told.is_ok()),
+        status: Status::of(clean && printed.is_ok() && reported.is_ok()),
         printed,
-        told,
+        reported,
     }
 }
 
@@ -98,7 +98,7 @@ fn print_and_flush<W: Sink>(
         → TakesToSort (map vec_items received.old) proxy }
     ensures nothing { (proxy : ℕ) → result ≡ Err (PrintError.Memory proxy)
         → W.given out.new ≡ W.given out.old }
-    ensures beginning { (print : Print) → AreLinesBy print (map vec_items received.old)
+    ensures prefix { (print : Print) → AreLinesBy print (map vec_items received.old)
         → result ≡ Err PrintError.Write
         → IfSome (W.given out.new) (λ _. (n : ℕ) × Appends (W.given out.old) (W.given out.new)
         (take n (lines_by print (map answers_of (map vec_items received.old))))) }

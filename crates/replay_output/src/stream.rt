@@ -28,10 +28,10 @@ pub fn print_line<W: Sink>(
     answer: &Answer,
     out: &mut W,
 ) -> Result<(), AnswerError>
-    ensures whole { OnOk result (Appends (W.given out.old) (W.given out.new)
+    ensures entire { OnOk result (Appends (W.given out.old) (W.given out.new)
         (line style proxy answer.now)) }
     ensures nothing { result ≡ Err AnswerError.Memory → W.given out.new ≡ W.given out.old }
-    ensures beginning { result ≡ Err AnswerError.Write → IfSome (W.given out.new) (λ _.
+    ensures prefix { result ≡ Err AnswerError.Write → IfSome (W.given out.new) (λ _.
         (n : ℕ) × Appends (W.given out.old) (W.given out.new)
         (take n (line style proxy answer.now))) }
     ensures write { (result ≡ Err AnswerError.Write) ↔ (W.failures out.old < W.failures out.new) }

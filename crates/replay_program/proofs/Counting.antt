@@ -13,7 +13,7 @@ use Rattle.replay_output.specs.declared.options.Options.{Options}
 use Rattle.replay_output.specs.Failures.{failure_lines, with_loss, IsClean}
 use Rattle.replay_workers.specs.Run.{IsRun}
 use Rattle.replay_program.specs.Replayed.{HasFailed, OfRun, RanAndFailed, Took, Written, ending_of}
-use Rattle.replay_program.proofs.Beside.{lines_told}
+use Rattle.replay_program.proofs.Beside.{lines_reported}
 use Rattle.replay_program.proofs.Explaining.{chain_begins}
 use Rattle.replay_program.proofs.Replaying.{loss_is_no_clean}
 use Rattle.keyspace.specs.declared.answer.Answer.{Answer}
@@ -31,13 +31,13 @@ pub ran_and_lost : (options : Options) (files : List (Option (List ℕ))) (recei
     (complete : Bool) (stop : Option Stop) → IsRun options files received failures complete stop
     → (Ran : OfRun) → Ran received failures complete stop
     → (text_of : List (List Answer) → List ℕ) (Takes : List (List Line) → ℕ → Type 0) (out error : Written) {U F : Type 0}
-    (proxy : ℕ) (told : List ProxyFailure) (wrote : Result U F) → proxy < length failures → Takes received proxy
-    → out.after ≡ out.before → OnOk wrote (Took error (failure_lines told (ending_of complete stop)))
-    → (IsErr wrote → HasFailed error) → told ≡ with_loss proxy failures
+    (proxy : ℕ) (reported : List ProxyFailure) (wrote : Result U F) → proxy < length failures → Takes received proxy
+    → out.after ≡ out.before → OnOk wrote (Took error (failure_lines reported (ending_of complete stop)))
+    → (IsErr wrote → HasFailed error) → reported ≡ with_loss proxy failures
     → RanAndFailed Ran text_of Takes (length files) out error
-ran_and_lost options files received failures complete stop run Ran ran text_of Takes out error proxy told wrote inside takes nothing
-    told_lines told_failed loss =
-    let with : (proxy : ℕ) × (proxy < length files) × Takes received proxy × (told ≡ with_loss proxy failures) =
+ran_and_lost options files received failures complete stop run Ran ran text_of Takes out error proxy reported wrote inside takes nothing
+    reported_lines reported_failed loss =
+    let with : (proxy : ℕ) × (proxy < length files) × Takes received proxy × (reported ≡ with_loss proxy failures) =
     (proxy, omega (arith, inside, run.failures_count), takes, loss) in
     record {
       received = received;
@@ -45,10 +45,10 @@ ran_and_lost options files received failures complete stop run Ran ran text_of T
       complete = complete;
       stop = stop;
       run = ran;
-      told = told;
-      failures_told = inr with;
+      reported = reported;
+      failures_reported = inr with;
       printed = inr (inr (with, nothing));
-      lines_of_failures = lines_told wrote error (failure_lines told (ending_of complete stop)) told_lines told_failed;
+      lines_of_failures = lines_reported wrote error (failure_lines reported (ending_of complete stop)) reported_lines reported_failed;
       why = inr (inr (λ none.
           loss_is_no_clean proxy failures inside (subst (λ (f : List ProxyFailure). All IsClean f) loss none.proxies)));
     }

@@ -10,8 +10,8 @@ use Rattle.replay_explanations.specs.Explainer.{ExplainerState, HasExplained, te
 use Rattle.replay_explanations.specs.declared.form.ExplanationForm.{ExplanationForm}
 use Rattle.replay_explanations.specs.Lines.{explanation_at}
 
-pub chain_begins : (window : ℤ) (list rest whole : List Processed) → whole ≡ list ++ rest → IsChain window whole → IsChain window list
-chain_begins window list rest whole is chain before p after of =
+pub chain_begins : (window : ℤ) (list rest entire : List Processed) → entire ≡ list ++ rest → IsChain window entire → IsChain window list
+chain_begins window list rest entire is chain before p after of =
     chain before p (after ++ rest) (is ∙ ap (λ (l : List Processed). l ++ rest) of ∙ append_assoc before (p ∷ after) rest)
 
 module _ (e : ExplainerState) (stop : Option Stop) (window : ℤ) (log : List Step) (chain : IsChain window (run window log).processed)

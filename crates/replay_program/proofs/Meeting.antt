@@ -20,22 +20,22 @@ use Rattle.replay_stream.specs.Streaming.{IsStreamed, Recorded}
 use Rattle.replay_workers.specs.Run.{IsObservedRun}
 use Rattle.replay_workers.proofs.callers.Lists.{found}
 use Rattle.replay_program.specs.declared.met.Met.{Met}
-use Rattle.replay_program.specs.Met.{HasMet, MetStop, TellsStop}
+use Rattle.replay_program.specs.Met.{HasMet, MetStop, ReportsStop}
 use Rattle.replay_program.specs.Replayed.{HasFailed, Took, Written, ending_of}
 
 -- a run that was not begun met nothing
 pub met_nothing : (options : Options) (files : List (Option (List ℕ))) (met : Met) (error : Written) → met.stop ≡ None
     → HasMet options files met error
 met_nothing options files met error none =
-    subst (λ (s : Option Stop). IfSome s (λ stop. MetStop options files stop met.version × TellsStop stop error)) (sym none) tt
+    subst (λ (s : Option Stop). IfSome s (λ stop. MetStop options files stop met.version × ReportsStop stop error)) (sym none) tt
 
 -- what it met doesn't depend on which lines are shown
 pub met_quieted : (options : Options) (files : List (Option (List ℕ))) (met : Met) (error : Written)
     → HasMet (quieted options) files met error → HasMet options files met error
 met_quieted options files met error has = go met.stop has
   where
-    go : (stop : Option Stop) → IfSome stop (λ s. MetStop (quieted options) files s met.version × TellsStop s error)
-        → IfSome stop (λ s. MetStop options files s met.version × TellsStop s error)
+    go : (stop : Option Stop) → IfSome stop (λ s. MetStop (quieted options) files s met.version × ReportsStop s error)
+        → IfSome stop (λ s. MetStop options files s met.version × ReportsStop s error)
     go None has = tt
     go (Some s) has =
         let of_log : MetStop options files s met.version = record {
@@ -48,20 +48,20 @@ met_quieted options files met error has = go met.stop has
         (of_log, has.1)
 
 -- the last of the lines names the stop
-pub stop_told : {T E : Type 0} (first : List ℕ) (wrote : Result T E) (error : Written) (failures : List ProxyFailure) (complete : Bool)
+pub stop_reported : {T E : Type 0} (first : List ℕ) (wrote : Result T E) (error : Written) (failures : List ProxyFailure) (complete : Bool)
     (stop : Option Stop) → OnOk wrote (Took error (first ++ failure_lines failures (ending_of complete stop)))
-    → (IsErr wrote → HasFailed error) → (s : Stop) → stop ≡ Some s → TellsStop s error
-stop_told first (Ok x) error failures complete stop lines failed s is =
+    → (IsErr wrote → HasFailed error) → (s : Stop) → stop ≡ Some s → ReportsStop s error
+stop_reported first (Ok x) error failures complete stop lines failed s is =
     let last = subst (λ (o : Option Stop). Took error (first ++ failure_lines failures (ending_of complete o))) is lines in
     inr (first ++ proxy_lines failures, subst (Took error) (sym (append_assoc first (proxy_lines failures) (ending_line (Stopped s)))) last)
-stop_told first (Err e) error failures complete stop lines failed s is = inl (failed refl)
+stop_reported first (Err e) error failures complete stop lines failed s is = inl (failed refl)
 
 -- the same of lines with another ending
-pub tells_as : (error : Written) (told : List ProxyFailure) (ending : Ending) (s : Stop) → ending ≡ Stopped s
-    → HasFailed error ⊎ Took error (failure_lines told ending) → TellsStop s error
-tells_as error told ending s is (inl failed) = inl failed
-tells_as error told ending s is (inr took) =
-    inr (proxy_lines told, subst (λ (e : Ending). Took error (proxy_lines told ++ ending_line e)) is took)
+pub reports_as : (error : Written) (reported : List ProxyFailure) (ending : Ending) (s : Stop) → ending ≡ Stopped s
+    → HasFailed error ⊎ Took error (failure_lines reported ending) → ReportsStop s error
+reports_as error reported ending s is (inl failed) = inl failed
+reports_as error reported ending s is (inr took) =
+    inr (proxy_lines reported, subst (λ (e : Ending). Took error (proxy_lines reported ++ ending_line e)) is took)
 
 -- it ends in no other way
 pub is_failed : (status : Status) → status ≢ Usage → status ≢ Differs → status ≢ Done → status ≡ Failed
@@ -115,10 +115,10 @@ module _ (options : Options) (files : List (Option (List ℕ))) (received : List
   -- the stop and the version
   pub has_met : (stop : Option Stop) (output_failed : Bool) (error : Written)
       → IsObservedRun (λ ps. Seen ps × (version ≡ Some (version_of ps))) options files received failures complete stop
-      → ((s : Stop) → stop ≡ Some s → TellsStop s error)
+      → ((s : Stop) → stop ≡ Some s → ReportsStop s error)
       → HasMet options files (record { stop = stop; version = version; output_failed = output_failed }) error
-  has_met None output_failed error observed told = tt
-  has_met (Some s) output_failed error observed told =
+  has_met None output_failed error observed reported = tt
+  has_met (Some s) output_failed error observed reported =
       let run = observed.run in
       let saw = observed.seen in
       let met : MetStop options files s version = record {
@@ -138,16 +138,16 @@ module _ (options : Options) (files : List (Option (List ℕ))) (received : List
           all_before_last = saw.all_before_last;
         });
       } in
-      (met, told s refl)
+      (met, reported s refl)
 
 -- the same of a stream, of which the version isn't known
 pub stream_has_met : (options : Options) (files : List (Option (List ℕ))) (has_writer : List Bool) (before after : SinkState)
     (failed : Bool) (failures : List ProxyFailure) (recorded : List (Option Recorded)) (complete : Bool) (stop : Option Stop)
     (error : Written) → IsStreamed options files has_writer before after failed failures recorded complete stop
-    → ((s : Stop) → stop ≡ Some s → TellsStop s error)
+    → ((s : Stop) → stop ≡ Some s → ReportsStop s error)
     → HasMet options files (record { stop = stop; version = None; output_failed = failed }) error
-stream_has_met options files has_writer before after failed failures recorded complete None error streamed told = tt
-stream_has_met options files has_writer before after failed failures recorded complete (Some s) error streamed told =
+stream_has_met options files has_writer before after failed failures recorded complete None error streamed reported = tt
+stream_has_met options files has_writer before after failed failures recorded complete (Some s) error streamed reported =
     let met : MetStop options files s None = record {
       log = streamed.log;
       proxies = streamed.proxies;
@@ -159,4 +159,4 @@ stream_has_met options files has_writer before after failed failures recorded co
       met = streamed.met;
       reached = tt;
     } in
-    (met, told s refl)
+    (met, reported s refl)

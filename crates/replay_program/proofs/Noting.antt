@@ -51,15 +51,15 @@ module _ {Y : Type 0} (change : ℕ → Y → Y) where
       ∙ ap (λ (l : List Y). change n y ∷ l) (set-changed (n + 1) i ys d (omega (arith, inside)))
 
   -- one more is changed
-  pub changed_also : (n i : ℕ) (whole xs : List Y) (x y : Y) → i < length whole → x ≡ get_or xs i x → y ≡ change (n + i) x
-      → xs ≡ changed_from n i whole → set xs i y ≡ changed_from n (i + 1) whole
-  changed_also n i whole xs x y inside at changes so_far =
-      let was : x ≡ get_or whole i x =
-      at ∙ ap (λ (l : List Y). get_or l i x) so_far ∙ get-changed n i whole x inside in
+  pub changed_also : (n i : ℕ) (entire xs : List Y) (x y : Y) → i < length entire → x ≡ get_or xs i x → y ≡ change (n + i) x
+      → xs ≡ changed_from n i entire → set xs i y ≡ changed_from n (i + 1) entire
+  changed_also n i entire xs x y inside at changes so_far =
+      let was : x ≡ get_or entire i x =
+      at ∙ ap (λ (l : List Y). get_or l i x) so_far ∙ get-changed n i entire x inside in
       ap (λ (v : Y). set xs i v) (changes ∙ ap (change (n + i)) was)
-      ∙ ap (λ (l : List Y). set l i (change (n + i) (get_or whole i x))) so_far
-      ∙ set-changed n i whole x inside
-      ∙ ap (λ (m : ℕ). changed_from n m whole) (sym (add-one i))
+      ∙ ap (λ (l : List Y). set l i (change (n + i) (get_or entire i x))) so_far
+      ∙ set-changed n i entire x inside
+      ∙ ap (λ (m : ℕ). changed_from n m entire) (sym (add-one i))
 
   -- all of them are changed, if i is no less than their number
   pub all_changed : (n i : ℕ) (ys : List Y) → length ys ≤ i
@@ -72,25 +72,25 @@ module _ {Y : Type 0} (change : ℕ → Y → Y) where
       ap (λ (l : List Y). change n y ∷ l) (all_changed (n + 1) i ys (omega (arith, is)))
 
 -- each is changed in the same way
-pub all_alike : {Y : Type 0} (change : Y → Y) (n i : ℕ) (ys : List Y) → length ys ≤ i
+pub all_same : {Y : Type 0} (change : Y → Y) (n i : ℕ) (ys : List Y) → length ys ≤ i
     → changed_from (λ _. change) n i ys ≡ map change ys
 unfolding changed_from
-all_alike change n zero [] is = refl
-all_alike change n zero (y ∷ ys) is = absurd (omega (arith, is))
-all_alike change n (suc i) [] is = refl
-all_alike {Y} change n (suc i) (y ∷ ys) is =
-    ap (λ (l : List Y). change y ∷ l) (all_alike change (n + 1) i ys (omega (arith, is)))
+all_same change n zero [] is = refl
+all_same change n zero (y ∷ ys) is = absurd (omega (arith, is))
+all_same change n (suc i) [] is = refl
+all_same {Y} change n (suc i) (y ∷ ys) is =
+    ap (λ (l : List Y). change y ∷ l) (all_same change (n + 1) i ys (omega (arith, is)))
 
 -- the same for items that are seen as others
-pub viewed_also : {X Y : Type 0} (view : X → Y) (change : ℕ → Y → Y) (i : ℕ) (whole : List Y) (xs : List X) (x y : X)
-    → i < length whole → i < length xs → x ≡ get_or xs i x → view y ≡ change i (view x)
-    → map view xs ≡ changed_from change 0 i whole → map view (set xs i y) ≡ changed_from change 0 (i + 1) whole
-viewed_also {X} {Y} view change i whole xs x y inside within at changes so_far =
+pub viewed_also : {X Y : Type 0} (view : X → Y) (change : ℕ → Y → Y) (i : ℕ) (entire : List Y) (xs : List X) (x y : X)
+    → i < length entire → i < length xs → x ≡ get_or xs i x → view y ≡ change i (view x)
+    → map view xs ≡ changed_from change 0 i entire → map view (set xs i y) ≡ changed_from change 0 (i + 1) entire
+viewed_also {X} {Y} view change i entire xs x y inside within at changes so_far =
     let here : view x ≡ get_or (map view xs) i (view x) =
     ap view at ∙ sym (get_or-map view xs i x (view x) within) in
     let first : 0 + i ≡ i = omega arith in
     map-set view xs i y
-    ∙ changed_also change 0 i whole (map view xs) (view x) (view y) inside here
+    ∙ changed_also change 0 i entire (map view xs) (view x) (view y) inside here
     (changes ∙ ap (λ (m : ℕ). change m (view x)) (sym first)) so_far
 
 no_explanation : (form : ExplanationForm) (text : List ℕ) → with_explanation form text [] ≡ text

@@ -5,8 +5,8 @@ use Rattle.std.specs.List.{All}
 use Rattle.std.specs.Io.KnownBytes.{Keeps}
 use Rattle.std.proofs.Common.{refl, sym, ◌∙◌, subst, inl, inr}
 use Rattle.replay_arguments.specs.declared.arguments.CommandLine.{CommandLine}
-use Rattle.replay_arguments.specs.declared.arguments.refusal.Refusal.{Refusal}
-use Rattle.replay_arguments.specs.declared.arguments.refusal.Refusal.TheVariants as refusal
+use Rattle.replay_arguments.specs.declared.arguments.refusal.ArgumentsRefusal.{ArgumentsRefusal}
+use Rattle.replay_arguments.specs.declared.arguments.refusal.ArgumentsRefusal.TheVariants as refusal
 use Rattle.replay_arguments.specs.declared.arguments.summary_file.SummaryFile.{SummaryFile}
 use Rattle.replay_arguments.specs.declared.arguments.task.Task.{Task}
 use Rattle.replay_arguments.specs.declared.arguments.task.Task.TheVariants as task
@@ -17,14 +17,14 @@ use Rattle.replay_arguments.specs.declared.opening.files.FileError.TheVariants a
 use Rattle.replay_arguments.specs.declared.opening.written.WrittenFile.TheVariants.{Output, Summary}
 use Rattle.replay_arguments.specs.Asks.{Asks}
 use Rattle.replay_arguments.specs.Opening.{IsFirstRefused, opening_line, written_line}
-use Rattle.replay_arguments.specs.Words.{AsksForText, IsMistaken}
+use Rattle.replay_arguments.specs.Arguments.{AsksForText, IsMistaken}
 use Rattle.replay_output.specs.declared.options.Options.{Options}
 use Rattle.replay_output.specs.declared.start.StartError.TheVariants as start
 use Rattle.replay_output.specs.declared.status.Status.{Status}
 use Rattle.replay_output.specs.declared.status.Status.TheVariants.{Done, Failed, Usage, Differs}
 use Rattle.replay_output.specs.Start.{start_line}
 use Rattle.replay_program.specs.declared.report.RunReport.{RunReport}
-use Rattle.replay_program.specs.Ended.{HasDifferences, IsDone, IsFailed}
+use Rattle.replay_program.specs.Ended.{HasDifferences, IsDone, IsFailed, IsQuiet}
 use Rattle.replay_program.specs.Program.{
   AreNotPrinted,
   ArePrinted,
@@ -38,7 +38,7 @@ use Rattle.replay_program.specs.Program.{
   NamedFiles,
   StreamsFiles,
   TaskFails,
-  Told,
+  ReportsLine,
   texts,
 }
 use Rattle.replay_program.specs.Replayed.{HasFailed, Took, Written, written}
@@ -65,29 +65,29 @@ is_done Differs failed usage differs = absurd (differs refl)
 
 module _ {W : Type 0} (state_of : W → SinkState) (files : NamedFiles) where
   -- reports with the same recorders and the same writer of the summary say the same of a task
-  pub done_alike : (bytes : List (Option (List ℕ))) (line : CommandLine) (t : Task) (report other : RunReport W) (out : Written)
+  pub done_same : (bytes : List (Option (List ℕ))) (line : CommandLine) (t : Task) (report other : RunReport W) (out : Written)
       → other.recorders.items ≡ report.recorders.items → other.summary ≡ report.summary
       → IsTaskDone state_of files bytes line t report out → IsTaskDone state_of files bytes line t other out
-  done_alike bytes line task.Print report other out recorders summary is =
+  done_same bytes line task.Print report other out recorders summary is =
       subst (λ (s : Option W). ArePrinted state_of files bytes line.options line.summary_to s out) (sym summary) is
-  done_alike bytes line task.Explain report other out recorders summary is = is
-  done_alike bytes line (task.Summarize form top) report other out recorders summary is = is
-  done_alike bytes line (task.Stream records) report other out recorders summary is =
+  done_same bytes line task.Explain report other out recorders summary is = is
+  done_same bytes line (task.Summarize form top) report other out recorders summary is = is
+  done_same bytes line (task.Stream records) report other out recorders summary is =
       subst (λ (r : List (Option (Recorder W))).
       StreamsFiles state_of files.begun line.options bytes (texts records.items) r out.before out.after) (sym recorders) is
-  done_alike bytes line (task.Check replies) report other out recorders summary is = is
+  done_same bytes line (task.Check replies) report other out recorders summary is = is
 
-  pub fails_alike : (bytes : List (Option (List ℕ))) (line : CommandLine) (t : Task) (report other : RunReport W) (out error : Written)
+  pub fails_same : (bytes : List (Option (List ℕ))) (line : CommandLine) (t : Task) (report other : RunReport W) (out error : Written)
       → other.recorders.items ≡ report.recorders.items → other.summary ≡ report.summary
       → TaskFails state_of files bytes line t report out error → TaskFails state_of files bytes line t other out error
-  fails_alike bytes line task.Print report other out error recorders summary is =
+  fails_same bytes line task.Print report other out error recorders summary is =
       subst (λ (s : Option W). AreNotPrinted state_of files bytes line.options line.summary_to s out error) (sym summary) is
-  fails_alike bytes line task.Explain report other out error recorders summary is = is
-  fails_alike bytes line (task.Summarize form top) report other out error recorders summary is = is
-  fails_alike bytes line (task.Stream records) report other out error recorders summary is =
+  fails_same bytes line task.Explain report other out error recorders summary is = is
+  fails_same bytes line (task.Summarize form top) report other out error recorders summary is = is
+  fails_same bytes line (task.Stream records) report other out error recorders summary is =
       subst (λ (r : List (Option (Recorder W))).
       FailsToStreamFiles state_of files line.options bytes (texts records.items) r out error) (sym recorders) is
-  fails_alike bytes line (task.Check replies) report other out error recorders summary is = is
+  fails_same bytes line (task.Check replies) report other out error recorders summary is = is
 
   -- what was written to a file, from its new writer and its last one
   pub is_given : (begun : Option (List ℕ)) (opened last : W) (writer : Option W) → (state_of opened).given ≡ begun
@@ -100,11 +100,11 @@ module _ {W : Type 0} (state_of : W → SinkState) (files : NamedFiles) where
   -- the file for the summary was not created
   pub no_summary_file : (bytes : List (Option (List ℕ))) (options : Options) (file : SummaryFile) (writer : Option W) (cause : FileError)
       (out error : Written) → (cause ≡ file_error.CannotOpen → files.cannot_create file.name.now) → out.after ≡ out.before
-      → Told error (written_line Summary cause) → AreNotPrinted state_of files bytes options (Some file) writer out error
-  no_summary_file bytes options file writer file_error.CannotOpen out error refused nothing told =
-      inl (record { refused = refused refl; nothing_printed = nothing; told = told })
-  no_summary_file bytes options file writer file_error.Memory out error refused nothing told =
-      inr (inl (record { cause = start.Memory; nothing_printed = nothing; told = told }))
+      → ReportsLine error (written_line Summary cause) → AreNotPrinted state_of files bytes options (Some file) writer out error
+  no_summary_file bytes options file writer file_error.CannotOpen out error refused nothing reported =
+      inl (record { refused = refused refl; nothing_printed = nothing; reported = reported })
+  no_summary_file bytes options file writer file_error.Memory out error refused nothing reported =
+      inr (inl (record { cause = start.Memory; nothing_printed = nothing; reported = reported }))
 
   module _ (line : CommandLine) (report : RunReport W) (standard error : Written) where
     -- the output went to standard output
@@ -136,44 +136,44 @@ module _ {W : Type 0} (state_of : W → SinkState) (files : NamedFiles) where
     pub not_opened : (cause : OpeningError)
         → ((proxy : ℕ) → cause ≡ opening.CannotOpen proxy
         → IsFirstRefused files.has_opened files.cannot_open (texts line.files.items) proxy)
-        → standard.after ≡ standard.before → Told error (opening_line cause)
+        → standard.after ≡ standard.before → ReportsLine error (opening_line cause)
         → LineFails state_of files line report standard error
-    not_opened (opening.CannotOpen proxy) first nothing told =
-        inl (record { proxy = proxy; first = first proxy refl; nothing_printed = nothing; told = told })
-    not_opened opening.Memory first nothing told =
-        inr (inr (inl (record { cause = start.Memory; nothing_printed = nothing; told = told })))
+    not_opened (opening.CannotOpen proxy) first nothing reported =
+        inl (record { proxy = proxy; first = first proxy refl; nothing_printed = nothing; reported = reported })
+    not_opened opening.Memory first nothing reported =
+        inr (inr (inl (record { cause = start.Memory; nothing_printed = nothing; reported = reported })))
 
     -- the file for the output was not created
     pub not_created : (name : Bor (List ℕ)) (cause : FileError) → line.output ≡ Some name
         → All files.has_opened (texts line.files.items)
         → (cause ≡ file_error.CannotOpen → files.cannot_create name.now) → standard.after ≡ standard.before
-        → Told error (written_line Output cause) → LineFails state_of files line report standard error
-    not_created name file_error.CannotOpen named opened refused nothing told =
+        → ReportsLine error (written_line Output cause) → LineFails state_of files line report standard error
+    not_created name file_error.CannotOpen named opened refused nothing reported =
         inr (inl (
           opened,
           subst (λ (o : Option (Bor (List ℕ))). IsSomeAnd o (λ name. DidNotCreateFile files.cannot_create name.now Output standard error))
-              (sym named) (record { refused = refused refl; nothing_printed = nothing; told = told }),
+              (sym named) (record { refused = refused refl; nothing_printed = nothing; reported = reported }),
         ))
-    not_created name file_error.Memory named opened refused nothing told =
-        inr (inr (inl (record { cause = start.Memory; nothing_printed = nothing; told = told })))
+    not_created name file_error.Memory named opened refused nothing reported =
+        inr (inr (inl (record { cause = start.Memory; nothing_printed = nothing; reported = reported })))
 
 module _ {W : Type 0} (state_of : W → SinkState) (regular : RegularFiles) (files : NamedFiles) (words : List (List ℕ))
     (report : RunReport W) (out error : Written) (status : Status) where
   pub record Ends : Type 0 where
     pub done : status ≡ Done → IsDone state_of files words report out
-    pub quiet : status ≡ Done → Keeps error.before error.after
+    pub quiet : status ≡ Done → IsQuiet files.contents words error
     pub failed : status ≡ Failed → IsFailed state_of regular files words report out error
     pub mistaken : status ≡ Usage → IsMistaken words
     pub nothing : status ≡ Usage → out.after ≡ out.before
-    pub usage : status ≡ Usage → (text : List ℕ) × Told error text
+    pub usage : status ≡ Usage → (text : List ℕ) × ReportsLine error text
     pub differs : status ≡ Differs → HasDifferences state_of files words report out
-    pub quiet_too : status ≡ Differs → Keeps error.before error.after
+    pub quiet_too : status ≡ Differs → IsQuiet files.contents words error
 
   ends_shown : (text : List ℕ) → AsksForText words → (status ≡ Done → Took out text)
       → (status ≢ Done → (status ≡ Failed) × HasFailed out) → error.after ≡ error.before → Ends
   ends_shown text asks shown not_shown quiet = record {
     done = λ is. inl (asks, (text, shown is));
-    quiet = λ is. keeps_same error.before error.after quiet;
+    quiet = λ is. inl (keeps_same error.before error.after quiet);
     failed = λ is.
         let other : status ≢ Done = λ done. let bad : Failed ≡ Done = sym is ∙ done in cc in
         inr (inl (asks, (not_shown other).1));
@@ -197,23 +197,23 @@ module _ {W : Type 0} (state_of : W → SinkState) (regular : RegularFiles) (fil
           cc
 
   ends_refused : (text : List ℕ) → IsMistaken words → status ≡ Usage → out.after ≡ out.before
-      → Told error text → Ends
-  ends_refused text mistaken usage nothing told = record {
+      → ReportsLine error text → Ends
+  ends_refused text mistaken usage nothing reported = record {
     done = λ is. let bad : Usage ≡ Done = sym usage ∙ is in cc;
     quiet = λ is. let bad : Usage ≡ Done = sym usage ∙ is in cc;
     failed = λ is. let bad : Usage ≡ Failed = sym usage ∙ is in cc;
     mistaken = λ is. mistaken;
     nothing = λ is. nothing;
-    usage = λ is. (text, told);
+    usage = λ is. (text, reported);
     differs = λ is. let bad : Usage ≡ Differs = sym usage ∙ is in cc;
     quiet_too = λ is. let bad : Usage ≡ Differs = sym usage ∙ is in cc;
   }
 
-  ends_without_memory : status ≡ Failed → out.after ≡ out.before → Told error (start_line start.Memory) → Ends
-  ends_without_memory failed nothing told = record {
+  ends_without_memory : status ≡ Failed → out.after ≡ out.before → ReportsLine error (start_line start.Memory) → Ends
+  ends_without_memory failed nothing reported = record {
     done = λ is. let bad : Failed ≡ Done = sym failed ∙ is in cc;
     quiet = λ is. let bad : Failed ≡ Done = sym failed ∙ is in cc;
-    failed = λ is. inl (nothing, told);
+    failed = λ is. inl (nothing, reported);
     mistaken = λ is. let bad : Failed ≡ Usage = sym failed ∙ is in cc;
     nothing = λ is. nothing;
     usage = λ is. let bad : Failed ≡ Usage = sym failed ∙ is in cc;
@@ -222,19 +222,19 @@ module _ {W : Type 0} (state_of : W → SinkState) (regular : RegularFiles) (fil
   }
 
   -- from what was refused, by the clauses of its end
-  pub ends_by : (r : Refusal)
+  pub ends_by : (r : ArgumentsRefusal)
       → ((text : _) → r ≡ refusal.Shown text → AsksForText words)
       → ((text : _) → r ≡ refusal.Refused text → IsMistaken words)
       → ((text : _) → r ≡ refusal.Shown text → status ≡ Done → Took out (string_bytes text))
       → ((text : _) → r ≡ refusal.Shown text → status ≢ Done → (status ≡ Failed) × HasFailed out)
       → ((text : _) → r ≡ refusal.Shown text → error.after ≡ error.before)
       → ((text : _) → r ≡ refusal.Refused text → (status ≡ Usage) × (out.after ≡ out.before))
-      → ((text : _) → r ≡ refusal.Refused text → Told error (string_bytes text))
+      → ((text : _) → r ≡ refusal.Refused text → ReportsLine error (string_bytes text))
       → (r ≡ refusal.Memory → (status ≡ Failed) × (out.after ≡ out.before))
-      → (r ≡ refusal.Memory → Told error (start_line start.Memory)) → Ends
-  ends_by (refusal.Shown text) asks mistaken shown not_shown quiet refused told memory memory_told =
+      → (r ≡ refusal.Memory → ReportsLine error (start_line start.Memory)) → Ends
+  ends_by (refusal.Shown text) asks mistaken shown not_shown quiet refused reported memory memory_reported =
       ends_shown (string_bytes text) (asks text refl) (shown text refl) (not_shown text refl) (quiet text refl)
-  ends_by (refusal.Refused text) asks mistaken shown not_shown quiet refused told memory memory_told =
-      ends_refused (string_bytes text) (mistaken text refl) (refused text refl).0 (refused text refl).1 (told text refl)
-  ends_by refusal.Memory asks mistaken shown not_shown quiet refused told memory memory_told =
-      ends_without_memory (memory refl).0 (memory refl).1 (memory_told refl)
+  ends_by (refusal.Refused text) asks mistaken shown not_shown quiet refused reported memory memory_reported =
+      ends_refused (string_bytes text) (mistaken text refl) (refused text refl).0 (refused text refl).1 (reported text refl)
+  ends_by refusal.Memory asks mistaken shown not_shown quiet refused reported memory memory_reported =
+      ends_without_memory (memory refl).0 (memory refl).1 (memory_reported refl)

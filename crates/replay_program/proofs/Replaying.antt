@@ -6,7 +6,7 @@ use Rattle.std.proofs.lemmas.Bool.{false≢true}
 use Rattle.keyspace.specs.declared.answer.Answer.{Answer}
 use Rattle.keyspace.specs.declared.batch.Batch.{Batch}
 use Rattle.keyspace.specs.Run.{Step, answers, part}
-use Rattle.serial.specs.Replies.{AnswersTellVerdicts}
+use Rattle.serial.specs.Replies.{AnswersReportVerdicts}
 use Rattle.resolver.specs.declared.stop.Stop.{Stop}
 use Rattle.replay_output.specs.declared.failures.Ending.{Ending}
 use Rattle.replay_output.specs.declared.failures.Ending.TheVariants.{Complete, Incomplete, Stopped}
@@ -18,7 +18,7 @@ use Rattle.replay_output.specs.declared.options.Options.{Options}
 use Rattle.replay_output.specs.Failures.{failure_lines, with_loss, IsClean, NothingFailed}
 use Rattle.replay_output.specs.Line.{answers_of, AreLines}
 use Rattle.replay_workers.specs.Run.{IsRun}
-use Rattle.replay_program.specs.Replayed.{IsReplayedBy, IsReplayedOver, Written, HasFailed, Took, TookBeginning, ending_of, RanAndFailed}
+use Rattle.replay_program.specs.Replayed.{IsReplayedBy, IsReplayedOver, Written, HasFailed, Took, TookPrefix, ending_of, RanAndFailed}
 use Rattle.replay_workers.specs.Reporting.{TakesFrames}
 use Rattle.replay_workers.proofs.callers.Lists.{all_at, found}
 use Rattle.replay_program.proofs.Reporting.{from_one, each_said, all_said}
@@ -67,52 +67,52 @@ module _ (received : List (List Line)) (failures : List ProxyFailure) (complete 
     (received_count : length received ≡ proxies) (failures_count : length failures ≡ proxies)
     (Ran : List (List Line) → List ProxyFailure → Bool → Option Stop → Type 0) (ran : Ran received failures complete stop)
     (text_of : List (List Answer) → List ℕ) (Takes : List (List Line) → ℕ → Type 0) (out error : Written)
-    (told : List ProxyFailure) where
+    (reported : List ProxyFailure) where
   abbrev text : List ℕ
   text = text_of (map answers_of received)
 
   why_failed : {U F : Type 0} (wrote : Result U F) → (IsErr wrote → HasFailed error)
-      → (IsOk wrote → ¬ (NothingFailed told (ending_of complete stop)))
-      → HasFailed out ⊎ (HasFailed error ⊎ ¬ (NothingFailed told (ending_of complete stop)))
+      → (IsOk wrote → ¬ (NothingFailed reported (ending_of complete stop)))
+      → HasFailed out ⊎ (HasFailed error ⊎ ¬ (NothingFailed reported (ending_of complete stop)))
   why_failed (Ok u) failed not_all = inr (inr (not_all refl))
   why_failed (Err e) failed not_all = inr (inl (failed refl))
 
-  told_of : {U F : Type 0} (wrote : Result U F) → OnOk wrote (Took error (failure_lines told (ending_of complete stop)))
+  reported_of : {U F : Type 0} (wrote : Result U F) → OnOk wrote (Took error (failure_lines reported (ending_of complete stop)))
       → (IsErr wrote → HasFailed error)
-      → HasFailed error ⊎ Took error (failure_lines told (ending_of complete stop))
-  told_of (Ok u) took failed = inr took
-  told_of (Err e) took failed = inl (failed refl)
+      → HasFailed error ⊎ Took error (failure_lines reported (ending_of complete stop))
+  reported_of (Ok u) took failed = inr took
+  reported_of (Err e) took failed = inl (failed refl)
 
   pub ran_as_and_failed : {T U F : Type 0} (printed : Result T PrintError) (wrote : Result U F) → OnOk printed (Took out text)
       → ((proxy : ℕ) → printed ≡ Err (print.Memory proxy) → proxy < length received)
       → ((proxy : ℕ) → printed ≡ Err (print.Memory proxy) → Takes received proxy)
       → ((proxy : ℕ) → printed ≡ Err (print.Memory proxy) → out.after ≡ out.before)
-      → (printed ≡ Err print.Write → TookBeginning out text) → (printed ≡ Err print.Write → HasFailed out)
-      → OnOk wrote (Took error (failure_lines told (ending_of complete stop))) → (IsErr wrote → HasFailed error)
-      → ((proxy : ℕ) → printed ≡ Err (print.Memory proxy) → told ≡ with_loss proxy failures)
-      → (((proxy : ℕ) → printed ≢ Err (print.Memory proxy)) → told ≡ failures)
+      → (printed ≡ Err print.Write → TookPrefix out text) → (printed ≡ Err print.Write → HasFailed out)
+      → OnOk wrote (Took error (failure_lines reported (ending_of complete stop))) → (IsErr wrote → HasFailed error)
+      → ((proxy : ℕ) → printed ≡ Err (print.Memory proxy) → reported ≡ with_loss proxy failures)
+      → (((proxy : ℕ) → printed ≢ Err (print.Memory proxy)) → reported ≡ failures)
       → ¬ (IsOk printed × IsOk wrote × NothingFailed failures (ending_of complete stop))
       → RanAndFailed Ran text_of Takes proxies out error
-  ran_as_and_failed (Ok u) wrote took inside takes nothing beginning failed told_lines told_failed loss no_loss not_done =
-      let same : told ≡ failures = no_loss (λ proxy is. cc) in
+  ran_as_and_failed (Ok u) wrote took inside takes nothing prefix failed reported_lines reported_failed loss no_loss not_done =
+      let same : reported ≡ failures = no_loss (λ proxy is. cc) in
       record {
         received = received;
         failures = failures;
         complete = complete;
         stop = stop;
         run = ran;
-        told = told;
-        failures_told = inl same;
+        reported = reported;
+        failures_reported = inl same;
         printed = inr (inl (same, took));
-        lines_of_failures = told_of wrote told_lines told_failed;
-        why = why_failed wrote told_failed
+        lines_of_failures = reported_of wrote reported_lines reported_failed;
+        why = why_failed wrote reported_failed
             (λ ok none. not_done (refl, ok, subst (λ (f : List ProxyFailure). NothingFailed f (ending_of complete stop)) same none));
       }
-  ran_as_and_failed (Err (print.Memory proxy)) wrote took inside takes nothing beginning failed told_lines told_failed loss no_loss not_done =
+  ran_as_and_failed (Err (print.Memory proxy)) wrote took inside takes nothing prefix failed reported_lines reported_failed loss no_loss not_done =
       let is = loss proxy refl in
       let known : proxy < length failures =
       omega (arith, inside proxy refl, received_count, failures_count) in
-      let with : (proxy : ℕ) × (proxy < proxies) × Takes received proxy × (told ≡ with_loss proxy failures) =
+      let with : (proxy : ℕ) × (proxy < proxies) × Takes received proxy × (reported ≡ with_loss proxy failures) =
       (proxy, omega (arith, known, failures_count), takes proxy refl, is) in
       record {
         received = received;
@@ -120,25 +120,25 @@ module _ (received : List (List Line)) (failures : List ProxyFailure) (complete 
         complete = complete;
         stop = stop;
         run = ran;
-        told = told;
-        failures_told = inr with;
+        reported = reported;
+        failures_reported = inr with;
         printed = inr (inr (with, nothing proxy refl));
-        lines_of_failures = told_of wrote told_lines told_failed;
+        lines_of_failures = reported_of wrote reported_lines reported_failed;
         why = inr (inr (λ none.
             loss_is_no_clean proxy failures known (subst (λ (f : List ProxyFailure). All IsClean f) is none.proxies)));
       }
-  ran_as_and_failed (Err print.Write) wrote took inside takes nothing beginning failed told_lines told_failed loss no_loss not_done =
-      let same : told ≡ failures = no_loss (λ proxy is. cc) in
+  ran_as_and_failed (Err print.Write) wrote took inside takes nothing prefix failed reported_lines reported_failed loss no_loss not_done =
+      let same : reported ≡ failures = no_loss (λ proxy is. cc) in
       record {
         received = received;
         failures = failures;
         complete = complete;
         stop = stop;
         run = ran;
-        told = told;
-        failures_told = inl same;
-        printed = inl (failed refl, beginning refl);
-        lines_of_failures = told_of wrote told_lines told_failed;
+        reported = reported;
+        failures_reported = inl same;
+        printed = inl (failed refl, prefix refl);
+        lines_of_failures = reported_of wrote reported_lines reported_failed;
         why = inl (failed refl);
       }
 
@@ -148,13 +148,13 @@ module _ (options : Options) (files : List (Option (List ℕ))) (received : List
   are_lines proxy of_proxy at =
       let bytes = found received files proxy of_proxy (sym run.received_count) at in
       let failure = found received failures proxy of_proxy (run.failures_count ∙ sym run.received_count) at in
-      (run.each proxy bytes.0 of_proxy failure.0 bytes.1 at failure.1).lines_told
+      (run.each proxy bytes.0 of_proxy failure.0 bytes.1 at failure.1).lines_reported
 
-  pub is_replayed_over : (Printed : List Step → List (List Answer) → Type 0) → AnswersTellVerdicts
+  pub is_replayed_over : (Printed : List Step → List (List Answer) → Type 0) → AnswersReportVerdicts
       → NothingFailed failures (ending_of complete stop) → Printed run.log (map answers_of received)
       → IsReplayedOver Printed options files
-  is_replayed_over Printed tell nothing printed =
-      let whole = complete_from complete stop nothing.complete in
+  is_replayed_over Printed known_verdicts nothing printed =
+      let entire = complete_from complete stop nothing.complete in
       let proxies = length files in
       record {
         log = run.log;
@@ -164,7 +164,7 @@ module _ (options : Options) (files : List (Option (List ℕ))) (received : List
             let failure = found files failures proxy bytes run.failures_count at in
             let clean = all_at IsClean failures proxy failure.0 nothing.proxies failure.1 in
             let served = run.each proxy bytes ls.0 failure.0 at ls.1 failure.1 in
-            let all = served.all_batches whole in
+            let all = served.all_batches entire in
             record {
               left = served.left;
               frames = subst (λ (l : List Batch). TakesFrames options.reports bytes served.left l) all served.frames_read;
@@ -172,13 +172,13 @@ module _ (options : Options) (files : List (Option (List ℕ))) (received : List
             };
         chain = run.chain;
         serializable = run.serializable;
-        from_files = from_one options.window run.log proxies run.proxies tell options.style.form;
+        from_files = from_one options.window run.log proxies run.proxies known_verdicts options.style.form;
         replies = λ proxy.
             let own = part run.log proxy in
-            tell.replies options.window run.log proxy own [] (sym (append-nil own));
-        each_word = each_said options.window run.log proxies run.proxies tell options.style.form;
-        all_words = all_said options.window run.log proxies run.proxies tell options.style.form;
-        finish = run.finish (run.no_stop whole);
+            known_verdicts.replies options.window run.log proxy own [] (sym (append-nil own));
+        each_word = each_said options.window run.log proxies run.proxies known_verdicts options.style.form;
+        all_words = all_said options.window run.log proxies run.proxies known_verdicts options.style.form;
+        finish = run.finish (run.no_stop entire);
         printed =
             subst (Printed run.log)
             (same_answers (answers options.window run.log) received 0 (length files) run.received_count
@@ -186,32 +186,32 @@ module _ (options : Options) (files : List (Option (List ℕ))) (received : List
             let bytes = found received files place ls (sym run.received_count) at in
             let failure = found received failures place ls (run.failures_count ∙ sym run.received_count) at in
             let clean = all_at IsClean failures place failure.0 nothing.proxies failure.1 in
-            (run.each place bytes.0 ls failure.0 bytes.1 at failure.1).all_received (run.no_stop whole) clean.1
+            (run.each place bytes.0 ls failure.0 bytes.1 at failure.1).all_received (run.no_stop entire) clean.1
             ∙ ap (answers options.window run.log) (omega arith)))
             printed;
       }
 
-  pub is_replayed : (Printed : List (List Answer) → Type 0) → AnswersTellVerdicts → NothingFailed failures (ending_of complete stop)
+  pub is_replayed : (Printed : List (List Answer) → Type 0) → AnswersReportVerdicts → NothingFailed failures (ending_of complete stop)
       → Printed (map answers_of received) → IsReplayedBy Printed options files
-  is_replayed Printed tell nothing printed = is_replayed_over (λ log answers. Printed answers) tell nothing printed
+  is_replayed Printed known_verdicts nothing printed = is_replayed_over (λ log answers. Printed answers) known_verdicts nothing printed
 
   -- what failed, where what became of the files is all that is said of the run
   pub ran_and_failed : (text_of : List (List Answer) → List ℕ) (Takes : List (List Line) → ℕ → Type 0) (out error : Written)
-      (told : List ProxyFailure) {T U F : Type 0} (printed : Result T PrintError) (wrote : Result U F)
+      (reported : List ProxyFailure) {T U F : Type 0} (printed : Result T PrintError) (wrote : Result U F)
       → OnOk printed (Took out (text_of (map answers_of received)))
       → ((proxy : ℕ) → printed ≡ Err (print.Memory proxy) → proxy < length received)
       → ((proxy : ℕ) → printed ≡ Err (print.Memory proxy) → Takes received proxy)
       → ((proxy : ℕ) → printed ≡ Err (print.Memory proxy) → out.after ≡ out.before)
-      → (printed ≡ Err print.Write → TookBeginning out (text_of (map answers_of received)))
+      → (printed ≡ Err print.Write → TookPrefix out (text_of (map answers_of received)))
       → (printed ≡ Err print.Write → HasFailed out)
-      → OnOk wrote (Took error (failure_lines told (ending_of complete stop))) → (IsErr wrote → HasFailed error)
-      → ((proxy : ℕ) → printed ≡ Err (print.Memory proxy) → told ≡ with_loss proxy failures)
-      → (((proxy : ℕ) → printed ≢ Err (print.Memory proxy)) → told ≡ failures)
+      → OnOk wrote (Took error (failure_lines reported (ending_of complete stop))) → (IsErr wrote → HasFailed error)
+      → ((proxy : ℕ) → printed ≡ Err (print.Memory proxy) → reported ≡ with_loss proxy failures)
+      → (((proxy : ℕ) → printed ≢ Err (print.Memory proxy)) → reported ≡ failures)
       → ¬ (IsOk printed × IsOk wrote × NothingFailed failures (ending_of complete stop))
       → RanAndFailed (IsRun options files) text_of Takes (length files) out error
-  ran_and_failed text_of Takes out error told printed wrote =
+  ran_and_failed text_of Takes out error reported printed wrote =
       ran_as_and_failed received failures complete stop (length files) run.received_count run.failures_count (IsRun options files) run text_of
-      Takes out error told printed wrote
+      Takes out error reported printed wrote
 
 pub ok_at : {T E : Type 0} (r : Result T E) (t : T) → r ≡ Ok t → IsOk r
 ok_at {T} {E} r t is = subst (λ (s : Result T E). IsOk s) (sym is) refl

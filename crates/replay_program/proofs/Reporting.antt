@@ -11,7 +11,7 @@ use Rattle.keyspace.specs.declared.reply.Verdict.{Verdict}
 use Rattle.keyspace.specs.declared.reply.Verdict.TheVariants.{Conflict, TooOld, Committed}
 use Rattle.keyspace.specs.Processed.{Processed}
 use Rattle.keyspace.specs.Run.{Step, run, answers, part}
-use Rattle.serial.specs.Replies.{IsSent, IsCommittedAt, ReportsCommitted, AnswersTellVerdicts}
+use Rattle.serial.specs.Replies.{IsSent, IsCommittedAt, ReportsCommitted, AnswersReportVerdicts}
 use Rattle.resolver.specs.Resolver.{TakesOnlyFrom}
 use Rattle.resolver.proofs.callers.Logs.{none_of_others}
 use Rattle.replay_output.specs.declared.options.form.Form.{Form}
@@ -102,14 +102,14 @@ module _ (form : Form) (together : List (List Answer)) (proxy : ℕ) (version : 
             (says_verdict form entry.0 entry.2);
       }
 
-module _ (window : ℤ) (log : List Step) (proxies : ℕ) (only : TakesOnlyFrom proxies log) (tell : AnswersTellVerdicts)
+module _ (window : ℤ) (log : List Step) (proxies : ℕ) (only : TakesOnlyFrom proxies log) (known_verdicts : AnswersReportVerdicts)
     (form : Form) where
   -- each processed batch is of one of the proxies, and was sent by it
   pub from_one : (index : ℕ) (entry : Processed) → slice_get (run window log).processed index ≡ Some entry
       → (entry.proxy < proxies) × IsSent window log (part log entry.proxy) index entry
   from_one index entry at =
       let own = part log entry.proxy in
-      let sent = tell.sent window log index entry at own [] (sym (append-nil own)) in
+      let sent = known_verdicts.sent window log index entry at own [] (sym (append-nil own)) in
       elim (cases_lt entry.proxy proxies) [
         | inl known ↦ (known, sent)
         | inr past ↦
@@ -125,7 +125,7 @@ module _ (window : ℤ) (log : List Step) (proxies : ℕ) (only : TakesOnlyFrom 
       let own = line_reports form (answers_each window log proxies) proxy version index line in
       let is : own.0 ≡ answers window log proxy =
       value_at (answers window log) 0 proxies proxy own.0 own.1 ∙ ap (answers window log) (omega arith) in
-      tell.reported window log proxy version index (subst (λ (l : List Answer). ReportsCommitted l version index) is own.2)
+      known_verdicts.reported window log proxy version index (subst (λ (l : List Answer). ReportsCommitted l version index) is own.2)
 
   -- and of all of them
   pub all_said : (proxy : ℕ) (version : ℤ) (index : ℕ) → IsCommittedAt (run window log).processed proxy version index
@@ -134,4 +134,4 @@ module _ (window : ℤ) (log : List Step) (proxies : ℕ) (only : TakesOnlyFrom 
       let known = subst (λ p. p < proxies) is.of_proxy (from_one is.index is.entry is.committed.batch).0 in
       reported_by_line form (answers_each window log proxies) proxy version index (answers window log proxy)
       (value_inside (answers window log) 0 proxies proxy known ∙ ap (λ m. Some (answers window log m)) (omega arith))
-      (tell.all_reported window log proxy version index is)
+      (known_verdicts.all_reported window log proxy version index is)

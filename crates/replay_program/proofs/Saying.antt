@@ -11,17 +11,18 @@ use Rattle.replay_diagnosis.specs.declared.finding.Finding.TheVariants as found
 use Rattle.replay_diagnosis.specs.declared.finding.RunFinding.{RunFinding}
 use Rattle.replay_diagnosis.specs.declared.finding.RunFinding.TheVariants as run
 use Rattle.replay_diagnosis.specs.Content.{FoundIn}
-use Rattle.replay_diagnosis.specs.Following.{HasLeast}
-use Rattle.replay_program.specs.Replayed.{HasFailed, Took, TookBeginning, Written}
+use Rattle.replay_diagnosis.specs.Following.{Follows, HasLeast, NoneBegins, NoneFollowsBelow}
+use Rattle.replay_diagnosis.specs.Remedy.{run_remedy_line}
+use Rattle.replay_program.specs.Replayed.{HasFailed, Took, TookPrefix, Written}
 use Rattle.replay_program.specs.Summarized.{TookUnlessFailed}
 use Rattle.replay_program.specs.declared.met.Met.{Met}
-use Rattle.replay_program.specs.Verbose.{AreBatches, AreExamined, HaveBatches, IsExplained, IsFoundIn, IsFoundOf, IsGateFinding, IsOfFile, IsOfRun}
+use Rattle.replay_program.specs.Verbose.{AreBatches, AreExamined, HaveBatches, IsExplained, IsFoundIn, IsFoundOf, IsGateFinding, IsOfFile, IsOfRun, SaysHeld}
 
 -- one line was written, or a prefix of it, or nothing
 pub said_by : {S U : Type 0} (given : S → Option (List ℕ)) (old new : S) (error : Written) (text : List ℕ) (wrote : Result U WireError)
     → error.before ≡ given old → error.after ≡ given new → OnOk wrote (Took error text)
     → IfErr wrote (λ e. (e ≡ Memory) ⊎ (e ≡ Write)) → IfErr wrote (λ e. e ≡ Memory → new ≡ old)
-    → IfErr wrote (λ e. e ≡ Write → HasFailed error × TookBeginning error text)
+    → IfErr wrote (λ e. e ≡ Write → HasFailed error × TookPrefix error text)
     → (given new ≡ given old) ⊎ TookUnlessFailed error text
 said_by given old new error text (Ok u) before after took either memory write = inr (inl took)
 said_by given old new error text (Err e) before after took (inl is) memory write = inl (ap given (memory is))
@@ -34,6 +35,21 @@ pub explained_by : (contents : List ℕ → Option (List ℕ)) (cannot_open : Li
 explained_by contents cannot_open names limit met error text of (inl nothing) = inl nothing
 explained_by contents cannot_open names limit met error text of (inr took) = inr (text, of, took)
 
+-- so it was said that all batches are held
+pub held_said : (contents : List ℕ → Option (List ℕ)) (names : List (List ℕ)) (error : Written) (least : Option ℤ) (version said : ℤ)
+    → said ≡ version → AreExamined contents names least
+    → ((batches : List Batch) → HasLeast batches least
+    → NoneBegins batches × Follows version batches × NoneFollowsBelow version batches)
+    → (error.after ≡ error.before) ⊎ TookUnlessFailed error (run_remedy_line (run.AllHeld said)) → SaysHeld contents names error
+held_said contents names error least version said same examined held (inl nothing) = inl nothing
+held_said contents names error least version said same examined held (inr took) =
+    let of_them = held examined.0 examined.2 in
+    inr (
+      version,
+      (examined.0, examined.1, of_them.0, of_them.1, of_them.2),
+      subst (λ (v : ℤ). TookUnlessFailed error (run_remedy_line (run.AllHeld v))) same took,
+    )
+
 -- what a full gate is found to be
 pub gate_found : (limit : ℕ) (met : Met) (batches : List Batch) (finding : RunFinding) → met.stop ≡ Some stop.GateFull
     → IsGateFinding batches finding → IsFoundOf limit met batches finding
@@ -42,17 +58,15 @@ gate_found limit met batches run.GateFull is found = (is, found)
 gate_found limit met batches (run.ArenaFull version boundaries) is found = absurd found
 gate_found limit met batches run.Output is found = absurd found
 
--- what holds of a finding, if there is one
-pub weaker_found : {P Q : RunFinding → Type 0} (found : Option RunFinding) → ((finding : RunFinding) → P finding → Q finding)
-    → IfSome found P → IfSome found Q
-weaker_found None weaker holds = tt
-weaker_found (Some finding) weaker holds = weaker finding holds
+-- what holds of something, if there is one
+pub weaker : {X : Type 0} {P Q : X → Type 0} (found : Option X) → ((x : X) → P x → Q x) → IfSome found P → IfSome found Q
+weaker None more holds = tt
+weaker (Some x) more holds = more x holds
 
 -- what was found in a file that was opened
 pub found_as : (contents : List ℕ → Option (List ℕ)) (cannot_open : List ℕ → Type 0) (name : List ℕ) (finding : Finding)
     → FoundIn (contents name) finding → IsFoundIn contents cannot_open name finding
 found_as contents cannot_open name found.CannotOpen is = absurd is.next
-found_as contents cannot_open name found.Directory is = absurd is.next
 found_as contents cannot_open name found.StandardInput is = absurd is.next
 found_as contents cannot_open name found.Memory is = tt
 found_as contents cannot_open name (found.Unreadable at) is = is
@@ -80,11 +94,11 @@ take_more f xs n d inside =
     let next : n + 1 ≡ suc n = omega arith in
     ap (λ (k : ℕ). take k (map f xs)) next ∙ take_suc f xs n d inside
 
-pub take_whole : {X Y : Type 0} (f : X → Y) (xs : List X) (n : ℕ) → length xs ≤ n → take n (map f xs) ≡ map f xs
-take_whole f [] zero all = refl
-take_whole f [] (suc n) all = refl
-take_whole f (x ∷ xs) zero all = absurd (omega (arith, all))
-take_whole f (x ∷ xs) (suc n) all = ap (λ l. f x ∷ l) (take_whole f xs n (omega (arith, all)))
+pub take_entire : {X Y : Type 0} (f : X → Y) (xs : List X) (n : ℕ) → length xs ≤ n → take n (map f xs) ≡ map f xs
+take_entire f [] zero all = refl
+take_entire f [] (suc n) all = refl
+take_entire f (x ∷ xs) zero all = absurd (omega (arith, all))
+take_entire f (x ∷ xs) (suc n) all = ap (λ l. f x ∷ l) (take_entire f xs n (omega (arith, all)))
 
 module _ (contents : List ℕ → Option (List ℕ)) where
   -- one file more

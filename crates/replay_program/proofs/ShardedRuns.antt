@@ -25,7 +25,7 @@ use Rattle.replay_sharded.specs.declared.combined.Combined.{Combined}
 use Rattle.replay_sharded.specs.Combined.{HasAllAnswers, stop_of}
 use Rattle.replay_sharded.specs.Sharded.{AreRunsTogether, CommitsSerializably, IsResolvedByShards}
 use Rattle.replay_program.specs.declared.met.Met.{Met}
-use Rattle.replay_program.specs.Met.{TellsStop}
+use Rattle.replay_program.specs.Met.{ReportsStop}
 use Rattle.replay_program.specs.Replayed.{Written, ending_of}
 use Rattle.replay_program.specs.Sharded.{HasMetByShards, IsReplayedByShardsBy, MetStopByShards, NamesShard, WordsAreSerializable, together_of}
 use Rattle.replay_program.proofs.Replaying.{complete_from}
@@ -90,27 +90,27 @@ module _ (points : List (List ℕ)) (options : Options) (files : List (Option (L
   where
     -- the first stop
     pub has_met_by_shards : (met : Met) (so_far error : Written) → met.stop ≡ stop_met combined → met.version ≡ None
-        → ((s : Stop) → stop_met combined ≡ Some s → TellsStop s so_far) → NamesShard combined.stop so_far error
+        → ((s : Stop) → stop_met combined ≡ Some s → ReportsStop s so_far) → NamesShard combined.stop so_far error
         → HasMetByShards points options files met error
-    has_met_by_shards met so_far error stop_is no_version tells named =
+    has_met_by_shards met so_far error stop_is no_version reports named =
         subst (λ (s : Option Stop). IfSome s (λ stop. MetStopByShards points options files stop met.version error)) (sym stop_is)
-        (go combined.stop runs.together.stop tells named)
+        (go combined.stop runs.together.stop reports named)
       where
         go : (stop : Option ShardStop)
             → MatchOption stop (All (λ (own : Option Stop). own ≡ None) (map stop_of runs.runs)) (IsFirstStop (map stop_of runs.runs))
-            → ((s : Stop) → option_map (λ (met : ShardStop). met.stop) stop ≡ Some s → TellsStop s so_far)
+            → ((s : Stop) → option_map (λ (met : ShardStop). met.stop) stop ≡ Some s → ReportsStop s so_far)
             → NamesShard stop so_far error
             → IfSome (option_map (λ (met : ShardStop). met.stop) stop)
             (λ s. MetStopByShards points options files s met.version error)
-        go None is tells named = tt
-        go (Some first) is tells named = record {
+        go None is reports named = tt
+        go (Some first) is reports named = record {
           runs = runs.runs;
           each = runs.each;
           first = first;
           is_first = is;
           stop_is = refl;
           no_version = no_version;
-          told = record { so_far = so_far; stop = tells first.stop refl; shard = named };
+          reported = record { so_far = so_far; stop = reports first.stop refl; shard = named };
         }
 
     module _ (received : List (List Line)) (failures : List ProxyFailure) (lines_are : received ≡ map vec_items combined.lines.items)

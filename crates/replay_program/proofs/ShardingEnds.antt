@@ -20,7 +20,7 @@ use Rattle.replay_program.specs.declared.met.Met.{Met}
 use Rattle.replay_program.specs.declared.program.sharding.opened.ShardingError.TheVariants as why
 use Rattle.replay_program.specs.declared.report.RunReport.{RunReport}
 use Rattle.replay_program.specs.Ended.{EndsAs}
-use Rattle.replay_program.specs.Program.{DidNotCreateFile, NamedFiles, Told, texts}
+use Rattle.replay_program.specs.Program.{DidNotCreateFile, NamedFiles, ReportsLine, texts}
 use Rattle.replay_program.specs.Replayed.{Written}
 use Rattle.replay_program.specs.Sharded.{HasMetByShards, MetStopByShards}
 use Rattle.replay_program.specs.ShardedProgram.{
@@ -59,53 +59,53 @@ module _ (points : List (List ℕ)) (options : Options) (files : List (Option (L
         is_first = has.is_first;
         stop_is = has.stop_is;
         no_version = has.no_version;
-        told = has.told;
+        reported = has.reported;
       }
 
 module _ {W : Type 0} (state_of : W → SinkState) (files : NamedFiles) where
   module _ (points : List (List ℕ)) (bytes : List (Option (List ℕ))) where
     -- reports with the same writer of the summary say the same of a task
-    pub shards_done_alike : (line : CommandLine) (t : Task) (report other : RunReport W) (out : Written) → other.summary ≡ report.summary
+    pub shards_done_same : (line : CommandLine) (t : Task) (report other : RunReport W) (out : Written) → other.summary ≡ report.summary
         → IsTaskDoneByShards state_of files points bytes line t report out → IsTaskDoneByShards state_of files points bytes line t other out
-    shards_done_alike line task.Print report other out summary is =
+    shards_done_same line task.Print report other out summary is =
         subst (λ (s : Option W). ArePrintedByShards state_of files points bytes line.options line.summary_to s out) (sym summary) is
-    shards_done_alike line task.Explain report other out summary is = is
-    shards_done_alike line (task.Summarize form None) report other out summary is = is
-    shards_done_alike line (task.Summarize form (Some top)) report other out summary is = is
-    shards_done_alike line (task.Stream records) report other out summary is = is
-    shards_done_alike line (task.Check replies) report other out summary is = is
+    shards_done_same line task.Explain report other out summary is = is
+    shards_done_same line (task.Summarize form None) report other out summary is = is
+    shards_done_same line (task.Summarize form (Some top)) report other out summary is = is
+    shards_done_same line (task.Stream records) report other out summary is = is
+    shards_done_same line (task.Check replies) report other out summary is = is
 
-    pub shards_fail_alike : (line : CommandLine) (t : Task) (report other : RunReport W) (out error : Written)
+    pub shards_fail_same : (line : CommandLine) (t : Task) (report other : RunReport W) (out error : Written)
         → other.summary ≡ report.summary → TaskFailsByShards state_of files points bytes line t report out error
         → TaskFailsByShards state_of files points bytes line t other out error
-    shards_fail_alike line task.Print report other out error summary is =
+    shards_fail_same line task.Print report other out error summary is =
         subst (λ (s : Option W). AreNotPrintedByShards state_of files points bytes line.options line.summary_to s out error) (sym summary) is
-    shards_fail_alike line task.Explain report other out error summary is = is
-    shards_fail_alike line (task.Summarize form None) report other out error summary is = is
-    shards_fail_alike line (task.Summarize form (Some top)) report other out error summary is = is
-    shards_fail_alike line (task.Stream records) report other out error summary is = is
-    shards_fail_alike line (task.Check replies) report other out error summary is = is
+    shards_fail_same line task.Explain report other out error summary is = is
+    shards_fail_same line (task.Summarize form None) report other out error summary is = is
+    shards_fail_same line (task.Summarize form (Some top)) report other out error summary is = is
+    shards_fail_same line (task.Stream records) report other out error summary is = is
+    shards_fail_same line (task.Check replies) report other out error summary is = is
 
     -- the file for the summary was not created
     pub shards_without_summary : (options : Options) (file : SummaryFile) (writer : Option W) (cause : FileError) (out error : Written)
         → (cause ≡ file_error.CannotOpen → files.cannot_create file.name.now) → out.after ≡ out.before
-        → Told error (written_line Summary cause)
+        → ReportsLine error (written_line Summary cause)
         → AreNotPrintedByShards state_of files points bytes options (Some file) writer out error
-    shards_without_summary options file writer file_error.CannotOpen out error refused nothing told =
-        inl (record { refused = refused refl; nothing_printed = nothing; told = told })
-    shards_without_summary options file writer file_error.Memory out error refused nothing told =
-        inr (inl (record { cause = start.Memory; nothing_printed = nothing; told = told }))
+    shards_without_summary options file writer file_error.CannotOpen out error refused nothing reported =
+        inl (record { refused = refused refl; nothing_printed = nothing; reported = reported })
+    shards_without_summary options file writer file_error.Memory out error refused nothing reported =
+        inr (inl (record { cause = start.Memory; nothing_printed = nothing; reported = reported }))
 
   -- the file for the output was not created
   pub shards_without_output : (regular : RegularFiles) (line : CommandLine) (report : RunReport W) (standard error : Written)
       (name : Bor (List ℕ)) (cause : FileError) → line.output ≡ Some name → All files.has_opened (texts line.files.items)
       → (cause ≡ file_error.CannotOpen → files.cannot_create name.now) → standard.after ≡ standard.before
-      → Told error (written_line Output cause) → LineFailsByShards state_of regular files line report standard error
-  shards_without_output regular line report standard error name file_error.CannotOpen named opened refused nothing told =
+      → ReportsLine error (written_line Output cause) → LineFailsByShards state_of regular files line report standard error
+  shards_without_output regular line report standard error name file_error.CannotOpen named opened refused nothing reported =
       inr (inl (
         opened,
         subst (λ (o : Option (Bor (List ℕ))). IsSomeAnd o (λ name. DidNotCreateFile files.cannot_create name.now Output standard error))
-            (sym named) (record { refused = refused refl; nothing_printed = nothing; told = told }),
+            (sym named) (record { refused = refused refl; nothing_printed = nothing; reported = reported }),
       ))
-  shards_without_output regular line report standard error name file_error.Memory named opened refused nothing told =
-      inl (record { cause = why.Memory; because = tt; nothing_printed = nothing; told = told })
+  shards_without_output regular line report standard error name file_error.Memory named opened refused nothing reported =
+      inl (record { cause = why.Memory; because = tt; nothing_printed = nothing; reported = reported })

@@ -9,7 +9,7 @@ use Rattle.std.proofs.lemmas.Option.{none-some, same_Some}
 use Rattle.keyspace.specs.declared.answer.Answer.{Answer}
 use Rattle.keyspace.specs.declared.batch.Batch.{Batch}
 use Rattle.keyspace.specs.Run.{answers, part}
-use Rattle.serial.specs.Replies.{AnswersTellVerdicts}
+use Rattle.serial.specs.Replies.{AnswersReportVerdicts}
 use Rattle.resolver.specs.declared.stop.Stop.{Stop}
 use Rattle.wire.proofs.callers.Given.{appends_nothing}
 use Rattle.replay_output.specs.declared.failures.Ending.{Ending}
@@ -43,14 +43,14 @@ no_failure (Some Memory) memory write = absurd (memory refl)
 no_failure (Some Write) memory write = absurd (write refl)
 
 -- the same of equal lists
-pub told_as : {T E : Type 0} (told : Result T E) (error : Written) (us unwritten : List Bool) (fs failures : List ProxyFailure)
+pub reported_as : {T E : Type 0} (reported : Result T E) (error : Written) (us unwritten : List Bool) (fs failures : List ProxyFailure)
     (e ending : Ending) → us ≡ unwritten → fs ≡ failures → e ≡ ending
-    → OnOk told (Appends error.before error.after (unwritten_lines us ++ failure_lines fs e))
-    → OnOk told (Took error (unwritten_lines unwritten ++ failure_lines failures ending))
-told_as told error us unwritten fs failures e ending u f n holds =
-    subst (λ (e : Ending). OnOk told (Took error (unwritten_lines unwritten ++ failure_lines failures e))) n
-    (subst (λ (l : List ProxyFailure). OnOk told (Took error (unwritten_lines unwritten ++ failure_lines l e))) f
-    (subst (λ (l : List Bool). OnOk told (Took error (unwritten_lines l ++ failure_lines fs e))) u holds))
+    → OnOk reported (Appends error.before error.after (unwritten_lines us ++ failure_lines fs e))
+    → OnOk reported (Took error (unwritten_lines unwritten ++ failure_lines failures ending))
+reported_as reported error us unwritten fs failures e ending u f n holds =
+    subst (λ (e : Ending). OnOk reported (Took error (unwritten_lines unwritten ++ failure_lines failures e))) n
+    (subst (λ (l : List ProxyFailure). OnOk reported (Took error (unwritten_lines unwritten ++ failure_lines l e))) f
+    (subst (λ (l : List Bool). OnOk reported (Took error (unwritten_lines l ++ failure_lines fs e))) u holds))
 
 pub clean_as : (is_clean : Bool) (us unwritten : List Bool) (fs failures : List ProxyFailure) (e ending : Ending) → us ≡ unwritten
     → fs ≡ failures → e ≡ ending → (IsTrue is_clean ↔ (All (λ failed. failed ≡ false) us × NothingFailed fs e))
@@ -116,17 +116,17 @@ module _ {W : Type 0} (state_of : W → SinkState) (options : Options) (files : 
   abbrev recorded : List (Option Recorded)
   recorded = recorded_each state_of writers recorders
 
-  pub is_stream_done : AnswersTellVerdicts → NothingFailed failures (ending_of complete stop) → failed ≡ false
+  pub is_stream_done : AnswersReportVerdicts → NothingFailed failures (ending_of complete stop) → failed ≡ false
       → All (λ failed. failed ≡ false) (unwritten_each recorders)
       → IsStreamDone state_of options files writers recorders before.given after.given
-  is_stream_done tell nothing well all_written =
-      let whole = complete_from complete stop nothing.complete in
+  is_stream_done known_verdicts nothing well all_written =
+      let entire = complete_from complete stop nothing.complete in
       let proxies = length files in
       let written = none_unwritten state_of writers recorders all_written in
       record {
         recorders_count = count;
         recorders_each = each;
-        whole = record {
+        entire = record {
           log = run.log;
           proxies = run.proxies;
           each_file = λ proxy bytes at.
@@ -134,7 +134,7 @@ module _ {W : Type 0} (state_of : W → SinkState) (options : Options) (files : 
               let r = found files recorded proxy bytes run.recorded_count at in
               let clean = all_at IsClean failures proxy failure.0 nothing.proxies failure.1 in
               let one = run.each proxy bytes failure.0 r.0 at failure.1 r.1 in
-              let all = one.all_batches whole (written proxy r.0 r.1) in
+              let all = one.all_batches entire (written proxy r.0 r.1) in
               record {
                 left = one.left;
                 frames = subst (λ (l : List Batch). TakesFrames options.reports bytes one.left l) all one.frames_read;
@@ -142,13 +142,13 @@ module _ {W : Type 0} (state_of : W → SinkState) (options : Options) (files : 
               };
           chain = run.chain;
           serializable = run.serializable;
-          from_files = from_one options.window run.log proxies run.proxies tell options.style.form;
+          from_files = from_one options.window run.log proxies run.proxies known_verdicts options.style.form;
           replies = λ proxy.
               let own = part run.log proxy in
-              tell.replies options.window run.log proxy own [] (sym (append-nil own));
-          each_word = each_said options.window run.log proxies run.proxies tell options.style.form;
-          all_words = all_said options.window run.log proxies run.proxies tell options.style.form;
-          finish = run.finish (run.no_stop whole);
+              known_verdicts.replies options.window run.log proxy own [] (sym (append-nil own));
+          each_word = each_said options.window run.log proxies run.proxies known_verdicts options.style.form;
+          all_words = all_said options.window run.log proxies run.proxies known_verdicts options.style.form;
+          finish = run.finish (run.no_stop entire);
           printed = (
             (
               stream_text options.style run.printed,
@@ -164,7 +164,7 @@ module _ {W : Type 0} (state_of : W → SinkState) (options : Options) (files : 
                     let r = found files recorded proxy f.0 run.recorded_count f.1 in
                     let clean = all_at IsClean failures proxy failure.0 nothing.proxies failure.1 in
                     let one = run.each proxy f.0 failure.0 r.0 f.1 failure.1 r.1 in
-                    one.all_printed well clean.1 ∙ one.all_received (run.no_stop whole)
+                    one.all_printed well clean.1 ∙ one.all_received (run.no_stop entire)
                     ∙ ap (answers options.window run.log) (omega arith) ∙ sym is;
                 text_is = refl;
               },
@@ -176,21 +176,21 @@ module _ {W : Type 0} (state_of : W → SinkState) (options : Options) (files : 
                 let failure = found files failures proxy f.0 run.failures_count f.1 in
                 let clean = all_at IsClean failures proxy failure.0 nothing.proxies failure.1 in
                 let one = run.each proxy f.0 failure.0 (Some r) f.1 failure.1 r_at in
-                let same = one.all_received (run.no_stop whole) ∙ ap (answers options.window run.log) (omega arith) ∙ sym is in
+                let same = one.all_received (run.no_stop entire) ∙ ap (answers options.window run.log) (omega arith) ∙ sym is in
                 all_recorded one.taken own r one.records same (one.none_refused clean.1) (written proxy (Some r) r_at),
           );
         };
       }
 
   -- the lines on standard error, and why it failed
-  pub streamed_and_failed : {T E : Type 0} (out error : Written) (told : Result T E) → before ≡ state_before out
+  pub streamed_and_failed : {T E : Type 0} (out error : Written) (reported : Result T E) → before ≡ state_before out
       → after ≡ state_after out
-      → OnOk told (Took error (unwritten_lines (unwritten_each recorders) ++ failure_lines failures (ending_of complete stop)))
-      → (IsErr told → HasFailed error)
+      → OnOk reported (Took error (unwritten_lines (unwritten_each recorders) ++ failure_lines failures (ending_of complete stop)))
+      → (IsErr reported → HasFailed error)
       → ¬ ((All (λ failed. failed ≡ false) (unwritten_each recorders) × NothingFailed failures (ending_of complete stop))
-      × (failed ≡ false) × IsOk told)
+      × (failed ≡ false) × IsOk reported)
       → StreamedAndFailed state_of options files writers recorders out error
-  streamed_and_failed {T} {E} out error told is_before is_after lines error_failed not_done = record {
+  streamed_and_failed {T} {E} out error reported is_before is_after lines error_failed not_done = record {
     recorders_count = count;
     recorders_each = each;
     failed = failed;
@@ -202,18 +202,18 @@ module _ {W : Type 0} (state_of : W → SinkState) (options : Options) (files : 
         is_after
         (subst (λ (s : SinkState). IsStreamed options files (map is_some writers) s after failed failures recorded complete stop)
         is_before run);
-    lines_of_failures = told_of told lines error_failed;
-    why = λ well written nothing. why_of told error_failed (λ ok. not_done ((written, nothing), well, ok));
+    lines_of_failures = reported_of reported lines error_failed;
+    why = λ well written nothing. why_of reported error_failed (λ ok. not_done ((written, nothing), well, ok));
   }
     where
-      told_of : (told : Result T E)
-          → OnOk told (Took error (unwritten_lines (unwritten_each recorders) ++ failure_lines failures (ending_of complete stop)))
-          → (IsErr told → HasFailed error)
+      reported_of : (reported : Result T E)
+          → OnOk reported (Took error (unwritten_lines (unwritten_each recorders) ++ failure_lines failures (ending_of complete stop)))
+          → (IsErr reported → HasFailed error)
           → HasFailed error
           ⊎ Took error (unwritten_lines (unwritten_each recorders) ++ failure_lines failures (ending_of complete stop))
-      told_of (Ok u) took failed = inr took
-      told_of (Err e) took failed = inl (failed refl)
+      reported_of (Ok u) took failed = inr took
+      reported_of (Err e) took failed = inl (failed refl)
 
-      why_of : (told : Result T E) → (IsErr told → HasFailed error) → (IsOk told → ⊥) → HasFailed error
+      why_of : (reported : Result T E) → (IsErr reported → HasFailed error) → (IsOk reported → ⊥) → HasFailed error
       why_of (Ok u) failed not_ok = absurd (not_ok refl)
       why_of (Err e) failed not_ok = failed refl

@@ -10,7 +10,7 @@ use Rattle.replay_stream.specs.declared.recorder.Recorder.{Recorder}
 use Rattle.replay_stream.specs.Sinks.{SinkState}
 use Rattle.replay_output.specs.declared.options.Options.{Options}
 use Rattle.replay_output.specs.declared.start.StartError.TheVariants as start
-use Rattle.replay_program.specs.Program.{AreWriters, DidNotCreate, HaveWriters, StreamsAndFails, Told}
+use Rattle.replay_program.specs.Program.{AreWriters, DidNotCreate, HaveWriters, StreamsAndFails, ReportsLine}
 use Rattle.replay_program.specs.Replayed.{DidNotStart, Written}
 use Rattle.replay_program.specs.Streamed.{FailsToStream}
 
@@ -89,12 +89,12 @@ have_writers {W} given_to begun names opened places are few =
 pub not_recorded : {Rest : Type 0} (has_created cannot_create : List ℕ → Type 0) (names : List (List ℕ)) (out error : Written)
     (cause : OpeningError)
     → ((proxy : ℕ) → cause ≡ opening.CannotOpen proxy → IsFirstRefused has_created cannot_create names proxy)
-    → out.after ≡ out.before → Told error (creating_line cause)
+    → out.after ≡ out.before → ReportsLine error (creating_line cause)
     → DidNotCreate has_created cannot_create names out error ⊎ (DidNotStart out error ⊎ Rest)
-not_recorded has_created cannot_create names out error (opening.CannotOpen proxy) first nothing told =
-    inl (record { proxy = proxy; first = first proxy refl; nothing_printed = nothing; told = told })
-not_recorded has_created cannot_create names out error opening.Memory first nothing told =
-    inr (inl (record { cause = start.Memory; nothing_printed = nothing; told = told }))
+not_recorded has_created cannot_create names out error (opening.CannotOpen proxy) first nothing reported =
+    inl (record { proxy = proxy; first = first proxy refl; nothing_printed = nothing; reported = reported })
+not_recorded has_created cannot_create names out error opening.Memory first nothing reported =
+    inr (inl (record { cause = start.Memory; nothing_printed = nothing; reported = reported }))
 
 -- the writers that were created were streamed to
 pub recorded_and_failed : {W : Type 0} (state_of : W → SinkState) (begun : List ℕ → Option (List ℕ)) (options : Options)

@@ -4,7 +4,7 @@ use Rattle.keyspace.specs.declared.batch.Batch.{Batch}
 use Rattle.keyspace.specs.Processed.{Processed, version_of}
 use Rattle.keyspace.specs.Run.{Step, part}
 use Rattle.resolver.specs.declared.stop.Stop.{Stop}
-use Rattle.resolver.specs.Core.{IsBeginning}
+use Rattle.resolver.specs.Core.{IsPrefix}
 use Rattle.resolver.specs.Observed.{HasSeen}
 use Rattle.resolver.specs.Resolver.{TakesOnlyFrom}
 use Rattle.replay_output.specs.declared.failures.Ending.TheVariants.{Stopped}
@@ -25,7 +25,7 @@ HasReached has_seen reached processed =
 -- The bytes begin with the frames of some batches, and these are the first of those that are resolved for them.
 abbrev pub BeginsWith : Reports → Option (List ℕ) → List Batch → Type 0
 BeginsWith reports bytes batches =
-    (read : List Batch) × (left : Option (List ℕ)) × TakesFrames reports bytes left read × IsBeginning batches read
+    (read : List Batch) × (left : Option (List ℕ)) × TakesFrames reports bytes left read × IsPrefix batches read
 
 -- The resolver met this stop in a replay of files with these bytes: it is that of a log which takes the first batches of each file, in
 -- order. If the version is known, it is that of the last batch that was processed over this log. In its last step, which met the stop,
@@ -39,10 +39,10 @@ pub record MetStop (options : Options) (files : List (Option (List ℕ))) (stop 
   pub reached : IfSome version (λ v. HasSeen (λ seen. v ≡ version_of seen) (Some stop) options.window log)
 
 -- The last line that standard error was given names this stop, unless standard error has failed.
-abbrev pub TellsStop : Stop → Written → Type 0
-TellsStop stop error = HasFailed error ⊎ ((others : List ℕ) × Took error (others ++ ending_line (Stopped stop)))
+abbrev pub ReportsStop : Stop → Written → Type 0
+ReportsStop stop error = HasFailed error ⊎ ((others : List ℕ) × Took error (others ++ ending_line (Stopped stop)))
 
 -- The stop, if there is one, was met in a replay of these files, the version is the one that it had reached, and standard error says so.
 abbrev pub HasMet : Options → List (Option (List ℕ)) → Met → Written → Type 0
 HasMet options files met error =
-    IfSome met.stop (λ stop. MetStop options files stop met.version × TellsStop stop error)
+    IfSome met.stop (λ stop. MetStop options files stop met.version × ReportsStop stop error)

@@ -1,6 +1,7 @@
 -- How the program ends, beside the words of its command line and the bytes of its files. This project's own.
 use Rattle.std.specs.Prelude.{◌≡◌, ◌≢◌, ◌⊎◌, ℕ, ◌≤◌, Bool, true, false, List, codes, length, map, Option, None, Some, IsSomeAnd, option_map, slice_get}
 use Rattle.std.specs.Borrow.{Bor}
+use Rattle.std.specs.Io.KnownBytes.{Keeps}
 use Rattle.std.specs.List.{All, AllZip}
 use Rattle.keyspace.specs.declared.reply.Reply.{Reply}
 use Rattle.replay_arguments.specs.declared.arguments.CommandLine.{CommandLine}
@@ -26,7 +27,7 @@ use Rattle.replay_program.specs.Replayed.{DidNotStart, FailsToPrint, FailsToRepl
 use Rattle.replay_program.specs.Replies.{IsCauseOf, IsReplyFile, replies_line}
 use Rattle.replay_program.specs.Streamed.{IsStreamDone, StreamedAndFailed}
 use Rattle.replay_program.specs.Summarized.{FailsToReplayAndSummarize, FailsToSummarize, IsReplayedAndSummarized, IsSummarized}
-use Rattle.replay_program.specs.Verbose.{IsExplained}
+use Rattle.replay_program.specs.Verbose.{IsExplained, SaysHeld}
 use Rattle.replay_stream.specs.declared.recorder.Recorder.{Recorder}
 use Rattle.replay_stream.specs.Sinks.{SinkState}
 
@@ -60,8 +61,8 @@ abbrev pub bytes_of : NamedFiles → CommandLine → List (Option (List ℕ))
 bytes_of files line = contents_each files.contents (texts line.files.items)
 
 -- the line was printed, or standard error failed
-abbrev pub Told : Written → List ℕ → Type 0
-Told error line = HasFailed error ⊎ Took error line
+abbrev pub ReportsLine : Written → List ℕ → Type 0
+ReportsLine error line = HasFailed error ⊎ Took error line
 
 -- a file can't be opened: nothing was printed, and the first such file was reported
 pub record DidNotOpen (has_opened cannot_open : List ℕ → Type 0) (names : List (List ℕ)) (out error : Written) :
@@ -69,14 +70,14 @@ pub record DidNotOpen (has_opened cannot_open : List ℕ → Type 0) (names : Li
   pub proxy : ℕ
   pub first : IsFirstRefused has_opened cannot_open names proxy
   pub nothing_printed : out.after ≡ out.before
-  pub told : Told error (opening_line (opening.CannotOpen proxy))
+  pub reported : ReportsLine error (opening_line (opening.CannotOpen proxy))
 
 -- the file of this name can't be created: nothing was printed, and that was reported
 pub record DidNotCreateFile (cannot_create : List ℕ → Type 0) (name : List ℕ) (file : WrittenFile) (out error : Written) :
     Type 0 where
   pub refused : cannot_create name
   pub nothing_printed : out.after ≡ out.before
-  pub told : Told error (written_line file file_error.CannotOpen)
+  pub reported : ReportsLine error (written_line file file_error.CannotOpen)
 
 -- `to` is what was written to a file: its new writer, which was given `begun`, has become `writer`
 pub record IsGiven {W : Type 0} (state_of : W → SinkState) (begun : Option (List ℕ)) (writer : Option W) (to : Written) :
@@ -120,18 +121,18 @@ pub record DidNotReadReplies (has_opened cannot_open : List ℕ → Type 0) (con
   pub cause : RepliesError
   pub why : IsCauseOf has_opened cannot_open contents names cause
   pub nothing_printed : out.after ≡ out.before
-  pub told : Told error (replies_line cause)
+  pub reported : ReportsLine error (replies_line cause)
 
 -- the replies that were read of the files of these names
 abbrev pub AreRecorded : (List ℕ → Option (List ℕ)) → List (List ℕ) → List (List Reply) → Type 0
 AreRecorded contents names recorded = AllZip IsReplyFile (contents_each contents names) recorded
 
 -- the answers to these files were compared with the replies in the files of these names, and the number of differences is as said
-pub record ChecksFiles (So_many : ℕ → Type 0) (contents : List ℕ → Option (List ℕ)) (options : Options)
+pub record ChecksFiles (HasCount : ℕ → Type 0) (contents : List ℕ → Option (List ℕ)) (options : Options)
     (bytes : List (Option (List ℕ))) (replies : List (List ℕ)) (before after : Option (List ℕ)) : Type 0 where
   pub recorded : List (List Reply)
   pub read : AreRecorded contents replies recorded
-  pub checked : IsChecked So_many recorded options bytes before after
+  pub checked : IsChecked HasCount recorded options bytes before after
 
 -- the replies were read, and then the program failed
 pub record FailsBeside (contents : List ℕ → Option (List ℕ)) (options : Options) (bytes : List (Option (List ℕ)))
@@ -168,7 +169,7 @@ pub record StreamsFiles {W : Type 0} (state_of : W → SinkState) (begun : List 
     (before after : Option (List ℕ)) : Type 0 where
   pub writers : List (Option W)
   pub opened : AreWriters state_of begun (length bytes) records writers
-  pub whole : IsStreamDone state_of options bytes writers recorders before after
+  pub entire : IsStreamDone state_of options bytes writers recorders before after
 
 -- a file for records can't be opened: nothing was printed, and the first such file was reported
 pub record DidNotCreate (has_created cannot_create : List ℕ → Type 0) (names : List (List ℕ)) (out error : Written) :
@@ -176,7 +177,7 @@ pub record DidNotCreate (has_created cannot_create : List ℕ → Type 0) (names
   pub proxy : ℕ
   pub first : IsFirstRefused has_created cannot_create names proxy
   pub nothing_printed : out.after ≡ out.before
-  pub told : Told error (creating_line (opening.CannotOpen proxy))
+  pub reported : ReportsLine error (creating_line (opening.CannotOpen proxy))
 
 -- These files were read and resolved, and something failed. The lines are those of a prefix of the answers to each proxy,
 -- without those that a filter hides. So are the records, if files for them are named.
@@ -267,6 +268,18 @@ SaysFurther false contents cannot_open line met error =
 SaysFurther true contents cannot_open line met error =
     IsExplained contents cannot_open (texts line.files.items) line.options.limit met error
 
+-- What more was said of a command line that didn't fail: nothing without `--verbose`, and with it at most that all batches are held.
+abbrev pub SaysIfHeld : Bool → (List ℕ → Option (List ℕ)) → List (List ℕ) → Written → Type 0
+SaysIfHeld false contents names error = (error.after ≡ error.before) × (error.failures_after ≡ error.failures_before)
+SaysIfHeld true contents names error = SaysHeld contents names error
+
+-- A command line that didn't fail left standard error as it was. Then at most that all batches are held was said.
+pub record EndsQuietly (contents : List ℕ → Option (List ℕ)) (line : CommandLine) (error : Written) : Type 0 where
+  pub given : Option (List ℕ)
+  pub failures : ℕ
+  pub kept : Keeps error.before given
+  pub further : SaysIfHeld line.verbose contents (texts line.files.items) (written given error.after failures error.failures_after)
+
 -- What a command line asks for has failed, and that was reported: first by the fixed lines, which left standard error in this state.
 pub record LineFailsAndSays {W : Type 0} (state_of : W → SinkState) (files : NamedFiles) (line : CommandLine) (report : RunReport W)
     (standard error : Written) : Type 0 where
@@ -289,4 +302,4 @@ not_text = codes "error: invalid UTF-8 was detected in one or more arguments\n\n
 
 -- the arguments could not be read as text: nothing was printed, and that was reported
 abbrev pub HasReadNoText : Written → Written → Type 0
-HasReadNoText out error = (out.after ≡ out.before) × Told error not_text
+HasReadNoText out error = (out.after ≡ out.before) × ReportsLine error not_text

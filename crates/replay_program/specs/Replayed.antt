@@ -103,8 +103,8 @@ IsReplayed options files before after =
 -- all was read, resolved and compared: the text printed is the lines of the differences, and their number is as said
 abbrev pub IsChecked : (ℕ → Type 0) → List (List Reply) → Options → List (Option (List ℕ)) → Option (List ℕ) → Option (List ℕ)
     → Type 0
-IsChecked So_many recorded options files before after =
-    IsReplayedBy (λ answers. Appends before after (check_lines recorded answers) × So_many (differences_of recorded answers))
+IsChecked HasCount recorded options files before after =
+    IsReplayedBy (λ answers. Appends before after (check_lines recorded answers) × HasCount (differences_of recorded answers))
     options files
 
 -- what became of a writer
@@ -132,8 +132,8 @@ abbrev pub Took : Written → List ℕ → Type 0
 Took writer text = Appends writer.before writer.after text
 
 -- a prefix of this text, if it still reports its bytes
-abbrev pub TookBeginning : Written → List ℕ → Type 0
-TookBeginning writer text = IfSome writer.after (λ _. (n : ℕ) × Took writer (take n text))
+abbrev pub TookPrefix : Written → List ℕ → Type 0
+TookPrefix writer text = IfSome writer.after (λ _. (n : ℕ) × Took writer (take n text))
 
 -- how a run ends that is complete or not, and that met a stop or none
 abbrev pub ending_of : Bool → Option Stop → Ending
@@ -144,18 +144,18 @@ ending_of complete (Some stop) = Stopped stop
 pub record DidNotStart (out error : Written) : Type 0 where
   pub cause : StartError
   pub nothing_printed : out.after ≡ out.before
-  pub told : HasFailed error ⊎ Took error (start_line cause)
+  pub reported : HasFailed error ⊎ Took error (start_line cause)
 
 -- the same failures, with the loss of one of n proxies, for which memory is taken
 abbrev pub IsWithLoss : ℕ → (ℕ → Type 0) → List ProxyFailure → List ProxyFailure → Type 0
-IsWithLoss proxies Takes failures told =
-    (proxy : ℕ) × (proxy < proxies) × Takes proxy × (told ≡ with_loss proxy failures)
+IsWithLoss proxies Takes failures reported =
+    (proxy : ℕ) × (proxy < proxies) × Takes proxy × (reported ≡ with_loss proxy failures)
 
 -- what is said of a run: of the lines and the failures of each proxy, whether it is complete, and the stop that it met
 abbrev pub OfRun : Type 1
 OfRun = List (List Line) → List ProxyFailure → Bool → Option Stop → Type 0
 
--- The files of n proxies were replayed, and something failed. `Ran` says what became of the files. `told` is what failed, with the loss
+-- The files of n proxies were replayed, and something failed. `Ran` says what became of the files. `reported` is what failed, with the loss
 -- of a proxy whose lines could not be sorted or explained, whose replies could not be compared, or that is the last to be summarized;
 -- then nothing was printed. `text` is what is to be printed of answers, and `Takes` says of which proxies' lines memory is taken for it.
 pub record RanAndFailed (Ran : OfRun) (text : List (List Answer) → List ℕ) (Takes : List (List Line) → ℕ → Type 0) (proxies : ℕ)
@@ -165,14 +165,14 @@ pub record RanAndFailed (Ran : OfRun) (text : List (List Answer) → List ℕ) (
   pub complete : Bool
   pub stop : Option Stop
   pub run : Ran received failures complete stop
-  pub told : List ProxyFailure
-  pub failures_told : (told ≡ failures) ⊎ IsWithLoss proxies (Takes received) failures told
+  pub reported : List ProxyFailure
+  pub failures_reported : (reported ≡ failures) ⊎ IsWithLoss proxies (Takes received) failures reported
   pub printed :
-      (HasFailed out × TookBeginning out (text (map answers_of received)))
-      ⊎ (((told ≡ failures) × Took out (text (map answers_of received)))
-      ⊎ (IsWithLoss proxies (Takes received) failures told × (out.after ≡ out.before)))
-  pub lines_of_failures : HasFailed error ⊎ Took error (failure_lines told (ending_of complete stop))
-  pub why : HasFailed out ⊎ (HasFailed error ⊎ ¬ (NothingFailed told (ending_of complete stop)))
+      (HasFailed out × TookPrefix out (text (map answers_of received)))
+      ⊎ (((reported ≡ failures) × Took out (text (map answers_of received)))
+      ⊎ (IsWithLoss proxies (Takes received) failures reported × (out.after ≡ out.before)))
+  pub lines_of_failures : HasFailed error ⊎ Took error (failure_lines reported (ending_of complete stop))
+  pub why : HasFailed out ⊎ (HasFailed error ⊎ ¬ (NothingFailed reported (ending_of complete stop)))
 
 -- the program failed, which was to print this text of the answers, and takes memory for it where `Takes` says so
 abbrev pub FailsToPrint : (List (List Answer) → List ℕ) → (List (List Line) → ℕ → Type 0) → Options

@@ -24,7 +24,7 @@ use Rattle.replay_sharded.specs.Sharded.{AreRunsTogether, CommitsSerializably, H
 use Rattle.replay_shards.specs.Failures.{IsFirstStop}
 use Rattle.replay_program.specs.declared.met.Met.{Met}
 use Rattle.replay_program.specs.Checked.{TakesToCompare, check_lines, differences_of}
-use Rattle.replay_program.specs.Met.{TellsStop}
+use Rattle.replay_program.specs.Met.{ReportsStop}
 use Rattle.replay_program.specs.Replayed.{
   DidNotStart,
   LineSaysCommitted,
@@ -86,9 +86,9 @@ IsSummarizedByShards form points options files before after =
 -- the text printed is the lines of the differences from the recorded replies, and their number is as said
 abbrev pub IsCheckedByShards : (ℕ → Type 0) → List (List Reply) → List (List ℕ) → Options → List (Option (List ℕ))
     → Option (List ℕ) → Option (List ℕ) → Type 0
-IsCheckedByShards So_many recorded points options files before after =
+IsCheckedByShards HasCount recorded points options files before after =
     IsReplayedByShardsBy
-    (λ together. Appends before after (check_lines recorded together) × So_many (differences_of recorded together))
+    (λ together. Appends before after (check_lines recorded together) × HasCount (differences_of recorded together))
     points options files
 
 -- Failures.
@@ -159,9 +159,9 @@ FailsToReplayAndSummarizeByShards form points options files out beside error =
 -- What the runs met.
 
 -- Standard error was given lines of which the last names this stop, and then the line that names its shard, unless it has failed.
-pub record TellsShardStop (met : ShardStop) (error : Written) : Type 0 where
+pub record ReportsShardStop (met : ShardStop) (error : Written) : Type 0 where
   pub so_far : Written
-  pub stop : TellsStop met.stop so_far
+  pub stop : ReportsStop met.stop so_far
   pub shard : NamesShard (Some met) so_far error
 
 -- The first shard that met a stop, in runs of all shards over these files, met this one. No version is said to be reached.
@@ -173,7 +173,7 @@ pub record MetStopByShards (points : List (List ℕ)) (options : Options) (files
   pub is_first : IsFirstStop (map stop_of runs) first
   pub stop_is : first.stop ≡ stop
   pub no_version : version ≡ None
-  pub told : TellsShardStop first error
+  pub reported : ReportsShardStop first error
 
 -- the stop, if there is one, was met by the runs of all shards over these files, and standard error says so
 abbrev pub HasMetByShards : List (List ℕ) → Options → List (Option (List ℕ)) → Met → Written → Type 0

@@ -32,7 +32,7 @@ use Rattle.replay_program.specs.Program.{
   NamedFiles,
   OfOutput,
   SaysFurther,
-  Told,
+  ReportsLine,
   bytes_of,
   texts,
 }
@@ -89,11 +89,11 @@ IsWhyNotSharded is_regular is_irregular has_opened cannot_open names (why.Points
 IsWhyNotSharded is_regular is_irregular has_opened cannot_open names why.Memory = ⊤
 
 -- the line of standard error; that of a fault of split points is tested only
-abbrev pub TellsWhy : ShardingError → (List ℕ → Type 0) → Type 0
-TellsWhy (why.Irregular proxy) IsTold = IsTold (irregular_line proxy)
-TellsWhy (why.Opening cause) IsTold = IsTold (opening_line cause)
-TellsWhy (why.Points cause) IsTold = ⊤
-TellsWhy why.Memory IsTold = IsTold (start_line start.Memory)
+abbrev pub ReportsCause : ShardingError → (List ℕ → Type 0) → Type 0
+ReportsCause (why.Irregular proxy) IsReported = IsReported (irregular_line proxy)
+ReportsCause (why.Opening cause) IsReported = IsReported (opening_line cause)
+ReportsCause (why.Points cause) IsReported = ⊤
+ReportsCause why.Memory IsReported = IsReported (start_line start.Memory)
 
 -- the files were not opened: nothing was printed, and the cause was reported
 pub record DidNotShard (regular : RegularFiles) (files : NamedFiles) (names : List (List ℕ)) (out error : Written) : Type 0 where
@@ -101,7 +101,7 @@ pub record DidNotShard (regular : RegularFiles) (files : NamedFiles) (names : Li
   pub because :
       IsWhyNotSharded regular.is_regular regular.is_irregular files.has_opened files.cannot_open names cause
   pub nothing_printed : out.after ≡ out.before
-  pub told : TellsWhy cause (Told error)
+  pub reported : ReportsCause cause (ReportsLine error)
 
 -- Tasks.
 
@@ -126,11 +126,11 @@ AreNotPrintedByShards state_of files points bytes options (Some file) writer out
     × FailsToReplayAndSummarizeByShards file.form points options bytes out to error))
 
 -- the combined answers were compared with the replies in the files of these names, and the number of differences is as said
-pub record ChecksFilesByShards (So_many : ℕ → Type 0) (contents : List ℕ → Option (List ℕ)) (points : List (List ℕ)) (options : Options)
+pub record ChecksFilesByShards (HasCount : ℕ → Type 0) (contents : List ℕ → Option (List ℕ)) (points : List (List ℕ)) (options : Options)
     (bytes : List (Option (List ℕ))) (replies : List (List ℕ)) (before after : Option (List ℕ)) : Type 0 where
   pub recorded : List (List Reply)
   pub read : AreRecorded contents replies recorded
-  pub checked : IsCheckedByShards So_many recorded points options bytes before after
+  pub checked : IsCheckedByShards HasCount recorded points options bytes before after
 
 -- the replies were read, and then the program failed
 pub record FailsBesideByShards (contents : List ℕ → Option (List ℕ)) (points : List (List ℕ)) (options : Options)

@@ -44,7 +44,7 @@ pub record IsStreamDone {W : Type 0} (state_of : W → SinkState) (options : Opt
     (writers : List (Option W)) (recorders : List (Option (Recorder W))) (before after : Option (List ℕ)) : Type 0 where
   pub recorders_count : length recorders ≡ length files
   pub recorders_each : HaveRecords (map is_some writers) recorders
-  pub whole : PrintsAndRecords options files (recorded_each state_of writers recorders) before after
+  pub entire : PrintsAndRecords options files (recorded_each state_of writers recorders) before after
 
 -- of each proxy, whether a record of its answers could not be written
 abbrev pub unwritten_each : {W : Type 0} → List (Option (Recorder W)) → List Bool

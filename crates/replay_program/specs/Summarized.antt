@@ -32,7 +32,7 @@ use Rattle.replay_program.specs.Replayed.{
   IsWithLoss,
   RanAndFailed,
   Took,
-  TookBeginning,
+  TookPrefix,
   Written,
   ending_of,
 }
@@ -128,20 +128,20 @@ IsReplayedAndSummarized form options files before after before_beside after_besi
 
 -- a writer was given this text, or failed after a prefix of it
 abbrev pub TookUnlessFailed : Written → List ℕ → Type 0
-TookUnlessFailed writer text = Took writer text ⊎ (HasFailed writer × TookBeginning writer text)
+TookUnlessFailed writer text = Took writer text ⊎ (HasFailed writer × TookPrefix writer text)
 
--- What was printed of these lines and written of their summary, where something failed. `told` is what failed: with the loss of a proxy if
+-- What was printed of these lines and written of their summary, where something failed. `reported` is what failed: with the loss of a proxy if
 -- memory was refused for its lines, or of the last one if it was refused for the summary. Then neither text was begun.
 pub record BothFailed (form : SummaryForm) (occupancy : Option Occupancy) (style : Style) (received : List (List Line))
     (failures : List ProxyFailure) (ending : Ending) (out beside error : Written) : Type 0 where
-  pub told : List ProxyFailure
+  pub reported : List ProxyFailure
   pub texts :
-      ((told ≡ failures) × TookUnlessFailed out (lines style (map answers_of received))
+      ((reported ≡ failures) × TookUnlessFailed out (lines style (map answers_of received))
       × TookUnlessFailed beside (run_summary form occupancy (map answers_of received)))
-      ⊎ (IsWithLoss (length received) (TakesToSummarize received) failures told × (out.after ≡ out.before)
+      ⊎ (IsWithLoss (length received) (TakesToSummarize received) failures reported × (out.after ≡ out.before)
       × (beside.after ≡ beside.before))
-  pub lines_of_failures : HasFailed error ⊎ Took error (failure_lines told ending)
-  pub why : HasFailed out ⊎ (HasFailed beside ⊎ (HasFailed error ⊎ ¬ (NothingFailed told ending)))
+  pub lines_of_failures : HasFailed error ⊎ Took error (failure_lines reported ending)
+  pub why : HasFailed out ⊎ (HasFailed beside ⊎ (HasFailed error ⊎ ¬ (NothingFailed reported ending)))
 
 -- the files were replayed, and something failed
 pub record RanAndBothFailed (form : SummaryForm) (options : Options) (files : List (Option (List ℕ))) (out beside error : Written)

@@ -1,9 +1,9 @@
--- What more is said of a run that failed: one line about a file or about the run. This project's own.
+-- What more is said of a run: one line about a file or about the run if it failed, or that all batches are held. This project's own.
 use Rattle.std.specs.Prelude.{◌≡◌, ◌⊎◌, ℕ, negsuc, ℤ, true, List, [], ◌∷◌, ◌++◌, take, Option, Some, IfSome, slice_get}
 use Rattle.keyspace.specs.declared.batch.Batch.{Batch}
 use Rattle.resolver.specs.declared.stop.Stop.TheVariants as stop
 use Rattle.wire.specs.Upgrade.{AreFrames}
-use Rattle.replay_arguments.specs.Words.{standard_input}
+use Rattle.replay_arguments.specs.Arguments.{standard_input}
 use Rattle.replay_diagnosis.specs.declared.finding.Finding.{Finding}
 use Rattle.replay_diagnosis.specs.declared.finding.Finding.TheVariants as found
 use Rattle.replay_diagnosis.specs.declared.finding.RunFinding.{RunFinding}
@@ -32,7 +32,6 @@ AreExamined contents names least = (batches : List Batch) × HaveBatches content
 -- A finding is true of the file of this name. If memory was refused, nothing is said of its bytes.
 abbrev pub IsFoundIn : (List ℕ → Option (List ℕ)) → (List ℕ → Type 0) → List ℕ → Finding → Type 0
 IsFoundIn contents cannot_open name found.CannotOpen = cannot_open name
-IsFoundIn contents cannot_open name found.Directory = ⊥
 IsFoundIn contents cannot_open name found.StandardInput = name ≡ standard_input
 IsFoundIn contents cannot_open name found.Memory = Unit {0}
 IsFoundIn contents cannot_open name finding = FoundIn (contents name) finding
@@ -80,3 +79,15 @@ IsExplained contents cannot_open names limit met error =
     (error.after ≡ error.before)
     ⊎ ((text : List ℕ) × (IsOfFile contents cannot_open names text ⊎ IsOfRun contents names limit met text)
     × TookUnlessFailed error text)
+
+-- No batch of the files of these names follows version -1, so all of them are held. This is the least version that one of them follows.
+abbrev pub AreHeldFrom : (List ℕ → Option (List ℕ)) → List (List ℕ) → ℤ → Type 0
+AreHeldFrom contents names version =
+    (batches : List Batch) × HaveBatches contents names batches
+    × NoneBegins batches × Follows version batches × NoneFollowsBelow version batches
+
+-- Standard error was given nothing more, or the line that all batches are held, or a prefix of it after which it failed.
+abbrev pub SaysHeld : (List ℕ → Option (List ℕ)) → List (List ℕ) → Written → Type 0
+SaysHeld contents names error =
+    (error.after ≡ error.before)
+    ⊎ ((version : ℤ) × AreHeldFrom contents names version × TookUnlessFailed error (run_remedy_line (run.AllHeld version)))

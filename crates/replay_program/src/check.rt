@@ -13,7 +13,7 @@ use crate::reached::Reached;
 use keyspace::Reply;
 use observer::Unobserved;
 use replay_output::{Ending, Options, Status, fail_to_start};
-use replay_workers::{Gatekeeper, Outcome, ShareKeeper, run_observed};
+use replay_workers::{Gatekeeper, RunOutcome, ShareKeeper, run_observed};
 use resolver::MAX_PROXIES;
 use std::alloc::Global;
 use std::sync::{Arc, Wait};
@@ -72,14 +72,14 @@ pub fn check_over<
         → O.failures out.old < O.failures out.new }
     ensures ends { result.status ≢ Status.Usage }
 {
-    serial::laws::answers_tell_verdicts();
+    serial::laws::answers_report_verdicts();
     let mut reached = Reached::new(Unobserved);
     let run = run_observed(rt, alloc, readers, options, gatekeeper, &mut reached);
     let (outcome, account) = match run {
         Ok(ended) => ended,
         Err(cause) => return Ended::unstarted(fail_to_start(error, cause)),
     };
-    let Outcome {
+    let RunOutcome {
         lines,
         mut failures,
         all_sent,

@@ -12,7 +12,7 @@ use crate::met::{Ended, Met, is_unwritten};
 use crate::reached::Reached;
 use replay_explanations::{Explainer, ExplanationForm};
 use replay_output::{Ending, Form, Options, Status, fail_to_start};
-use replay_workers::{Gatekeeper, Outcome, ShareKeeper, run_observed};
+use replay_workers::{Gatekeeper, RunOutcome, ShareKeeper, run_observed};
 use resolver::MAX_PROXIES;
 use std::alloc::Global;
 use std::sync::{Arc, Wait};
@@ -68,7 +68,7 @@ pub fn explain_over<
     ensures ends { result.status ≢ Status.Usage }
     ensures same { result.status ≢ Status.Differs }
 {
-    serial::laws::answers_tell_verdicts();
+    serial::laws::answers_report_verdicts();
     let form = explanation_form(options.style.form);
     let explainer = Explainer::new(alloc, options.window, form);
     let mut reached = Reached::new(explainer);
@@ -77,7 +77,7 @@ pub fn explain_over<
         Ok(ended) => ended,
         Err(cause) => return Ended::unstarted(fail_to_start(error, cause)),
     };
-    let Outcome {
+    let RunOutcome {
         mut lines,
         mut failures,
         all_sent,

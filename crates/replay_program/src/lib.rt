@@ -32,13 +32,14 @@ pub use met::{Ended, Met};
 pub use program::{run, run_in};
 pub use replay::{replay_and_summarize_over, replay_over};
 pub use replay_arguments::{
-    CommandLine, Extent, FileError, Files, OpeningError, Refusal, STANDARD_INPUT, Sharding,
-    SummaryFile, Task, WrittenFile, create_files, fail_to_create, fail_to_create_file,
+    ArgumentsRefusal, CommandLine, Extent, FileError, Files, OpeningError, STANDARD_INPUT,
+    Sharding, SummaryFile, Task, WrittenFile, create_files, fail_to_create, fail_to_create_file,
     fail_to_open, open_files, read_words,
 };
 pub use replay_output::{
-    AnswerError, Ending, Filter, Form, Line, Options, PackedText, PrintError, ProxyFailure, Report,
-    Reports, StartError, Status, Style, fail_to_start, print_answers, print_report, write_record,
+    AnswerError, Ending, Form, Line, LineFilter, Options, PackedText, PrintError, ProxyFailure,
+    Report, Reports, StartError, Status, Style, fail_to_start, print_answers, print_report,
+    write_record,
 };
 pub use replay_stream::Recorder;
 pub use replay_summary::SummaryForm;

@@ -1,10 +1,9 @@
 //! The program, over any words, files and streams.
 
 ghost use Rattle.std.specs.Prelude.{◌≡◌, ℕ, List, map, string_bytes};
-ghost use Rattle.std.specs.Io.KnownBytes.{Keeps};
-ghost use Rattle.replay_arguments.specs.Words.{IsMistaken};
-ghost use Rattle.replay_program.specs.Ended.{HasDifferences, IsDone, IsFailed};
-ghost use Rattle.replay_program.specs.Program.{Told, named_files};
+ghost use Rattle.replay_arguments.specs.Arguments.{IsMistaken};
+ghost use Rattle.replay_program.specs.Ended.{HasDifferences, IsDone, IsFailed, IsQuiet};
+ghost use Rattle.replay_program.specs.Program.{ReportsLine, named_files};
 ghost use Rattle.replay_program.specs.Replayed.{written};
 ghost use Rattle.replay_program.specs.ShardedProgram.{regular_files};
 ghost use Rattle.replay_stream.specs.Sinks.{state_by};
@@ -47,9 +46,14 @@ pub fn run<R: Threads + Wait + Copy + Send + 'static, F: Files, O: Sink, E: Sink
         (F.begun files.now) (F.has_created files.now) (F.cannot_create files.now))
         (map string_bytes words.now) result
         (written (O.given out.old) (O.given out.new) (O.failures out.old) (O.failures out.new)) }
-    ensures quiet { result.status ≡ Status.Done → Keeps (E.given error.old) (E.given error.new) }
+    ensures quiet { result.status ≡ Status.Done
+        → IsQuiet (F.contents files.now) (map string_bytes words.now)
+        (written (E.given error.old) (E.given error.new) (E.failures error.old)
+        (E.failures error.new)) }
     ensures quiet_too { result.status ≡ Status.Differs
-        → Keeps (E.given error.old) (E.given error.new) }
+        → IsQuiet (F.contents files.now) (map string_bytes words.now)
+        (written (E.given error.old) (E.given error.new) (E.failures error.old)
+        (E.failures error.new)) }
     ensures failed { result.status ≡ Status.Failed
         → IsFailed (state_by F.Writer.given F.Writer.failures)
         (regular_files (F.is_regular files.now) (F.is_irregular files.now))
@@ -62,7 +66,7 @@ pub fn run<R: Threads + Wait + Copy + Send + 'static, F: Files, O: Sink, E: Sink
     ensures mistaken { result.status ≡ Status.Usage → IsMistaken (map string_bytes words.now) }
     ensures nothing { result.status ≡ Status.Usage → O.given out.new ≡ O.given out.old }
     ensures usage { result.status ≡ Status.Usage → (text : List ℕ)
-        × Told (written (E.given error.old) (E.given error.new) (E.failures error.old)
+        × ReportsLine (written (E.given error.old) (E.given error.new) (E.failures error.old)
         (E.failures error.new)) text }
     ensures differs { result.status ≡ Status.Differs
         → HasDifferences (state_by F.Writer.given F.Writer.failures)

@@ -9,7 +9,7 @@ use crate::met::{Ended, Met, is_unwritten};
 use crate::reached::Reached;
 use observer::Unobserved;
 use replay_output::{Ending, Options, Status, fail_to_start, print_report};
-use replay_workers::{Gatekeeper, Outcome, ShareKeeper, run_observed};
+use replay_workers::{Gatekeeper, RunOutcome, ShareKeeper, run_observed};
 use resolver::MAX_PROXIES;
 use std::alloc::Global;
 use std::sync::{Arc, Wait};
@@ -64,14 +64,14 @@ pub fn replay_over<
     ensures ends { result.status ≢ Status.Usage }
     ensures same { result.status ≢ Status.Differs }
 {
-    serial::laws::answers_tell_verdicts();
+    serial::laws::answers_report_verdicts();
     let mut reached = Reached::new(Unobserved);
     let run = run_observed(rt, alloc, readers, options, gatekeeper, &mut reached);
     let (outcome, account) = match run {
         Ok(ended) => ended,
         Err(cause) => return Ended::unstarted(fail_to_start(error, cause)),
     };
-    let Outcome {
+    let RunOutcome {
         mut lines,
         mut failures,
         all_sent,

@@ -77,7 +77,7 @@ pub fn stream_over<
     ensures ends { result.status ≢ Status.Usage }
     ensures same { result.status ≢ Status.Differs }
 {
-    serial::laws::answers_tell_verdicts();
+    serial::laws::answers_report_verdicts();
     let (streamed, account) = match run_stream(
         rt, alloc, readers, records, options, gatekeeper, out,
     ) {
@@ -93,10 +93,10 @@ pub fn stream_over<
         ..
     } = streamed;
     let ending = Ending::new(account.complete && all_sent, account.stop);
-    let told = print_all(error, &unwritten, &failures, ending);
+    let reported = print_all(error, &unwritten, &failures, ending);
     let is_clean = is_clean(&unwritten, &failures, ending);
     RunReport {
-        status: status_of(is_clean, failed, told),
+        status: status_of(is_clean, failed, reported),
         met: Met {
             stop: account.stop,
             version: None,
@@ -118,12 +118,12 @@ fn is_clean(unwritten: &[bool], failures: &[ProxyFailure], ending: Ending) -> bo
 
 // Returns how the program ends, by whether all was clean, standard output has failed, and the lines
 // of failures were written.
-fn status_of(is_clean: bool, failed: bool, told: Result<(), Failed>) -> Status
-    ensures done { result ≡ Status.Done ↔ (IsTrue is_clean × (failed ≡ false) × IsOk told) }
+fn status_of(is_clean: bool, failed: bool, reported: Result<(), Failed>) -> Status
+    ensures done { result ≡ Status.Done ↔ (IsTrue is_clean × (failed ≡ false) × IsOk reported) }
     ensures ends { result ≢ Status.Usage }
     ensures same { result ≢ Status.Differs }
 {
-    Status::of(is_clean && !failed && told.is_ok())
+    Status::of(is_clean && !failed && reported.is_ok())
 }
 
 // Prints the lines of the proxies whose records could not be written, and then of all else.

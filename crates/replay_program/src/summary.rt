@@ -17,7 +17,7 @@ use ranges::text_of_top;
 use replay_hot_ranges::HotRanges;
 use replay_output::{Ending, Options, ProxyFailure, Report, Status, fail_to_start};
 use replay_summary::SummaryForm;
-use replay_workers::{Gatekeeper, Outcome, ShareKeeper, run_observed};
+use replay_workers::{Gatekeeper, RunOutcome, ShareKeeper, run_observed};
 use resolver::MAX_PROXIES;
 use std::alloc::Global;
 use std::sync::{Arc, Wait};
@@ -132,14 +132,14 @@ fn summarize_alone<
     ensures ends { result.status ≢ Status.Usage }
     ensures same { result.status ≢ Status.Differs }
 {
-    serial::laws::answers_tell_verdicts();
+    serial::laws::answers_report_verdicts();
     let mut reached = Reached::new(Unobserved);
     let run = run_observed(rt, alloc, readers, options, gatekeeper, &mut reached);
     let (outcome, account) = match run {
         Ok(ended) => ended,
         Err(cause) => return Ended::unstarted(fail_to_start(error, cause)),
     };
-    let Outcome {
+    let RunOutcome {
         mut lines,
         mut failures,
         all_sent,
@@ -204,7 +204,7 @@ fn summarize_with_top<
     ensures ends { result.status ≢ Status.Usage }
     ensures same { result.status ≢ Status.Differs }
 {
-    serial::laws::answers_tell_verdicts();
+    serial::laws::answers_report_verdicts();
     let hot = HotRanges::new(alloc, options.window);
     let mut reached = Reached::new(hot);
     let run = run_observed(rt, alloc, readers, options, gatekeeper, &mut reached);
@@ -212,7 +212,7 @@ fn summarize_with_top<
         Ok(ended) => ended,
         Err(cause) => return Ended::unstarted(fail_to_start(error, cause)),
     };
-    let Outcome {
+    let RunOutcome {
         mut lines,
         mut failures,
         all_sent,
@@ -266,9 +266,9 @@ fn report_last_loss<E: Sink>(error: &mut E, failures: &mut [ProxyFailure], endin
     requires some { 1 ≤ length failures.old }
     ensures loss { (proxy : ℕ) → proxy + 1 ≡ length failures.old
         → failures.new ≡ with_loss proxy failures.old }
-    ensures failure_lines { OnOk result.told (Appends (E.given error.old) (E.given error.new)
+    ensures failure_lines { OnOk result.reported (Appends (E.given error.old) (E.given error.new)
         (failure_lines failures.new ending)) }
-    ensures told { IsErr result.told ↔ (E.failures error.old < E.failures error.new) }
+    ensures reported { IsErr result.reported ↔ (E.failures error.old < E.failures error.new) }
     ensures status { result.status ≡ Status.Failed }
 {
     let last = failures.len() - 1;

@@ -1,5 +1,5 @@
-//! What is said of a failure beside its fixed lines: one line that names what was found and says
-//! what to do.
+//! What is said of a run beside its fixed lines: one line that names what was found and says what
+//! to do. `held` has that of a run that didn't fail.
 
 ghost use Rattle.std.specs.Prelude.{◌≡◌, ◌⊎◌, ℕ, IfSome, List, Some};
 ghost use Rattle.keyspace.specs.declared.batch.Batch.{Batch as BatchValue};
@@ -13,12 +13,15 @@ ghost use Rattle.replay_program.specs.Verbose.{IsExplained, IsFoundOf, IsGateFin
 use crate::met::Met;
 use files::{FileFinding, examine_files};
 use replay_arguments::{CommandLine, Files};
-use replay_diagnosis::{Batches, RunFinding, write_remedy, write_run_remedy};
+use replay_diagnosis::{FileBatches, RunFinding, write_remedy, write_run_remedy};
 use resolver::Stop;
 use std::alloc::Global;
 use wire::Sink;
 
 mod files;
+mod held;
+
+pub use held::say_if_held;
 
 /// Opens the files of batches of a command line once more, and writes one line about the first that
 /// can't be opened or has something else than frames of batches. If there is none, the line is
@@ -66,7 +69,7 @@ fn say_of_run<E: Sink>(alloc: Global, error: &mut E, finding: &RunFinding)
 
 // Returns the finding of a run that met this, over files with these batches and with this limit of
 // boundaries.
-fn run_finding(met: Met, batches: &Batches, limit: usize) -> Option<RunFinding>
+fn run_finding(met: Met, batches: &FileBatches, limit: usize) -> Option<RunFinding>
     ensures found { IfSome result (λ finding. (all : List BatchValue)
         → HasLeast all batches.now.least_previous → IsFoundOf limit met all finding) }
 {
@@ -81,7 +84,7 @@ fn run_finding(met: Met, batches: &Batches, limit: usize) -> Option<RunFinding>
 }
 
 // Returns the finding about a full gate, if the files have these batches.
-fn gate_finding(batches: &Batches) -> RunFinding
+fn gate_finding(batches: &FileBatches) -> RunFinding
     ensures found { (all : List BatchValue) → HasLeast all batches.now.least_previous
         → IsGateFinding all result }
 {

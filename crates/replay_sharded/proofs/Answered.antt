@@ -66,10 +66,10 @@ module _ {X Y : Type 0} (f : X → ℤ) (g : Y → ℤ) where
       let all = same v in
       let one = one_of v ys (omega (arith, first, is, all)) in
       let rest = as_long xs (one.0 ++ one.2) (λ version. one_fewer x xs ys one version (same version)) in
-      let whole = ap (λ (l : List Y). length l) one.3 in
+      let entire = ap (λ (l : List Y). length l) one.3 in
       let longer = length-append one.0 (one.1 ∷ one.2) in
       let shorter = length-append one.0 one.2 in
-      omega (arith, rest, whole, longer, shorter)
+      omega (arith, rest, entire, longer, shorter)
 
 module _ (version : ℤ) where
   abbrev batches_at : List Batch → List Batch

@@ -8,7 +8,7 @@ use Rattle.std.proofs.lemmas.List.{length-append}
 use Rattle.std.proofs.lemmas.List.Elements.{All-nil, All-head, All-tail, All-push, filter-append}
 use Rattle.std.proofs.lemmas.Option.{none-some, same_Some}
 use Rattle.keyspace.specs.declared.answer.Answer.{Answer}
-use Rattle.keyspace.specs.declared.answer.Answer.TheVariants as told
+use Rattle.keyspace.specs.declared.answer.Answer.TheVariants as reported
 use Rattle.keyspace.specs.declared.batch.Batch.{Batch}
 use Rattle.keyspace.specs.declared.reply.Reply.{Reply}
 use Rattle.keyspace.specs.Answer.{version_of_answer}
@@ -136,7 +136,7 @@ module _ (proxy : ℕ) (version : ℤ) where
   sees_process window p b s all =
       let reply = judge window (writes s.processed) b in
       let new : Processed = record { proxy = p; batch = b; reply = reply } in
-      let e = count_last is_answer s.answered (p, told.Reply reply) in
+      let e = count_last is_answer s.answered (p, reported.Reply reply) in
       (All-push HasVersion s.processed new all refl, omega (arith, e))
 
   sees_admit : (window : ℤ) (p : ℕ) (b : Batch) (s : State) → All HasVersion s.processed
@@ -173,11 +173,11 @@ module _ (proxy : ℕ) (version : ℤ) where
       let o = ap (count_of is_held) l.others_are in
       omega (arith, x, y, z, h, o)
 
-  sees_leave_then : (go_on : State → State) (window : ℤ) → ((s : State) → All HasVersion s.processed → Sees s (go_on s) 0)
+  sees_leave_then : (continue_with : State → State) (window : ℤ) → ((s : State) → All HasVersion s.processed → Sees s (continue_with s) 0)
       → (s : State) (l : Option (Held × List Held)) → next_due (version_of s.processed) s.held ≡ l → All HasVersion s.processed
-      → Sees s (leave_then go_on window s l) 0
-  sees_leave_then go_on window f s None e all = (all, omega arith)
-  sees_leave_then go_on window f s (Some l) e all =
+      → Sees s (leave_then continue_with window s l) 0
+  sees_leave_then continue_with window f s None e all = (all, omega arith)
+  sees_leave_then continue_with window f s (Some l) e all =
       let without : State = record s { held = l.1 } in
       let one = sees_admit window l.0.0 l.0.1 without all in
       let rest = f (admit window l.0.0 l.0.1 without) one.0 in
@@ -201,20 +201,20 @@ module _ (proxy : ℕ) (version : ℤ) where
       let y = rest.1 in
       (rest.0, omega (arith, x, y))
 
-  count_told : (held : List Held)
-      → count_of is_answer (map (λ (h : Held). (h.0, told.Held h.1.version)) held) ≡ count_of is_held held
-  count_told [] = refl
-  count_told (h ∷ hs) =
-      let x = count_first is_answer (h.0, told.Held h.1.version)
-      (map (λ (h : Held). (h.0, told.Held h.1.version)) hs) in
+  count_reported : (held : List Held)
+      → count_of is_answer (map (λ (h : Held). (h.0, reported.Held h.1.version)) held) ≡ count_of is_held held
+  count_reported [] = refl
+  count_reported (h ∷ hs) =
+      let x = count_first is_answer (h.0, reported.Held h.1.version)
+      (map (λ (h : Held). (h.0, reported.Held h.1.version)) hs) in
       let y = count_first is_held h hs in
-      let z = count_told hs in
+      let z = count_reported hs in
       omega (arith, x, y, z)
 
   sees_finish : (window : ℤ) (s : State) → All HasVersion s.processed → Sees s (step window Finish s) 0
   sees_finish window s all =
-      let x = count_both is_answer s.answered (map (λ (h : Held). (h.0, told.Held h.1.version)) s.held) in
-      let y = count_told s.held in
+      let x = count_both is_answer s.answered (map (λ (h : Held). (h.0, reported.Held h.1.version)) s.held) in
+      let y = count_reported s.held in
       (all, omega (arith, x, y))
 
   -- the batches of the version that a log takes from the proxy

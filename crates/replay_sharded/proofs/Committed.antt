@@ -12,7 +12,7 @@ use Rattle.keyspace.specs.declared.reply.Reply.{Reply}
 use Rattle.keyspace.specs.declared.reply.Verdict.TheVariants.{Committed}
 use Rattle.keyspace.specs.Processed.{Processed}
 use Rattle.keyspace.specs.Run.{Step, run}
-use Rattle.serial.specs.Replies.{AnswersTellVerdicts, IsCommittedAt, ReportsCommitted}
+use Rattle.serial.specs.Replies.{AnswersReportVerdicts, IsCommittedAt, ReportsCommitted}
 use Rattle.serial.specs.Serial.{IsSerializable}
 use Rattle.serial.specs.Shards.{IsRising, Shard, shards}
 use Rattle.serial.proofs.callers.Reading.{partner, some_at, split_at, the_value}
@@ -73,7 +73,7 @@ entries_of window sent shard log own p c is =
     let judged = (own.chain (take at.0 chain) c (drop (suc at.0) chain) (split_at chain at.0 c at.1)).judged in
     judged.count ∙ zip_length (IsTxnClip shard) p.batch.txns c.batch.txns is.clip.txns
 
-module _ (tell : AnswersTellVerdicts) (points : List (List ℕ)) (window : ℤ) (sent : List (List Batch)) (logs : List (List Step))
+module _ (known_verdicts : AnswersReportVerdicts) (points : List (List ℕ)) (window : ℤ) (sent : List (List Batch)) (logs : List (List Step))
     (together : List (List Answer)) (count : length together ≡ length sent)
     (of : AllZip (IsLogOfShard window sent) (shards points) logs) (merged : AreMergedOf points window sent logs together)
     (once : SendsOnce sent) (ps : List Processed) (are : AreReplied sent together ps) where
@@ -85,7 +85,7 @@ module _ (tell : AnswersTellVerdicts) (points : List (List ℕ)) (window : ℤ) 
       let chain = (run window log).processed in
       let parts =
       choose Part ps (λ place p at.
-      part_of tell points window sent logs together count of merged once shard log among own p (are.each p (is_in ps place p at))) in
+      part_of known_verdicts points window sent logs together count of merged once shard log among own p (are.each p (is_in ps place p at))) in
       let rises =
       rises_same (negsuc 0) ps parts.0 (zip_weaker Part HasVersionOf (λ p c is. is.clip.version) ps parts.0 parts.1) are.rises in
       let inside =
@@ -115,14 +115,14 @@ module _ (tell : AnswersTellVerdicts) (points : List (List ℕ)) (window : ℤ) 
   one_of i p at is version same log own s list replied =
       let c = partner (IsPartOf window list.shard log) ps own list.parts i p at in
       some_at (λ (c : Processed). s.reply ≡ c.reply) (slice_get own i) c.0 c.1
-      (one_each tell window log p.proxy s.reply c.0.reply replied.received c.2.received
+      (one_each known_verdicts window log p.proxy s.reply c.0.reply replied.received c.2.received
       (replied.at_version ∙ (sym same ∙ (is.version ∙ sym c.2.at_version))))
 
   -- a combined reply to a proxy is that of all shards
   combined : (p : Processed) (is : IsOfTogether sent together p) (reply : Reply) → IsIn is.received (answer.Reply reply)
       → IsOfAll window logs p.proxy reply
   combined p is reply inside =
-      all_of tell points window sent logs together count of merged p.proxy is.own is.received reply is.sent_at is.at inside
+      all_of known_verdicts points window sent logs together count of merged p.proxy is.own is.received reply is.sent_at is.at inside
 
   module _ (first : Shard) (log : List Step) (among : IsIn logs log) (own : IsLogOfShard window sent first log) where
     -- it has an entry per transaction
@@ -130,9 +130,9 @@ module _ (tell : AnswersTellVerdicts) (points : List (List ℕ)) (window : ℤ) 
         → reply.version ≡ p.batch.version → length reply.entries ≡ length p.batch.txns
     count_of p is reply all same =
         let s = partner_of (IsReplied window p.proxy all.version) logs all.each all.of_shards log among in
-        let c = part_of tell points window sent logs together count of merged once first log among own p is in
+        let c = part_of known_verdicts points window sent logs together count of merged once first log among own p is in
         let one : s.0.reply ≡ c.0.reply =
-        one_each tell window log p.proxy s.0.reply c.0.reply s.2.received c.1.received
+        one_each known_verdicts window log p.proxy s.0.reply c.0.reply s.2.received c.1.received
         (s.2.at_version ∙ (sym all.together.version ∙ (same ∙ sym c.1.at_version))) in
         sym (of_all_in (λ (t : ShardReply). length t.reply.entries ≡ length reply.entries) all.each s.0 all.together.count s.1)
         ∙ (ap (λ (r : Reply). length r.entries) one ∙ entries_of window sent first log own p c.0 c.1)
@@ -171,7 +171,7 @@ module _ (tell : AnswersTellVerdicts) (points : List (List ℕ)) (window : ℤ) 
         let zip : AllZip HasSameReply one.each other.each =
         zip_beside (IsReplied window p.proxy one.version) (IsReplied window p.proxy other.version) HasSameReply logs one.each
         other.each
-        (λ log s t inside first second. one_each tell window log p.proxy s.reply t.reply first.received second.received
+        (λ log s t inside first second. one_each known_verdicts window log p.proxy s.reply t.reply first.received second.received
         (first.at_version
         ∙ (sym one.together.version
         ∙ (sym entry.3 ∙ (sym is.version ∙ (other.together.version ∙ sym second.at_version))))))
@@ -223,17 +223,17 @@ first_log window sent [] rest one zip = absurd (omega (arith, one))
 first_log window sent (shard ∷ some) [] one zip = absurd zip
 first_log window sent (shard ∷ some) (log ∷ rest) one zip = (shard, log, inl refl, zip.0)
 
-pub serializable : AnswersTellVerdicts → AreSerializableAmongOthers → (points : List (List ℕ)) (window : ℤ) (sent : List (List Batch))
+pub serializable : AnswersReportVerdicts → AreSerializableAmongOthers → (points : List (List ℕ)) (window : ℤ) (sent : List (List Batch))
     (logs : List (List Step)) (together : List (List Answer)) → IsRising [] points → length together ≡ length sent
     → AllZip (IsLogOfShard window sent) (shards points) logs → AreMergedOf points window sent logs together → SendsOnce sent
     → CommitsSerializably sent together
-serializable tell law points window sent logs together rising count of merged once =
+serializable known_verdicts law points window sent logs together rising count of merged once =
     let first = first_log window sent (shards points) logs (some_shard [] points) of in
-    let found = replied_batches tell points window sent logs together count of merged first.0 first.1 first.2 first.3 in
+    let found = replied_batches known_verdicts points window sent logs together count of merged first.0 first.1 first.2 first.3 in
     let ps = found.0 in
     let are = found.1 in
     let lists =
-    own_lists tell points window sent logs together count of merged once ps are (shards points) logs of (λ log inside. inside) in
+    own_lists known_verdicts points window sent logs together count of merged once ps are (shards points) logs of (λ log inside. inside) in
     record {
       processed = ps;
       were_sent =
@@ -251,9 +251,9 @@ serializable tell law points window sent logs together rising count of merged on
         chains = zip_second (IsOwnList window ps) (IsOfChain window) (λ log own list. list.of_chain) logs lists.0 lists.2;
         clips = λ m shard own at there. zip_at (AreClips ps) (shards points) lists.0 m shard own lists.1 at there;
         replies =
-            replies_to tell points window sent logs together count of merged once ps are first.0 first.1 first.2 first.3 lists.0
+            replies_to known_verdicts points window sent logs together count of merged once ps are first.0 first.1 first.2 first.3 lists.0
             lists.2;
       });
-      reported = reported tell points window sent logs together count of merged once ps are first.0 first.1 first.2 first.3;
-      all_reported = all_reported tell points window sent logs together count of merged once ps are;
+      reported = reported known_verdicts points window sent logs together count of merged once ps are first.0 first.1 first.2 first.3;
+      all_reported = all_reported known_verdicts points window sent logs together count of merged once ps are;
     }

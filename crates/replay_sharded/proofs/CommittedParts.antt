@@ -12,7 +12,7 @@ use Rattle.keyspace.specs.declared.batch.Batch.{Batch}
 use Rattle.keyspace.specs.declared.reply.Reply.{Reply}
 use Rattle.keyspace.specs.Processed.{Processed}
 use Rattle.keyspace.specs.Run.{Step, answers, part, run}
-use Rattle.serial.specs.Replies.{AnswersTellVerdicts}
+use Rattle.serial.specs.Replies.{AnswersReportVerdicts}
 use Rattle.serial.specs.Shards.{Shard, shards}
 use Rattle.shards.specs.Clips.{IsBatchClip}
 use Rattle.replay_workers.proofs.callers.Lists.{found}
@@ -115,7 +115,7 @@ pub record AreReplied (sent : List (List Batch)) (together : List (List Answer))
       (proxy : ℕ) (received : List Answer) (reply : Reply) → slice_get together proxy ≡ Some received
       → IsIn received (answer.Reply reply) → (p : Processed) × IsIn ps p × (p.proxy ≡ proxy) × (p.batch.version ≡ reply.version)
 
-module _ (tell : AnswersTellVerdicts) (points : List (List ℕ)) (window : ℤ) (sent : List (List Batch)) (logs : List (List Step))
+module _ (known_verdicts : AnswersReportVerdicts) (points : List (List ℕ)) (window : ℤ) (sent : List (List Batch)) (logs : List (List Step))
     (together : List (List Answer)) (count : length together ≡ length sent)
     (of : AllZip (IsLogOfShard window sent) (shards points) logs) (merged : AreMergedOf points window sent logs together) where
   -- a reply to the proxy is that of all shards
@@ -132,13 +132,13 @@ module _ (tell : AnswersTellVerdicts) (points : List (List ℕ)) (window : ℤ) 
   part_of once shard log among own p is =
       let all = all_of p.proxy is.own is.received p.reply is.sent_at is.at is.replied in
       let s = partner_of (IsReplied window p.proxy all.version) logs all.each all.of_shards log among in
-      let entry = entry_of tell window log p.proxy s.0.reply s.2.received in
+      let entry = entry_of known_verdicts window log p.proxy s.0.reply s.2.received in
       let e = entry.0 in
       let at_version : s.0.reply.version ≡ p.batch.version = s.2.at_version ∙ (sym all.together.version ∙ is.version) in
       let sent_at : slice_get sent e.proxy ≡ Some is.own = ap (λ (proxy : ℕ). slice_get sent proxy) entry.2 ∙ is.sent_at in
       let original =
       partner_before (IsBatchClip shard) is.own (part log e.proxy) (own.clips e.proxy is.own sent_at) e.batch
-      (taken tell window log e entry.1) in
+      (taken known_verdicts window log e entry.1) in
       let same : original.0 ≡ p.batch =
       once p.proxy is.own original.0 p.batch is.sent_at (contains is.own original.0 original.1) (contains is.own p.batch is.is_sent)
       (sym original.2.version ∙ (entry.3 ∙ at_version)) in (
@@ -166,7 +166,7 @@ module _ (tell : AnswersTellVerdicts) (points : List (List ℕ)) (window : ℤ) 
         let of_proxy = found together sent e.proxy answered.0 (sym count) answered.1 in
         let original =
         partner_before (IsBatchClip shard) of_proxy.0 (part log e.proxy) (own.clips e.proxy of_proxy.0 of_proxy.1) e.batch
-        (taken tell window log e inside) in
+        (taken known_verdicts window log e inside) in
         let same : original.0.version ≡ e.batch.version = sym original.2.version in (
           record { proxy = e.proxy; batch = original.0; reply = reply.0 },
           record {
@@ -202,7 +202,7 @@ module _ (tell : AnswersTellVerdicts) (points : List (List ℕ)) (window : ℤ) 
                 let of_proxy = found together sent proxy received (sym count) at in
                 let every = all_of proxy of_proxy.0 received reply of_proxy.1 at inside in
                 let s = partner_of (IsReplied window proxy every.version) logs every.each every.of_shards log among in
-                let entry = entry_of tell window log proxy s.0.reply s.2.received in
+                let entry = entry_of known_verdicts window log proxy s.0.reply s.2.received in
                 let e = entry.0 in
                 let same : e.batch.version ≡ reply.version = entry.3 ∙ (s.2.at_version ∙ sym every.together.version) in
                 let Test : List Answer → Bool = λ l. list_any (replies_at e.batch.version) l in

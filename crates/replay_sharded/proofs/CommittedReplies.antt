@@ -13,7 +13,7 @@ use Rattle.keyspace.specs.declared.reply.Reply.{Reply}
 use Rattle.keyspace.specs.Answer.{version_of_answer}
 use Rattle.keyspace.specs.Processed.{Processed}
 use Rattle.keyspace.specs.Run.{Step, answers, part, run}
-use Rattle.serial.specs.Replies.{AnswersTellVerdicts, IsReplyTo}
+use Rattle.serial.specs.Replies.{AnswersReportVerdicts, IsReplyTo}
 use Rattle.shards.specs.declared.shard_reply.ShardReply.{ShardReply}
 use Rattle.replay_shards.specs.declared.note.Note.{Note}
 use Rattle.replay_shards.specs.Answers.{AreOfOneBatch, FitsIn, HaveReplied, IsHeld, IsNever, IsReplyTogether, noted}
@@ -164,11 +164,11 @@ module _ (window : ℤ) (logs : List (List Step)) (proxy : ℕ) where
       }
 
 -- What a reply of one shard says of its log.
-module _ (tell : AnswersTellVerdicts) (window : ℤ) (log : List Step) where
+module _ (known_verdicts : AnswersReportVerdicts) (window : ℤ) (log : List Step) where
   reply_to : (proxy : ℕ) (reply : Reply) → IsIn (answers window log proxy) (answer.Reply reply)
       → IsReplyTo window log proxy (part log proxy) reply
   reply_to proxy reply among =
-      tell.replies window log proxy (part log proxy) [] (sym (append-nil (part log proxy))) reply
+      known_verdicts.replies window log proxy (part log proxy) [] (sym (append-nil (part log proxy))) reply
       (contains (answers window log proxy) (answer.Reply reply) among)
 
   -- it is that of a batch which was processed
@@ -196,5 +196,5 @@ module _ (tell : AnswersTellVerdicts) (window : ℤ) (log : List Step) where
   pub taken : (entry : Processed) → IsIn (run window log).processed entry → IsIn (part log entry.proxy) entry.batch
   taken entry among =
       let at = index_of (run window log).processed entry among in
-      let is = tell.sent window log at.0 entry at.1 (part log entry.proxy) [] (sym (append-nil (part log entry.proxy))) in
+      let is = known_verdicts.sent window log at.0 entry at.1 (part log entry.proxy) [] (sym (append-nil (part log entry.proxy))) in
       is_in (part log entry.proxy) (length (part is.before entry.proxy)) entry.batch is.next

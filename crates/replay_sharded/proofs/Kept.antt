@@ -21,9 +21,9 @@ use Rattle.replay_sharded.specs.Runs.{lines_by}
 
 -- a line in a style that keeps answers keeps its answer
 kept_line : (style : Style) (proxy : ℕ) (l : Line) → style.form ≡ Kept → IsLineOf style proxy l → IsKept l
-kept_line style proxy l is told = record {
-  counted = told.counted;
-  reply = told.kept ∙ ap (λ (form : Form). kept_of form (answer_of l)) is;
+kept_line style proxy l is reported = record {
+  counted = reported.counted;
+  reply = reported.kept ∙ ap (λ (form : Form). kept_of form (answer_of l)) is;
 }
 
 pub kept_run : {X : Type 0} (Gives : X → X → Batch → Type 0) (IsEnd : X → Type 0) (IsFault : X → WireError → Type 0)
@@ -39,4 +39,4 @@ kept_run Gives IsEnd IsFault KeptOf options streams received failures complete s
     let first = found received streams k own.lines.items (sym run.received_count) at in
     let failure = found received failures k own.lines.items (run.failures_count ∙ sym run.received_count) at in
     let served = run.each k first.0 own.lines.items failure.0 first.1 at failure.1 in
-    λ j e inside. kept_line options.style k (slice_index_or own.lines.items j e) is (served.lines_told j e inside)
+    λ j e inside. kept_line options.style k (slice_index_or own.lines.items j e) is (served.lines_reported j e inside)

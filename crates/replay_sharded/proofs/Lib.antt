@@ -5,7 +5,7 @@ pub mod Kept
 pub mod Works
 pub mod Sizes
 pub mod SameFile
-pub mod Whole
+pub mod EntireRuns
 pub mod Logs
 pub mod Merged
 pub mod Resolved

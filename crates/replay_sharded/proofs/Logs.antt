@@ -28,7 +28,7 @@ use Rattle.replay_sharded.specs.Sharded.{HasRead, HasReadFiles, HaveAllRead, Sha
 use Rattle.replay_sharded.proofs.SameFile.{HasOneSpelling, same_batches}
 use Rattle.replay_sharded.proofs.Sizes.{some_shard}
 use Rattle.replay_sharded.proofs.Taking.{zip_length}
-use Rattle.replay_sharded.proofs.Whole.{IsWhole, originals_of}
+use Rattle.replay_sharded.proofs.EntireRuns.{IsEntire, originals_of}
 
 pub same_file : HasOneSpelling → (file : Option (List ℕ)) (one other : List Batch) → IsKnown file → IsFileOf file one → IsFileOf file other
     → one ≡ other
@@ -81,16 +81,16 @@ IsReadOf shard run log_part proxy own =
 
 -- what a shard has read of a file: the clips of all its batches
 pub file_read : (options : Options) (files : List (Option (List ℕ))) (shard : Shard) (run : ShardRun)
-    (ran : IsRunOfShard options files shard run) → IsWhole run → (proxy : ℕ) (file : Option (List ℕ))
+    (ran : IsRunOfShard options files shard run) → IsEntire run → (proxy : ℕ) (file : Option (List ℕ))
     → slice_get files proxy ≡ Some file
     → (own : List Batch) × IsFileOf file own × IsReadOf shard run (part ran.log) proxy own
-file_read options files shard run ran whole proxy file at =
+file_read options files shard run ran entire proxy file at =
     let first = mapped_at unread files proxy file at in
     let lines = found (map unread files) (map lines_by run.answered.items) proxy (unread file) ran.received_count first in
     let failure = found (map unread files) run.failures.items proxy (unread file) ran.failures_count first in
     let served = ran.each proxy (unread file) lines.0 failure.0 first lines.1 failure.1 in
-    let all = served.all_batches whole.complete in
-    let clean = all_at IsClean run.failures.items proxy failure.0 whole.clean failure.1 in
+    let all = served.all_batches entire.complete in
+    let clean = all_at IsClean run.failures.items proxy failure.0 entire.clean failure.1 in
     let batches = originals_of shard (unread file) served.left served.read served.frames_read in (
       batches.0,
       record { left = served.left.bytes; frames = batches.1; at_end = served.all_read all clean.0 },
@@ -114,10 +114,10 @@ noted (Some answered) notes is = ap (λ (l : List Note). Some l) is
 
 -- the log takes the clips of the batches that the shard has read of the files
 pub has_read : (options : Options) (files : List (Option (List ℕ))) (shard : Shard) (run : ShardRun)
-    (ran : IsRunOfShard options files shard run) → IsWhole run
+    (ran : IsRunOfShard options files shard run) → IsEntire run
     → HasReadFiles options.window files shard (shard_log options files shard run ran)
-has_read options files shard run ran whole =
-    let read = choose_at IsFileOf (IsReadOf shard run (part ran.log)) files (file_read options files shard run ran whole) in (
+has_read options files shard run ran entire =
+    let read = choose_at IsFileOf (IsReadOf shard run (part ran.log)) files (file_read options files shard run ran entire) in (
       read.0,
       read.1,
       record {
@@ -127,7 +127,7 @@ has_read options files shard run ran whole =
               ran.proxies;
           clips = λ proxy own at. (read.2 proxy own at).0;
           chain = ran.chain;
-          finish = ran.finish (ran.no_stop whole.complete);
+          finish = ran.finish (ran.no_stop entire.complete);
         };
         notes = λ proxy own at.
             slice_get-map notes_by run.answered.items proxy
@@ -137,14 +137,14 @@ has_read options files shard run ran whole =
 
 -- of each shard
 abbrev pub logs_of : (options : Options) (files : List (Option (List ℕ))) (shards : List Shard) (runs : List ShardRun)
-    → AllZip (IsRunOfShard options files) shards runs → All IsWhole runs
+    → AllZip (IsRunOfShard options files) shards runs → All IsEntire runs
     → (logs : List ShardLog) × AllZip (HasReadFiles options.window files) shards logs
-logs_of options files [] [] ran whole = ([], tt)
-logs_of options files [] (run ∷ runs) ran whole = absurd ran
-logs_of options files (shard ∷ shards) [] ran whole = absurd ran
-logs_of options files (shard ∷ shards) (run ∷ runs) ran whole =
-    let log = has_read options files shard run ran.0 (All-head IsWhole run runs whole) in
-    let rest = logs_of options files shards runs ran.1 (All-tail IsWhole run runs whole) in
+logs_of options files [] [] ran entire = ([], tt)
+logs_of options files [] (run ∷ runs) ran entire = absurd ran
+logs_of options files (shard ∷ shards) [] ran entire = absurd ran
+logs_of options files (shard ∷ shards) (run ∷ runs) ran entire =
+    let log = has_read options files shard run ran.0 (All-head IsEntire run runs entire) in
+    let rest = logs_of options files shards runs ran.1 (All-tail IsEntire run runs entire) in
     (shard_log options files shard run ran.0 ∷ rest.0, (log, rest.1))
 
 -- known bytes are read in one way

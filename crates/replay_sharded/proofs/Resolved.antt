@@ -38,7 +38,7 @@ use Rattle.replay_sharded.proofs.Logs.{known_read, logs_of}
 use Rattle.replay_sharded.proofs.Merged.{all_same}
 use Rattle.replay_sharded.proofs.SameFile.{HasOneSpelling}
 use Rattle.replay_sharded.proofs.Taking.{zip_length}
-use Rattle.replay_sharded.proofs.Whole.{all_whole}
+use Rattle.replay_sharded.proofs.EntireRuns.{all_entire}
 
 -- the notes of the batches that the proxy has sent
 abbrev pub notes_by_shard : List (List ℕ) → List Batch → List (List Note)
@@ -83,7 +83,7 @@ module _ (window : ℤ) (sent : List (List Batch)) where
       (get_or_from_slice_get one.notes proxy (notes_of shard own) [] (each.0.notes proxy own at))
       ∙ ap (λ (l : List (List Note)). notes_of shard own ∷ l) (notes_each proxy own at shards logs each.1)
 
-pub resolved_but : HasOneSpelling → (points : List (List ℕ)) (options : Options) (files : List (Option (List ℕ))) (combined : Combined)
+pub resolved_except : HasOneSpelling → (points : List (List ℕ)) (options : Options) (files : List (Option (List ℕ))) (combined : Combined)
     → IsRising [] points → AreRunsTogether points options files combined → HasAllAnswers combined
     → ((sent : List (List Batch)) (logs : List (List Step))
     → AllZip (IsLogOfShard options.window sent) (shards points) logs
@@ -92,10 +92,10 @@ pub resolved_but : HasOneSpelling → (points : List (List ℕ)) (options : Opti
     → AreAllAnswered sent (map answers_of (map vec_items combined.lines.items))
     × (SendsOnce sent → CommitsSerializably sent (map answers_of (map vec_items combined.lines.items))))
     → IsResolvedByShards points options.window files (map answers_of (map vec_items combined.lines.items))
-resolved_but law points options files combined rising runs all rest =
+resolved_except law points options files combined rising runs all rest =
     let lines = map vec_items combined.lines.items in
-    let whole = all_whole options.style (length files) runs.runs combined runs.together all runs.proxies in
-    let logs = logs_of (keeping options) files (shards points) runs.runs runs.each whole in
+    let entire = all_entire options.style (length files) runs.runs combined runs.together all runs.proxies in
+    let logs = logs_of (keeping options) files (shards points) runs.runs runs.each entire in
     let count : length lines ≡ length files =
     length-map combined.lines.items vec_items
     ∙ (sym combined.lines.ok.0 ∙ runs.together.lines_count (length files) runs.proxies) in
@@ -111,7 +111,7 @@ resolved_but law points options files combined rising runs all rest =
     let together = runs.together.each proxy of_proxy.0 failure.0 of_proxy.1 failure.1 in
     let clean = all_at IsClean combined.failures.items proxy failure.0 all.clean failure.1 in
     let both =
-    all_same (keeping options) files proxy file.0 file.1 (shards points) runs.runs runs.each whole together.each together.of_runs in
+    all_same (keeping options) files proxy file.0 file.1 (shards points) runs.runs runs.each entire together.each together.of_runs in
     subst (λ (l : List Answer). AreMerged (answers_by_shard options.window (map log_of logs.0) proxy) (map (notes_kept proxy) logs.0) l)
     same
     (subst (λ (l : List (List Note)). AreMerged (answers_by_shard options.window (map log_of logs.0) proxy) l (answers_of of_proxy.0))

@@ -6,7 +6,7 @@ use Rattle.std.specs.Io.KnownBytes.{IsAtEnd}
 use Rattle.keyspace.specs.declared.batch.Batch.{Batch}
 use Rattle.wire.specs.declared.version.WireVersion.{WireVersion}
 use Rattle.wire.specs.NextFrame.{TakesFrame}
-use Rattle.wire.specs.Reading.{version_told}
+use Rattle.wire.specs.Reading.{version_at_front}
 use Rattle.wire.specs.Spelling.{SpellsBatch}
 use Rattle.replay_workers.specs.Batches.{GivesEach}
 
@@ -22,7 +22,7 @@ one_frame law bytes None right a b one other = absurd one.2
 one_frame law bytes (Some ys) None a b one other = absurd other.2
 one_frame law bytes (Some ys) (Some zs) a b one other =
     let same =
-    law (version_told one.0) (version_told other.0) one.0 other.0 ys zs a b one.1 other.1 (sym one.2 ∙ other.2) in
+    law (version_at_front one.0) (version_at_front other.0) one.0 other.0 ys zs a b one.1 other.1 (sym one.2 ∙ other.2) in
     let rest : one.0 ++ ys ≡ one.0 ++ zs =
     sym one.2 ∙ (other.2 ∙ ap (λ (front : List ℕ). front ++ zs) (sym same.1)) in
     (same.2, ap (λ (l : List ℕ). Some l) (append_cancel_left one.0 ys zs rest))
@@ -35,8 +35,8 @@ no_frame : (left : Option (List ℕ)) (b : Batch) → TakesFrame (Some []) left 
 no_frame None b takes = takes.2
 no_frame (Some ys) b takes = go takes.0 takes.1 takes.2
   where
-    go : (front : List ℕ) → SpellsBatch (version_told front) front b → [] ≡ front ++ ys → ⊥
-    go [] spelled is = some_byte (version_told []) b [] spelled
+    go : (front : List ℕ) → SpellsBatch (version_at_front front) front b → [] ≡ front ++ ys → ⊥
+    go [] spelled is = some_byte (version_at_front []) b [] spelled
     go (x ∷ front) spelled is = cc
 
 pub same_batches : HasOneSpelling → (bytes : List ℕ) (left right : Option (List ℕ)) (some other : List Batch)

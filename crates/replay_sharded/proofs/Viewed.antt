@@ -51,13 +51,13 @@ module _ {X Y : Type 0} (view : X → Y) (Holds : X → Type 0) (Given : X → X
           batches = served.batches;
           all_batches = served.all_batches;
           all_unless_worn = served.all_unless_worn;
-          all_read = λ whole clean. ends served.left (served.all_read whole clean);
+          all_read = λ entire clean. ends served.left (served.all_read entire clean);
           first_fault = fault_viewed served.left failure.fault served.first_fault;
           received = served.received;
           all_received = served.all_received;
           all_before_last = served.all_before_last;
           reported = served.reported;
-          lines_told = served.lines_told;
+          lines_reported = served.lines_reported;
         }
 
     pub run_viewed : (Kept : ℕ → X → Type 0) (KeptOf : ℕ → Y → Type 0)

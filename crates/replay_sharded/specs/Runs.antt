@@ -6,14 +6,14 @@ use Rattle.serial.specs.Shards.{Shard, shards}
 use Rattle.replay_output.specs.declared.line.Line.{Line}
 use Rattle.replay_output.specs.declared.options.Options.{Options}
 use Rattle.replay_output.specs.declared.options.form.Form.TheVariants.{Kept}
-use Rattle.replay_output.specs.Filter.{all_lines}
+use Rattle.replay_output.specs.LineFilter.{all_lines}
 use Rattle.replay_workers.specs.Run.{IsRunOver}
 use Rattle.replay_workers.specs.Worker.{IsFaultAt}
 use Rattle.replay_shards.specs.declared.answered.Answered.{Answered}
 use Rattle.replay_shards.specs.Answered.{AreKept}
 use Rattle.replay_shards.specs.declared.clips.Clips.{Clips}
 use Rattle.replay_shards.specs.declared.note.Note.{Note}
-use Rattle.replay_sharded.specs.declared.runs.Started.{Started}
+use Rattle.replay_sharded.specs.declared.runs.StartedShards.{StartedShards}
 use Rattle.replay_sharded.specs.declared.shard_run.ShardRun.{ShardRun}
 use Rattle.replay_sharded.specs.Files.{AreClipsOf, Reading, TakesClip, unread}
 
@@ -52,5 +52,5 @@ module _ {S : Type 0} where
     pub kept : options.style.form ≡ Kept → All AreKept run.answered.items
 
   -- the arguments of the thread of a shard
-  abbrev pub given_to : Started S → Options × List (Clips S)
+  abbrev pub given_to : StartedShards S → Options × List (Clips S)
   given_to shard = (shard.handle.promise.options, shard.handle.promise.clips.value.items)

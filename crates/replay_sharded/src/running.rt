@@ -21,8 +21,8 @@ use wire::Source;
 /// Runs a resolver per shard over all files, each shard beside the others, and combines their
 /// answers once all runs have ended. Every file is read once per shard.
 ///
-/// The memory for the runs is taken before the first thread is started. If memory is refused for the
-/// combined answers to a proxy, it has a loss.
+/// The memory for the runs is taken before the first thread is started. If memory is refused for
+/// the combined answers to a proxy, it has a loss.
 pub fn run_sharded<
     S: Source + Send + Drop + 'static,
     G: Gatekeeper + ShareKeeper + Send + Sync + Drop + 'static,
@@ -37,10 +37,10 @@ pub fn run_sharded<
         → All (ReadTheFiles S.remaining files) (map vec_items sharded.readers.items)
         → IfOk result (AreRunsTogether sharded.points options files) }
 
-    // If nothing has failed, the combined answers are those of one log per shard. If all shards have
-    // read the same batches of each file, every batch has its combined answer, and what these report
-    // as committed is serializable. Of a file whose bytes aren't known, two shards may read different
-    // batches.
+    // If nothing has failed, the combined answers are those of one log per shard. If all shards
+    // have read the same batches of each file, every batch has its combined answer, and what these
+    // report as committed is serializable. Of a file whose bytes aren't known, two shards may read
+    // different batches.
     ensures resolved { (files : List (Option (List ℕ)))
         → All (ReadTheFiles S.remaining files) (map vec_items sharded.readers.items)
         → IfOk result (λ combined. HasAllAnswers combined
@@ -51,7 +51,7 @@ pub fn run_sharded<
     ensures proxies { IfOk result (λ combined. (vec_len combined.lines ≡ sharded.proxies)
         × (vec_len combined.failures ≡ sharded.proxies)) }
 {
-    serial::laws::answers_tell_verdicts();
+    serial::laws::answers_report_verdicts();
     shards::laws::serializable_among_others();
     wire::laws::one_spelling();
     let ShardedReaders {

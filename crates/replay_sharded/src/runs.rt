@@ -35,7 +35,7 @@ impl<S: Source> Promise<Result<ShardRun, StartError>> for Promised<S> {
 
 /// A shard whose run was started, and its clips.
 #[derive(Drop)]
-pub struct Started<S: Source> {
+pub struct StartedShards<S: Source> {
     handle: PromisedHandle<Result<ShardRun, StartError>, Promised<S>>,
 }
 
@@ -97,7 +97,7 @@ fn start<
     clips: Vec<Clips<S>>,
     options: Options,
     gatekeeper: Arc<G, Global>,
-) -> Result<Started<S>, StartError>
+) -> Result<StartedShards<S>, StartError>
     requires least { 1 ≤ vec_len clips }
     requires most { vec_len clips ≤ MAX_PROXIES }
     requires fresh { All (λ own. refusal_of_clips own ≡ None) clips.items }
@@ -116,16 +116,16 @@ fn start<
         ensures run { IfOk result (IsWorkOf S.remaining options clips.items) }
     { run_shard(&there, alloc, clips, options, &gatekeeper) };
     match thread::spawn_with(rt, promise, run) {
-        Ok(handle) => Ok(Started { handle }),
+        Ok(handle) => Ok(StartedShards { handle }),
         Err(_) => Err(StartError::Thread),
     }
 }
 
-// Joins all runs, in order, and puts what became of them into an empty vector with room for all. The
-// error is that of the first run that could not start. Takes no memory.
+// Joins all runs, in order, and puts what became of them into an empty vector with room for all.
+// The error is that of the first run that could not start. Takes no memory.
 fn join_all<S: Source, R: Threads>(
     rt: &R,
-    started: Vec<Started<S>>,
+    started: Vec<StartedShards<S>>,
     room: Vec<ShardRun>,
 ) -> Result<Vec<ShardRun>, StartError>
     requires empty { room.items ≡ [] }

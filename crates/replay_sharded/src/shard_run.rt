@@ -10,7 +10,7 @@ ghost use Rattle.replay_sharded.specs.Runs.{IsWorkOf, lines_by, notes_by};
 use observer::Unobserved;
 use replay_output::{Line, Options, ProxyFailure, StartError};
 use replay_shards::{Answered, Clips};
-use replay_workers::{Gatekeeper, Outcome, ShareKeeper, run_over};
+use replay_workers::{Gatekeeper, RunOutcome, ShareKeeper, run_over};
 use resolver::{MAX_PROXIES, Stop};
 use std::alloc::Global;
 use std::sync::{Arc, Wait};
@@ -29,8 +29,8 @@ pub struct ShardRun {
     pub stop: Option<Stop>,
 }
 
-/// Runs a shard: its workers send the clips of all files, and its resolver is turned in this thread.
-/// The options keep the answers.
+/// Runs a shard: its workers send the clips of all files, and its resolver is turned in this
+/// thread. The options keep the answers.
 pub fn run_shard<
     S: Source + Send + Drop + 'static,
     G: Gatekeeper + ShareKeeper + Send + Sync + Drop + 'static,
@@ -56,7 +56,7 @@ pub fn run_shard<
         gatekeeper,
         &mut Unobserved,
     )?;
-    let Outcome {
+    let RunOutcome {
         lines,
         failures,
         all_sent,
@@ -79,8 +79,8 @@ fn is_complete(all_taken: bool, all_sent: bool) -> bool
     all_taken && all_sent
 }
 
-// Puts the lines of each proxy and the notes of its clips together, in an empty vector with room for
-// all. Takes no memory.
+// Puts the lines of each proxy and the notes of its clips together, in an empty vector with room
+// for all. Takes no memory.
 fn answered_each<S: Source + Drop>(
     room: Vec<Answered>,
     lines: Vec<Vec<Line>>,

@@ -22,18 +22,18 @@ taken_version w (x ∷ answers) a at =
     ]
 
 complete_more : (n : ℕ) (m : Match) (a : Answer) → IsComplete n m → version_of_answer a ≡ m.version → IsComplete (n + 1) (more m a)
-complete_more n m a whole of_version =
-    let count = whole.as_many in
+complete_more n m a entire of_version =
+    let count = entire.as_many in
     record {
       as_many = length-append m.answers (a ∷ []) ∙ ap (λ k. k + 1) count;
-      of_version = All-push (λ (a : Answer). version_of_answer a ≡ m.version) m.answers a whole.of_version of_version;
+      of_version = All-push (λ (a : Answer). version_of_answer a ≡ m.version) m.answers a entire.of_version of_version;
     }
 
 complete_one : (n : ℕ) (m : Match) (o : Option Answer) (ms : List Match) → IsComplete n m
     → ((a : Answer) → o ≡ Some a → version_of_answer a ≡ m.version) → All (IsComplete (n + 1)) ms
     → All (IsComplete (n + 1)) (with_answer m o ++ ms)
-complete_one n m None ms whole taken all = all
-complete_one n m (Some a) ms whole taken all = All-cons (IsComplete (n + 1)) (more m a) ms (complete_more n m a whole (taken a refl)) all
+complete_one n m None ms entire taken all = all
+complete_one n m (Some a) ms entire taken all = All-cons (IsComplete (n + 1)) (more m a) ms (complete_more n m a entire (taken a refl)) all
 
 complete_next : (n : ℕ) (ms : List Match) (left : List Answer) → All (IsComplete n) ms → All (IsComplete (n + 1)) (match_next ms left)
 complete_next n [] left all = All-nil (IsComplete (n + 1))

@@ -19,7 +19,7 @@ pub struct Note {
 }
 
 impl Versioned for Note {
-    ghost version_told = { version_of_note };
+    ghost item_version = { version_of_note };
 
     fn version(&self) -> i64 {
         self.version

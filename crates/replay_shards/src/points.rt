@@ -9,7 +9,7 @@ ghost use Rattle.shards.specs.declared.split_points.TheConstants.{MAX_SPLIT_POIN
 ghost use Rattle.replay_shards.specs.Points.{ArePointLines, IsPointLine};
 ghost use Rattle.replay_shards.specs.declared.points.PointsError.TheVariants.{Memory};
 
-use json_lines::{Cause, Refusal, read_key};
+use json_lines::{Cause, LineRefusal, read_key};
 use keys::Key;
 use replay_output::Status;
 use shards::{SplitPoints, SplitPointsError};
@@ -24,7 +24,7 @@ pub enum PointsError {
     CannotOpen,
     /// A line isn't a key in its printed form.
     #[error("line {0}: {1}")]
-    Line(u64, Refusal),
+    Line(u64, LineRefusal),
     /// The split point of a line isn't after that of the line before, or is the empty key.
     #[error("line {0}: the split point isn't after the one before")]
     NotRising(u64),

@@ -6,7 +6,7 @@ use Rattle.std.proofs.lemmas.List.{map-append}
 use Rattle.std.proofs.lemmas.List.Elements.{All-push}
 use Rattle.keyspace.specs.declared.answer.Answer.{Answer}
 use Rattle.keyspace.specs.declared.batch.Batch.{Batch}
-use Rattle.lane.specs.Lane.{HasEnded, IntakeGoesOn, IntakeView, Lane, PortView, SameLane}
+use Rattle.lane.specs.Lane.{HasEnded, IntakeContinues, IntakeView, Lane, PortView, SameLane}
 use Rattle.replay_output.specs.declared.stream.AnswerError.{AnswerError}
 use Rattle.replay_stream.specs.declared.recorder.Recorder.{Recorder}
 use Rattle.replay_stream.specs.declared.streamed.Streamed.{Streamed}
@@ -25,15 +25,15 @@ pub all_taken : {T : Type 0} (port : PortView T) (intake : IntakeView T) → Lan
     → intake.taken ≡ port.sent
 all_taken {T} port intake lane ended =
     let seen = lane.all_seen ended.close in
-    whole lane.in_order.0 lane.in_order.1
+    entire lane.in_order.0 lane.in_order.1
     (omega (arith, seen, ended.all, ap length lane.in_order.1, length-append intake.taken lane.in_order.0))
   where
-    whole : (rest : List T) → port.sent ≡ intake.taken ++ rest → length rest ≡ 0 → intake.taken ≡ port.sent
-    whole [] is none = sym (append-nil intake.taken) ∙ sym is
-    whole (x ∷ rest) is none = absurd (omega (arith, none))
+    entire : (rest : List T) → port.sent ≡ intake.taken ++ rest → length rest ≡ 0 → intake.taken ≡ port.sent
+    entire [] is none = sym (append-nil intake.taken) ∙ sym is
+    entire (x ∷ rest) is none = absurd (omega (arith, none))
 
 -- the intake that a recorder hands back is still that of its lane
-pub still_ends : {T : Type 0} (port : PortView T) (given now : IntakeView T) → SameLane port given → IntakeGoesOn given now
+pub still_ends : {T : Type 0} (port : PortView T) (given now : IntakeView T) → SameLane port given → IntakeContinues given now
     → SameLane port now
 still_ends port given now same goes =
     record { lane = same.lane ∙ sym goes.lane; capacity = same.capacity ∙ sym goes.capacity }

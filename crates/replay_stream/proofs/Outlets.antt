@@ -8,20 +8,20 @@ use Rattle.std.proofs.lemmas.List.Concat.{flat_map-append}
 use Rattle.std.proofs.lemmas.List.Elements.{All-append, All-nil, All-cons}
 use Rattle.std.proofs.lemmas.Option.{same_Some, slice_get-get_or, slice_get_within, get_or_from_slice_get}
 use Rattle.keyspace.specs.declared.answer.Answer.{Answer}
-use Rattle.lane.specs.Lane.{PortView, PortGoesOn, IntakeView, IntakeGoesOn}
+use Rattle.lane.specs.Lane.{PortView, PortContinues, IntakeView, IntakeContinues}
 use Rattle.replay_output.specs.declared.options.style.Style.{Style}
 use Rattle.replay_output.specs.Lines.{line}
 use Rattle.replay_output.specs.Streamed.{Printed, answer_for, printed_for, printed_line, stream_text}
 use Rattle.replay_stream.specs.declared.outlet.Outlet.{Outlet}
-use Rattle.replay_stream.specs.Outlet.{is_whole, PassesOn, OutletGoesOn, TookText, PassesSome, EachOutlet, StreamGoesOn, AreNumbered, HasPassedAll, StreamsOn}
+use Rattle.replay_stream.specs.Outlet.{is_complete, PassesOn, OutletContinues, TookText, PassesSome, EachOutlet, StreamContinues, AreNumbered, HasPassedAll, StreamsOn}
 use Rattle.replay_stream.specs.Sinks.{FailsIn, SinkState}
-use Rattle.replay_workers.proofs.callers.SameLanes.{port_goes_on, intake_goes_on}
+use Rattle.replay_workers.proofs.callers.SameLanes.{port_continues, intake_continues}
 use Rattle.replay_stream.proofs.Writing.{fails_then, takes_nothing, takes_then}
 
-pub port_same : {T : Type 0} (a : PortView T) → PortGoesOn a a
+pub port_same : {T : Type 0} (a : PortView T) → PortContinues a a
 port_same a = record { lane = refl; capacity = refl; seen_taken = omega arith; looks = omega arith }
 
-pub intake_same : {T : Type 0} (a : IntakeView T) → IntakeGoesOn a a
+pub intake_same : {T : Type 0} (a : IntakeView T) → IntakeContinues a a
 intake_same a = record {
   lane = refl;
   capacity = refl;
@@ -43,36 +43,36 @@ passes_then None (Some b) c u v w xs ys h k = absurd h
 passes_then (Some a) None c u v w xs ys h k = absurd h
 passes_then (Some a) (Some b) None u v w xs ys h k = absurd k
 passes_then (Some a) (Some b) (Some c) u v w xs ys h k = (
-  port_goes_on a b c h.0 k.0,
+  port_continues a b c h.0 k.0,
   k.1 ∙ ap (λ (l : List Answer). l ++ ys) h.1 ∙ append_assoc (a.sent ++ option_to_list u) xs ys,
 )
 
 -- with a failed writer no outlet is whole
-pub broken : (lost : Bool) → is_whole lost true ≡ false
+pub broken : (lost : Bool) → is_complete lost true ≡ false
 broken true = refl
 broken false = refl
 
 -- a writer that hasn't failed now hadn't failed before
-pub whole_before : (lost had has : Bool) → (had ≡ true → has ≡ true) → is_whole lost has ≡ true → is_whole lost had ≡ true
-whole_before true had has stays whole = absurd (false≢true whole)
-whole_before false false has stays whole = refl
-whole_before false true has stays whole =
-    absurd (false≢true (sym (ap (is_whole false) (stays refl)) ∙ whole))
+pub entire_before : (lost had has : Bool) → (had ≡ true → has ≡ true) → is_complete lost has ≡ true → is_complete lost had ≡ true
+entire_before true had has stays entire = absurd (false≢true entire)
+entire_before false false has stays entire = refl
+entire_before false true has stays entire =
+    absurd (false≢true (sym (ap (is_complete false) (stays refl)) ∙ entire))
 
 module _ (p1 d1 p2 d2 : List Answer) (a b c : Outlet) where
-  whole_lists : d1 ≡ [] → (p1 ++ d1) ++ (p2 ++ d2) ≡ (p1 ++ p2) ++ d2
-  whole_lists none = ap (λ (l : List Answer). (p1 ++ l) ++ (p2 ++ d2)) none ∙ ap (λ (l : List Answer). l ++ (p2 ++ d2)) (append-nil p1)
+  entire_lists : d1 ≡ [] → (p1 ++ d1) ++ (p2 ++ d2) ≡ (p1 ++ p2) ++ d2
+  entire_lists none = ap (λ (l : List Answer). (p1 ++ l) ++ (p2 ++ d2)) none ∙ ap (λ (l : List Answer). l ++ (p2 ++ d2)) (append-nil p1)
       ∙ sym (append_assoc p1 p2 d2)
 
   broken_lists : p2 ≡ [] → (p1 ++ d1) ++ (p2 ++ d2) ≡ (p1 ++ p2) ++ (d1 ++ d2)
   broken_lists none = ap (λ (l : List Answer). (p1 ++ d1) ++ (l ++ d2)) none ∙ append_assoc p1 d1 d2
       ∙ ap (λ (l : List Answer). l ++ (d1 ++ d2)) (sym (append-nil p1)) ∙ ap (λ (l : List Answer). (p1 ++ l) ++ (d1 ++ d2)) (sym none)
 
-  joined : (was mid is : Bool) → OutletGoesOn p1 d1 was mid a b → OutletGoesOn p2 d2 mid is b c → (d : List Answer)
+  joined : (was mid is : Bool) → OutletContinues p1 d1 was mid a b → OutletContinues p2 d2 mid is b c → (d : List Answer)
       → (p1 ++ d1) ++ (p2 ++ d2) ≡ (p1 ++ p2) ++ d → (is ≡ true → d ≡ []) → (was ≡ false → p1 ++ p2 ≡ [])
-      → OutletGoesOn (p1 ++ p2) d was is a c
+      → OutletContinues (p1 ++ p2) d was is a c
   joined was mid is h k d lists none_dropped none_printed = record {
-    replies = intake_goes_on a.replies b.replies c.replies h.replies k.replies;
+    replies = intake_continues a.replies b.replies c.replies h.replies k.replies;
     proxy = k.proxy ∙ h.proxy;
     taken =
         k.taken ∙ ap (λ (l : List Answer). l ++ (p2 ++ d2)) h.taken ∙ append_assoc a.replies.taken (p1 ++ d1) (p2 ++ d2)
@@ -82,27 +82,27 @@ module _ (p1 d1 p2 d2 : List Answer) (a b c : Outlet) where
         (passes_then a.records b.records c.records a.waiting b.waiting c.waiting (p1 ++ d1) (p2 ++ d2) h.passed k.passed);
     none_dropped = none_dropped;
     none_printed = none_printed;
-    stays = λ whole. h.stays (k.stays whole);
+    stays = λ entire. h.stays (k.stays entire);
   }
 
   -- one step after another
-  pub outlet_then : (was mid is : Bool) → OutletGoesOn p1 d1 was mid a b → OutletGoesOn p2 d2 mid is b c
-      → (d : List Answer) × OutletGoesOn (p1 ++ p2) d was is a c
+  pub outlet_then : (was mid is : Bool) → OutletContinues p1 d1 was mid a b → OutletContinues p2 d2 mid is b c
+      → (d : List Answer) × OutletContinues (p1 ++ p2) d was is a c
   outlet_then was true is h k = (
     d2,
-    joined was true is h k d2 (whole_lists (h.none_dropped refl)) k.none_dropped
+    joined was true is h k d2 (entire_lists (h.none_dropped refl)) k.none_dropped
         (λ none. absurd (false≢true (sym none ∙ h.stays refl))),
   )
   outlet_then was false is h k = (
     d1 ++ d2,
     joined was false is h k (d1 ++ d2) (broken_lists (k.none_printed refl))
-        (λ whole. absurd (false≢true (k.stays whole)))
+        (λ entire. absurd (false≢true (k.stays entire)))
         (λ none. ap (λ (l : List Answer). l ++ p2) (h.none_printed none) ∙ k.none_printed refl),
   )
 
 -- nothing was taken from an outlet, while the writer may have failed
 pub outlet_same : (had has : Bool) (l : Outlet) → (had ≡ true → has ≡ true)
-    → OutletGoesOn [] [] (is_whole l.lost had) (is_whole l.lost has) l l
+    → OutletContinues [] [] (is_complete l.lost had) (is_complete l.lost has) l l
 outlet_same had has l stays = record {
   replies = intake_same l.replies;
   proxy = refl;
@@ -110,7 +110,7 @@ outlet_same had has l stays = record {
   passed = passes_none l.records l.waiting;
   none_dropped = λ _. refl;
   none_printed = λ _. refl;
-  stays = whole_before l.lost had has stays;
+  stays = entire_before l.lost had has stays;
 }
 
 -- one text after another
@@ -180,7 +180,7 @@ each_set P Q old now i x d inside here others e = record {
 
 -- nothing has happened
 pub stream_same : (style : Style) (failed : Bool) (given : SinkState) (outlets : List Outlet)
-    → StreamGoesOn style failed failed given given outlets outlets
+    → StreamContinues style failed failed given given outlets outlets
 stream_same style failed given outlets = record {
   printed = [];
   known = All-nil (λ (p : Printed). p.proxy < length outlets);
@@ -188,18 +188,18 @@ stream_same style failed given outlets = record {
     count = refl;
     each = λ q l m was is. (
       [],
-      subst (λ (m : Outlet). OutletGoesOn [] [] (is_whole l.lost failed) (is_whole m.lost failed) l m)
+      subst (λ (m : Outlet). OutletContinues [] [] (is_complete l.lost failed) (is_complete m.lost failed) l m)
           (same_Some l m (sym was ∙ is)) (outlet_same failed failed l (λ same. same)),
     );
   };
-  text = λ whole. subst (λ (failed : Bool). TookText failed given given []) (sym whole) (takes_nothing given);
+  text = λ entire. subst (λ (failed : Bool). TookText failed given given []) (sym entire) (takes_nothing given);
   nothing = λ failed. (refl, (failed, refl));
 }
 
 -- the outlet at an index has passed some answers on
 module _ (style : Style) (start mid now : Bool) (first before after : SinkState) (old outlets : List Outlet) (i : ℕ)
     (x d : Outlet) (inside : i < length outlets) (numbered : (get_or outlets i d).proxy ≡ i)
-    (so_far : StreamGoesOn style start mid first before old outlets)
+    (so_far : StreamContinues style start mid first before old outlets)
     (step : PassesSome style mid now before after (get_or outlets i d) x) where
   abbrev more : List Printed
   more = map (of_proxy i) step.printed
@@ -208,7 +208,7 @@ module _ (style : Style) (start mid now : Bool) (first before after : SinkState)
   stays failed = (step.nothing failed).0
 
   none_more : mid ≡ true → more ≡ []
-  none_more failed = ap (map (of_proxy i)) (step.goes_on.none_printed (ap (is_whole (get_or outlets i d).lost) failed
+  none_more failed = ap (map (of_proxy i)) (step.continues.none_printed (ap (is_complete (get_or outlets i d).lost) failed
       ∙ broken (get_or outlets i d).lost))
 
   split : (q : ℕ) → printed_for q (so_far.printed ++ more) ≡ printed_for q so_far.printed ++ printed_for q more
@@ -216,47 +216,47 @@ module _ (style : Style) (start mid now : Bool) (first before after : SinkState)
 
   abbrev Before : ℕ → Outlet → Outlet → Type 0
   Before q l m = (dropped : List Answer)
-      × OutletGoesOn (printed_for q so_far.printed) dropped (is_whole l.lost start) (is_whole m.lost mid) l m
+      × OutletContinues (printed_for q so_far.printed) dropped (is_complete l.lost start) (is_complete m.lost mid) l m
 
   abbrev After : ℕ → Outlet → Outlet → Type 0
   After q l m = (dropped : List Answer)
-      × OutletGoesOn (printed_for q (so_far.printed ++ more)) dropped (is_whole l.lost start) (is_whole m.lost now) l m
+      × OutletContinues (printed_for q (so_far.printed ++ more)) dropped (is_complete l.lost start) (is_complete m.lost now) l m
 
   after_from : (q : ℕ) (l m : Outlet) → ((dropped : List Answer)
-      × OutletGoesOn (printed_for q so_far.printed ++ printed_for q more) dropped (is_whole l.lost start) (is_whole m.lost now) l m)
+      × OutletContinues (printed_for q so_far.printed ++ printed_for q more) dropped (is_complete l.lost start) (is_complete m.lost now) l m)
       → After q l m
   after_from q l m goes = (
     goes.0,
-    subst (λ (printed : List Answer). OutletGoesOn printed goes.0 (is_whole l.lost start) (is_whole m.lost now) l m)
+    subst (λ (printed : List Answer). OutletContinues printed goes.0 (is_complete l.lost start) (is_complete m.lost now) l m)
         (sym (split q)) goes.1,
   )
 
   here : (l : Outlet) → Before i l (get_or outlets i d) → After i l x
   here l was =
       after_from i l x (outlet_then (printed_for i so_far.printed) was.0 (printed_for i more) step.dropped l (get_or outlets i d) x
-      (is_whole l.lost start) (is_whole (get_or outlets i d).lost mid) (is_whole x.lost now) was.1
-      (subst (λ (printed : List Answer). OutletGoesOn printed step.dropped (is_whole (get_or outlets i d).lost mid) (is_whole x.lost now)
-      (get_or outlets i d) x) (sym (printed_here i step.printed)) step.goes_on))
+      (is_complete l.lost start) (is_complete (get_or outlets i d).lost mid) (is_complete x.lost now) was.1
+      (subst (λ (printed : List Answer). OutletContinues printed step.dropped (is_complete (get_or outlets i d).lost mid) (is_complete x.lost now)
+      (get_or outlets i d) x) (sym (printed_here i step.printed)) step.continues))
 
   others : (q : ℕ) (l m : Outlet) → (i ≡ q → ⊥) → Before q l m → After q l m
   others q l m apart was =
       after_from q l m (outlet_then (printed_for q so_far.printed) was.0 (printed_for q more) [] l m m
-      (is_whole l.lost start) (is_whole m.lost mid) (is_whole m.lost now) was.1
-      (subst (λ (printed : List Answer). OutletGoesOn printed [] (is_whole m.lost mid) (is_whole m.lost now) m m)
+      (is_complete l.lost start) (is_complete m.lost mid) (is_complete m.lost now) was.1
+      (subst (λ (printed : List Answer). OutletContinues printed [] (is_complete m.lost mid) (is_complete m.lost now) m m)
       (sym (printed_elsewhere i q step.printed apart)) (outlet_same mid now m stays)))
 
   text_more : stream_text style more ≡ flat_map (line style (get_or outlets i d).proxy) step.printed
   text_more = text_of_proxy style i step.printed ∙ ap (λ (proxy : ℕ). flat_map (line style proxy) step.printed) (sym numbered)
 
-  pub stream_at : StreamGoesOn style start now first after old (set outlets i x)
+  pub stream_at : StreamContinues style start now first after old (set outlets i x)
   stream_at = record {
     printed = so_far.printed ++ more;
     known = All-append (λ (p : Printed). p.proxy < length old) so_far.printed more so_far.known
         (known_here (length old) i step.printed (omega (arith, inside, so_far.each.count)));
     each = each_set Before After old outlets i x d inside here others so_far.each;
-    text = λ whole.
+    text = λ entire.
         subst (TookText now first after) (sym (flat_map-append (printed_line style) so_far.printed more))
-        (took_then mid now first before after (stream_text style so_far.printed) (stream_text style more) (so_far.text whole)
+        (took_then mid now first before after (stream_text style so_far.printed) (stream_text style more) (so_far.text entire)
         (λ well. subst (TookText now before after) (sym text_more) (step.text well)) step.nothing
         (λ failed. ap (stream_text style) (none_more failed)));
     nothing = λ failed.
@@ -269,7 +269,7 @@ module _ (style : Style) (start mid now : Bool) (first before after : SinkState)
 
 -- one round after another
 pub numbered_later : (style : Style) (start now : Bool) (first after : SinkState) (old outlets : List Outlet)
-    → StreamGoesOn style start now first after old outlets → AreNumbered old → AreNumbered outlets
+    → StreamContinues style start now first after old outlets → AreNumbered old → AreNumbered outlets
 numbered_later style start now first after old outlets goes numbered q m at =
     let l = get_or old q m in
     let inside = slice_get_within outlets q m at in
@@ -313,8 +313,8 @@ passed_set outlets i x inside before now q m below at =
 pub streams_then : (style later : Style) (first mid now : Bool) (a b c : SinkState) (old between new : List Outlet) → later ≡ style
     → StreamsOn style first mid a b old between → StreamsOn later mid now b c between new → StreamsOn style first now a c old new
 streams_then style later first mid now a b c old between new same one two = λ failed given outlets was.
-    subst (λ (style : Style). StreamGoesOn style failed now given c outlets new) same
-    (two failed given outlets (subst (λ (style : Style). StreamGoesOn style failed mid given b outlets between) (sym same)
+    subst (λ (style : Style). StreamContinues style failed now given c outlets new) same
+    (two failed given outlets (subst (λ (style : Style). StreamContinues style failed mid given b outlets between) (sym same)
     (one failed given outlets was)))
 
 pub streams_same : (style : Style) (failed : Bool) (given : SinkState) (outlets : List Outlet)

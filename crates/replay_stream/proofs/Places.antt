@@ -8,7 +8,7 @@ use Rattle.keyspace.specs.declared.answer.Answer.{Answer}
 use Rattle.lane.specs.Lane.{PortView, IntakeView}
 use Rattle.resolver.specs.declared.client.Client.{Client}
 use Rattle.replay_output.specs.declared.options.reports.Reports.{Reports}
-use Rattle.replay_stream.specs.declared.proxies.Task.{Task}
+use Rattle.replay_stream.specs.declared.proxies.ProxyTask.{ProxyTask}
 use Rattle.replay_stream.specs.declared.recorder.Recorder.{Recorder}
 use Rattle.replay_stream.specs.Proxies.{GivenProxy, JoinsRecorder, given_proxies, given_with, threads_by}
 use Rattle.replay_stream.specs.Streaming.{Recorded, recorded_each}
@@ -35,19 +35,19 @@ given_one reports proxy client reader out =
     record { proxy = proxy; client = client; reader = reader; reports = reports; out = out }
 
 -- one proxy more has its outlet
-pub given_also : {S W G : Type 0} (reports : Reports) (tasks after : List (Task S W G)) (task : Task S W G) (clients rest_clients : List Client)
+pub given_also : {S W G : Type 0} (reports : Reports) (tasks after : List (ProxyTask S W G)) (task : ProxyTask S W G) (clients rest_clients : List Client)
     (client : Client) (readers rest_readers : List S) (reader : S) (outs rest_outs : List (Option W)) (out : Option W)
     (all : List (GivenProxy S W)) (first next : ℕ)
-    → map (λ (t : Task S W G). given_with t.outlet (threads_by t)) tasks ++ given_proxies reports first clients readers outs ≡ all
+    → map (λ (t : ProxyTask S W G). given_with t.outlet (threads_by t)) tasks ++ given_proxies reports first clients readers outs ≡ all
     → clients ≡ client ∷ rest_clients → readers ≡ reader ∷ rest_readers → outs ≡ out ∷ rest_outs → after ≡ tasks ++ task ∷ []
     → next ≡ first + 1 → given_with task.outlet (threads_by task) ≡ given_one reports first client reader out
-    → map (λ (t : Task S W G). given_with t.outlet (threads_by t)) after ++ given_proxies reports next rest_clients rest_readers rest_outs ≡ all
+    → map (λ (t : ProxyTask S W G). given_with t.outlet (threads_by t)) after ++ given_proxies reports next rest_clients rest_readers rest_outs ≡ all
 given_also {S} {W} {G} reports tasks after task clients rest_clients client readers rest_readers reader outs rest_outs out all first next before cs rs
     os pushed number given =
-    let f = λ (t : Task S W G). given_with t.outlet (threads_by t) in
+    let f = λ (t : ProxyTask S W G). given_with t.outlet (threads_by t) in
     let done = map f tasks in
     let rest = λ (n : ℕ). given_proxies reports n rest_clients rest_readers rest_outs in
-    ap (λ (l : List (Task S W G)). map f l ++ rest next) pushed ∙ ap (λ (l : List (GivenProxy S W)). l ++ rest next) (map-append f tasks (task ∷ []))
+    ap (λ (l : List (ProxyTask S W G)). map f l ++ rest next) pushed ∙ ap (λ (l : List (GivenProxy S W)). l ++ rest next) (map-append f tasks (task ∷ []))
     ∙ append_assoc done (f task ∷ []) (rest next) ∙ ap (λ (n : ℕ). done ++ f task ∷ rest n) number
     ∙ ap (λ (g : GivenProxy S W). done ++ g ∷ rest (first + 1)) given
     ∙ ap (λ (l : List Client). done ++ given_proxies reports first l (reader ∷ rest_readers) (out ∷ rest_outs)) (sym cs)

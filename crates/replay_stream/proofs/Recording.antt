@@ -5,14 +5,14 @@ use Rattle.std.proofs.lemmas.List.{flat_map_more}
 use Rattle.std.proofs.lemmas.Bool.{false≢true}
 use Rattle.std.proofs.lemmas.Option.{none-some}
 use Rattle.keyspace.specs.declared.answer.Answer.{Answer}
-use Rattle.lane.specs.Lane.{HasEnded, IntakeView, IntakeGoesOn}
+use Rattle.lane.specs.Lane.{HasEnded, IntakeView, IntakeContinues}
 use Rattle.replay_output.specs.declared.stream.AnswerError.{AnswerError}
 use Rattle.replay_output.specs.declared.stream.AnswerError.TheVariants.{Memory, Write}
 use Rattle.replay_output.specs.Record.{answer_record, answer_records}
 use Rattle.replay_stream.specs.declared.recorder.Recorder.{Recorder}
-use Rattle.replay_stream.specs.Recorder.{HasRecorded, TookRecords, WritesRecords, RecorderGoesOn}
+use Rattle.replay_stream.specs.Recorder.{HasRecorded, TookRecords, WritesRecords, RecorderContinues}
 use Rattle.replay_stream.specs.Sinks.{FailsIn, SinkState, Takes}
-use Rattle.replay_workers.proofs.callers.SameLanes.{intake_goes_on}
+use Rattle.replay_workers.proofs.callers.SameLanes.{intake_continues}
 use Rattle.replay_stream.proofs.Writing.{fails_then, takes_nothing, takes_then}
 
 module _ (first taken : List Answer) (before old new : SinkState) (answer : Answer) where
@@ -113,21 +113,21 @@ nothing_recorded taken before none = record {
 }
 
 module _ {W : Type 0} (state_of : W → SinkState) where
-  pub recorder_same : (old : Recorder W) → IntakeGoesOn old.answers old.answers → RecorderGoesOn state_of old old
+  pub recorder_same : (old : Recorder W) → IntakeContinues old.answers old.answers → RecorderContinues state_of old old
   recorder_same old same = record { answers = same; writes = λ first before writes. writes }
 
   -- one answer more was taken, and its record written or dropped
-  pub recorder_goes_on : (start old new : Recorder W) (answers : IntakeView Answer) (answer : Answer)
-      → RecorderGoesOn state_of start old → IntakeGoesOn old.answers answers
+  pub recorder_continues : (start old new : Recorder W) (answers : IntakeView Answer) (answer : Answer)
+      → RecorderContinues state_of start old → IntakeContinues old.answers answers
       → answers.taken ≡ old.answers.taken ++ answer ∷ [] → new.answers ≡ answers
       → ((first taken : List Answer) (before : SinkState)
       → WritesRecords first taken before (state_of old.out) old.failure
       → WritesRecords first (taken ++ answer ∷ []) before (state_of new.out) new.failure)
-      → RecorderGoesOn state_of start new
-  recorder_goes_on start old new answers answer goes on took same writes = record {
+      → RecorderContinues state_of start new
+  recorder_continues start old new answers answer goes on took same writes = record {
     answers =
-        intake_goes_on start.answers old.answers new.answers goes.answers
-        (subst (λ (r : IntakeView Answer). IntakeGoesOn old.answers r) (sym same) on);
+        intake_continues start.answers old.answers new.answers goes.answers
+        (subst (λ (r : IntakeView Answer). IntakeContinues old.answers r) (sym same) on);
     writes = λ first before was.
         subst (λ (now : List Answer). WritesRecords first now before (state_of new.out) new.failure)
         (sym took ∙ ap (λ (r : IntakeView Answer). r.taken) (sym same))
@@ -135,18 +135,18 @@ module _ {W : Type 0} (state_of : W → SinkState) where
   }
 
   -- no answer has come
-  pub recorder_waits : (start old : Recorder W) (answers : IntakeView Answer) → RecorderGoesOn state_of start old
-      → IntakeGoesOn old.answers answers → answers.taken ≡ old.answers.taken ++ []
-      → RecorderGoesOn state_of start (record old { answers = answers })
+  pub recorder_waits : (start old : Recorder W) (answers : IntakeView Answer) → RecorderContinues state_of start old
+      → IntakeContinues old.answers answers → answers.taken ≡ old.answers.taken ++ []
+      → RecorderContinues state_of start (record old { answers = answers })
   recorder_waits start old answers goes on took = record {
-    answers = intake_goes_on start.answers old.answers answers goes.answers on;
+    answers = intake_continues start.answers old.answers answers goes.answers on;
     writes = λ first before was.
         subst (λ (now : List Answer). WritesRecords first now before (state_of old.out) old.failure)
         (sym (took ∙ append-nil old.answers.taken)) (goes.writes first before was);
   }
 
   -- the answers have ended
-  pub has_recorded : (start last : Recorder W) → start.failure ≡ None → RecorderGoesOn state_of start last → HasEnded last.answers
+  pub has_recorded : (start last : Recorder W) → start.failure ≡ None → RecorderContinues state_of start last → HasEnded last.answers
       → HasRecorded state_of start.answers start.out last
   has_recorded start last none goes ended = record {
     answers = goes.answers;

@@ -7,7 +7,7 @@ use Rattle.std.proofs.lemmas.Option.{get_or_from_slice_get, slice_get-get_or, sl
 use Rattle.replay_output.specs.declared.options.style.Style.{Style}
 use Rattle.replay_stream.specs.declared.outlet.Outlet.{Outlet}
 use Rattle.replay_stream.specs.declared.proxies.Proxy.{Proxy}
-use Rattle.replay_stream.specs.Outlet.{AreNumbered, HasPassedAll, PassesSome, StreamGoesOn, StreamsOn}
+use Rattle.replay_stream.specs.Outlet.{AreNumbered, HasPassedAll, PassesSome, StreamContinues, StreamsOn}
 use Rattle.replay_stream.specs.Proxies.{outlets_of, threads_of}
 use Rattle.replay_stream.specs.Sinks.{SinkState}
 use Rattle.replay_stream.proofs.Outlets.{numbered_set, passed_set, stream_at}
@@ -50,7 +50,7 @@ module _ {S W : Type 0} (proxies : List (Proxy S W)) (i : ℕ) (d : Proxy S W) (
       → AreNumbered (outlets_of proxies) → StreamsOn style start mid first before old (outlets_of proxies)
       → PassesSome style mid now before after here.outlet x → StreamsOn style start now first after old (outlets_of with_outlet)
   streams_at style start mid now first before after old numbered streams step = λ failed given outlets was.
-      subst (λ (l : List Outlet). StreamGoesOn style failed now given after outlets l) (sym outlets_are)
+      subst (λ (l : List Outlet). StreamContinues style failed now given after outlets l) (sym outlets_are)
       (stream_at style failed mid now given before after outlets (outlets_of proxies) i x here.outlet within
       (ap (λ (l : Outlet). l.proxy) outlet_here ∙ numbered i here.outlet at) (streams failed given outlets was)
       (subst (λ (l : Outlet). PassesSome style mid now before after l x) (sym outlet_here) step))

@@ -8,7 +8,7 @@ use Rattle.std.proofs.lemmas.Option.{same_Some}
 use Rattle.keyspace.specs.declared.answer.Answer.{Answer}
 use Rattle.keyspace.specs.declared.batch.Batch.{Batch}
 use Rattle.keyspace.specs.Run.{Step, part}
-use Rattle.lane.specs.Lane.{HasEnded, IntakeGoesOn, IntakeView, PortGoesOn, PortView}
+use Rattle.lane.specs.Lane.{HasEnded, IntakeContinues, IntakeView, PortContinues, PortView}
 use Rattle.resolver.specs.declared.client.Client.{Client}
 use Rattle.resolver.specs.declared.turn.Account.{Account}
 use Rattle.resolver.specs.Lanes.{Lanes, has_ended, sent_to}
@@ -21,10 +21,10 @@ use Rattle.replay_output.specs.declared.options.reports.Reports.{Reports}
 use Rattle.replay_output.specs.Streamed.{Printed, printed_for, stream_text}
 use Rattle.replay_stream.specs.declared.outlet.Outlet.{Outlet}
 use Rattle.replay_stream.specs.declared.proxies.Proxy.{Proxy}
-use Rattle.replay_stream.specs.declared.proxies.Task.{Task}
+use Rattle.replay_stream.specs.declared.proxies.ProxyTask.{ProxyTask}
 use Rattle.replay_stream.specs.declared.recorder.Recorder.{Recorder}
 use Rattle.replay_stream.specs.declared.streamed.Streamed.{Streamed}
-use Rattle.replay_stream.specs.Outlet.{AreNumbered, HasPassedAll, HavePassedAll, OutletGoesOn, StreamGoesOn, TookText, is_whole}
+use Rattle.replay_stream.specs.Outlet.{AreNumbered, HasPassedAll, HavePassedAll, OutletContinues, StreamContinues, TookText, is_complete}
 use Rattle.replay_stream.specs.Proxies.{
   AreEnds,
   GivenProxy,
@@ -46,22 +46,22 @@ use Rattle.replay_stream.specs.Proxies.{
 use Rattle.replay_workers.specs.Stops.{IsStopOf}
 use Rattle.replay_stream.specs.Streaming.{HaveRecords, IsStreamed, IsStreamedFor, LeavesLast, Recorded, recorded_each}
 use Rattle.replay_workers.specs.Reporting.{TakesFrames}
-use Rattle.replay_workers.specs.Worker.{ClientGoesOn}
+use Rattle.replay_workers.specs.Worker.{ClientContinues}
 use Rattle.replay_stream.specs.Sinks.{SinkState}
 use Rattle.replay_workers.proofs.callers.Lists.{all_at, found, mapped_at, both}
 use Rattle.replay_stream.proofs.Places.{all_of, from_map, given_at, given_one, given_number, has_recorder, is_recorded, length_given, length_recorded, recorded_at, zip_at, zip_of}
 use Rattle.replay_stream.proofs.Streams.{ends_of, recorded_of, streamed_for}
 
-module _ {S W G : Type 0} (reports : Reports) (readers : List S) (outs : List (Option W)) (clients : List Client) (tasks : List (Task S W G))
+module _ {S W G : Type 0} (reports : Reports) (readers : List S) (outs : List (Option W)) (clients : List Client) (tasks : List (ProxyTask S W G))
     (same : length readers ≡ length clients) (as_many : length outs ≡ length clients)
-    (given : map (λ (t : Task S W G). given_with t.outlet (threads_by t)) tasks ≡ given_proxies reports 0 clients readers outs)
+    (given : map (λ (t : ProxyTask S W G). given_with t.outlet (threads_by t)) tasks ≡ given_proxies reports 0 clients readers outs)
   where
     pub tasks_count : length tasks ≡ length clients
-    tasks_count = sym (length-map tasks (λ (t : Task S W G). given_with t.outlet (threads_by t))) ∙ ap length given
+    tasks_count = sym (length-map tasks (λ (t : ProxyTask S W G). given_with t.outlet (threads_by t))) ∙ ap length given
         ∙ length_given reports 0 clients readers outs same as_many
 
     -- what one proxy was given
-    pub record Place (proxy : ℕ) (task : Task S W G) : Type 0 where
+    pub record Place (proxy : ℕ) (task : ProxyTask S W G) : Type 0 where
       pub client : Client
       pub at_client : slice_get clients proxy ≡ Some client
       pub reader : S
@@ -70,13 +70,13 @@ module _ {S W G : Type 0} (reports : Reports) (readers : List S) (outs : List (O
       pub at_out : slice_get outs proxy ≡ Some out
       pub was_given : given_with task.outlet (threads_by task) ≡ record { proxy = proxy; client = client; reader = reader; reports = reports; out = out }
 
-    given_here : (proxy : ℕ) (task : Task S W G) → slice_get tasks proxy ≡ Some task
+    given_here : (proxy : ℕ) (task : ProxyTask S W G) → slice_get tasks proxy ≡ Some task
         → slice_get (given_proxies reports 0 clients readers outs) proxy ≡ Some (given_with task.outlet (threads_by task))
     given_here proxy task at =
         ap (λ l. slice_get l proxy) (sym given)
-        ∙ mapped_at (λ (t : Task S W G). given_with t.outlet (threads_by t)) tasks proxy task at
+        ∙ mapped_at (λ (t : ProxyTask S W G). given_with t.outlet (threads_by t)) tasks proxy task at
 
-    pub place_of : (proxy : ℕ) (task : Task S W G) → slice_get tasks proxy ≡ Some task → Place proxy task
+    pub place_of : (proxy : ℕ) (task : ProxyTask S W G) → slice_get tasks proxy ≡ Some task → Place proxy task
     place_of proxy task at =
         let c = found tasks clients proxy task (sym tasks_count) at in
         let r = found clients readers proxy c.0 same c.1 in
@@ -94,49 +94,49 @@ module _ {S W G : Type 0} (reports : Reports) (readers : List S) (outs : List (O
               ∙ ap (λ (n : ℕ). given_one reports n c.0 r.0 o.0) number;
         }
 
-    pub are_numbered : AreNumbered (map (λ (t : Task S W G). t.outlet) tasks)
+    pub are_numbered : AreNumbered (map (λ (t : ProxyTask S W G). t.outlet) tasks)
     are_numbered proxy l at =
-        let t = from_map (λ (t : Task S W G). t.outlet) tasks proxy l at in
+        let t = from_map (λ (t : ProxyTask S W G). t.outlet) tasks proxy l at in
         let number : 0 + proxy ≡ proxy = omega arith in
         ap (λ (l : Outlet). l.proxy) (sym t.2)
         ∙ given_number reports 0 clients readers outs proxy (given_with t.0.outlet (threads_by t.0)) (given_here proxy t.0 t.1) ∙ number
 
     module _ (style : Style) (has_failed : Bool) (before after : SinkState) (ended : List (Proxy S W))
-        (fresh : All (λ (t : Task S W G). IsNewOutlet t.outlet (threads_by t).answers) tasks)
-        (threads : map threads_of ended ≡ map (λ (t : Task S W G). threads_by t) tasks)
-        (goes : StreamGoesOn style false has_failed before after (map (λ (t : Task S W G). t.outlet) tasks) (outlets_of ended))
+        (fresh : All (λ (t : ProxyTask S W G). IsNewOutlet t.outlet (threads_by t).answers) tasks)
+        (threads : map threads_of ended ≡ map (λ (t : ProxyTask S W G). threads_by t) tasks)
+        (goes : StreamContinues style false has_failed before after (map (λ (t : ProxyTask S W G). t.outlet) tasks) (outlets_of ended))
         (passed : HavePassedAll (outlets_of ended)) where
       pub ended_count : length ended ≡ length clients
-      ended_count = sym (length-map ended threads_of) ∙ ap length threads ∙ length-map tasks (λ (t : Task S W G). threads_by t)
+      ended_count = sym (length-map ended threads_of) ∙ ap length threads ∙ length-map tasks (λ (t : ProxyTask S W G). threads_by t)
           ∙ tasks_count
 
       -- a proxy whose outlet has ended, and the task that it was started with
       pub record Ran (proxy : ℕ) (running : Proxy S W) : Type 0 where
-        pub task : Task S W G
+        pub task : ProxyTask S W G
         pub at_task : slice_get tasks proxy ≡ Some task
         pub same_threads : threads_of running ≡ threads_by task
         pub is_new : IsNewOutlet task.outlet (threads_by task).answers
         pub dropped : List Answer
-        pub goes_on :
-            OutletGoesOn (printed_for proxy goes.printed) dropped (is_whole task.outlet.lost false)
-            (is_whole running.outlet.lost has_failed) task.outlet running.outlet
+        pub continues :
+            OutletContinues (printed_for proxy goes.printed) dropped (is_complete task.outlet.lost false)
+            (is_complete running.outlet.lost has_failed) task.outlet running.outlet
         pub has_passed : HasPassedAll running.outlet
 
       pub ran_at : (proxy : ℕ) (running : Proxy S W) → slice_get ended proxy ≡ Some running → Ran proxy running
       ran_at proxy running at =
           let t = found ended tasks proxy running (tasks_count ∙ sym ended_count) at in
-          let outlet_at = mapped_at (λ (t : Task S W G). t.outlet) tasks proxy t.0 t.1 in
+          let outlet_at = mapped_at (λ (t : ProxyTask S W G). t.outlet) tasks proxy t.0 t.1 in
           let ended_at = mapped_at (λ (p : Proxy S W). p.outlet) ended proxy running at in
-          let goes_on = goes.each.each proxy t.0.outlet running.outlet outlet_at ended_at in
+          let continues = goes.each.each proxy t.0.outlet running.outlet outlet_at ended_at in
           record {
             task = t.0;
             at_task = t.1;
             same_threads =
                 same_Some (threads_of running) (threads_by t.0) (sym (mapped_at threads_of ended proxy running at)
-                ∙ ap (λ l. slice_get l proxy) threads ∙ mapped_at (λ (t : Task S W G). threads_by t) tasks proxy t.0 t.1);
-            is_new = all_at (λ (t : Task S W G). IsNewOutlet t.outlet (threads_by t).answers) tasks proxy t.0 fresh t.1;
-            dropped = goes_on.0;
-            goes_on = goes_on.1;
+                ∙ ap (λ l. slice_get l proxy) threads ∙ mapped_at (λ (t : ProxyTask S W G). threads_by t) tasks proxy t.0 t.1);
+            is_new = all_at (λ (t : ProxyTask S W G). IsNewOutlet t.outlet (threads_by t).answers) tasks proxy t.0 fresh t.1;
+            dropped = continues.0;
+            continues = continues.1;
             has_passed = passed proxy running.outlet ended_at;
           }
 
@@ -146,7 +146,7 @@ module _ {S W G : Type 0} (reports : Reports) (readers : List S) (outs : List (O
           let ran = ran_at place p at in
           subst (λ (t : GivenThreads S W). AreEnds p.outlet.records t.answers) (sym ran.same_threads)
           (ends_of ran.task.outlet.records p.outlet.records (threads_by ran.task).answers ran.task.outlet.waiting p.outlet.waiting _
-          ran.is_new.ends ran.goes_on.passed))
+          ran.is_new.ends ran.continues.passed))
 
       module _ (remaining : S → Option (List ℕ)) (state_of : W → SinkState) (joined : List (Joined W))
           (worked : AllZip (IsJoined remaining state_of) ended joined) where
@@ -185,21 +185,21 @@ module _ {S W G : Type 0} (reports : Reports) (readers : List S) (outs : List (O
             }
 
         -- the clients are those that were given
-        pub clients_joined : AllZip ClientGoesOn clients (map client_of joined)
+        pub clients_joined : AllZip ClientContinues clients (map client_of joined)
         clients_joined =
-            zip_of ClientGoesOn clients (map client_of joined) (length-map joined client_of ∙ joined_count) (λ proxy c d at there.
+            zip_of ClientContinues clients (map client_of joined) (length-map joined client_of ∙ joined_count) (λ proxy c d at there.
             let j = from_map client_of joined proxy d there in
             let known = known_at proxy j.0 j.1 in
             let is : known.place.client ≡ c = same_Some _ c (sym known.place.at_client ∙ at) in
             let replies = ap (λ (o : Outlet). o.replies) known.has.outlet_is in
-            subst (λ (c : Client). ClientGoesOn c d) is
-            (subst (λ (d : Client). ClientGoesOn known.place.client d) j.2
+            subst (λ (c : Client). ClientContinues c d) is
+            (subst (λ (d : Client). ClientContinues known.place.client d) j.2
             (record {
-              requests = subst (λ (p : PortView Batch). PortGoesOn p j.0.sent.requests) known.requests known.has.sent.requests;
+              requests = subst (λ (p : PortView Batch). PortContinues p j.0.sent.requests) known.requests known.has.sent.requests;
               replies =
-                  subst (λ (i : IntakeView Answer). IntakeGoesOn known.place.client.replies i) (sym replies)
-                  (subst (λ (i : IntakeView Answer). IntakeGoesOn i known.running.outlet.replies) known.replies
-                  known.ran.goes_on.replies);
+                  subst (λ (i : IntakeView Answer). IntakeContinues known.place.client.replies i) (sym replies)
+                  (subst (λ (i : IntakeView Answer). IntakeContinues i known.running.outlet.replies) known.replies
+                  known.ran.continues.replies);
             })))
 
         -- and each has taken its answers to their end
@@ -226,7 +226,7 @@ module _ {S W G : Type 0} (reports : Reports) (readers : List S) (outs : List (O
         module _ (options : Options) (style_is : style ≡ options.style) (reports_is : reports ≡ options.reports) (log : List Step)
             (lanes : List Lanes) (account : Account) (streamed : Streamed W) (new : All (IsNewClient options.capacity) clients)
             (settled : Settled options.window log lanes (map client_of joined) account)
-            (whole : account.stop ≡ None → account.complete ≡ true) (of_joined : IsStreamedOf joined streamed) where
+            (entire : account.stop ≡ None → account.complete ≡ true) (of_joined : IsStreamedOf joined streamed) where
           abbrev complete : Bool
           complete = account.complete && streamed.all_sent
 
@@ -251,9 +251,9 @@ module _ {S W G : Type 0} (reports : Reports) (readers : List S) (outs : List (O
               (streamed_for state_of remaining options.window log (has_ended lanes proxy) streamed.all_sent has_failed (sent_to lanes proxy) account
               proxy (threads_by ran.task) ran.task.outlet known.running.outlet j (printed_for proxy goes.printed) ran.dropped
               (ap (λ (p : PortView Batch). p.sent) (known.requests ∙ client.requests))
-              (ap (λ (i : IntakeView Answer). i.taken) (known.replies ∙ client.replies)) ran.is_new.none_waits ran.is_new.ends ran.goes_on
+              (ap (λ (i : IntakeView Answer). i.taken) (known.replies ∙ client.replies)) ran.is_new.none_waits ran.is_new.ends ran.continues
               ran.has_passed known.has (settled.each proxy (client_of j) here) (settled.reported proxy (client_of j) here)
-              (λ all. all_at SendsAll joined proxy j (of_joined.all_sent all) at) whole)))
+              (λ all. all_at SendsAll joined proxy j (of_joined.all_sent all) at) entire)))
 
           -- the reader at a place is that of its proxy
           bytes_are : (proxy : ℕ) (bytes : Option (List ℕ)) (j : Joined W) (known : Known proxy j)
@@ -264,7 +264,7 @@ module _ {S W G : Type 0} (reports : Reports) (readers : List S) (outs : List (O
           -- without a stop, what is missing is a batch that was not sent
           leaves : complete ≡ false → account.stop ≡ None → LeavesLast options.reports (map remaining readers) log
           leaves not_all no_stop =
-              let yes = whole no_stop in
+              let yes = entire no_stop in
               let not_sent : streamed.all_sent ≡ false = sym (ap (λ (b : Bool). b && streamed.all_sent) yes) ∙ not_all in
               let back = of_joined.unsent not_sent in
               let known = known_at back.place back.worker back.at in
@@ -315,8 +315,8 @@ module _ {S W G : Type 0} (reports : Reports) (readers : List S) (outs : List (O
               (recorded_each state_of outs streamed.recorders.items) complete account.stop
           is_streamed met =
               let clients_same : length clients ≡ length (map remaining readers) = sym same ∙ sym (length-map readers remaining) in
-              let tasks_same : length (map (λ (t : Task S W G). t.outlet) tasks) ≡ length (map remaining readers) =
-              length-map tasks (λ (t : Task S W G). t.outlet) ∙ tasks_count ∙ clients_same in
+              let tasks_same : length (map (λ (t : ProxyTask S W G). t.outlet) tasks) ≡ length (map remaining readers) =
+              length-map tasks (λ (t : ProxyTask S W G). t.outlet) ∙ tasks_count ∙ clients_same in
               record {
                 log = log;
                 printed = goes.printed;
@@ -350,7 +350,7 @@ module _ {S W G : Type 0} (reports : Reports) (readers : List S) (outs : List (O
                 text = subst (λ (f : Style). TookText has_failed before after (stream_text f goes.printed)) style_is (goes.text refl);
                 chain = settled.chain;
                 serializable = settled.serializable;
-                finish = λ none. settled.finish (whole none);
+                finish = λ none. settled.finish (entire none);
                 no_stop = λ all. settled.no_stop (both account.complete streamed.all_sent all).0;
                 incomplete = leaves;
                 met = met;

@@ -13,7 +13,7 @@ use Rattle.resolver.specs.Settled.{SettledFor}
 use Rattle.replay_output.specs.declared.stream.AnswerError.TheVariants as answer
 use Rattle.replay_stream.specs.declared.outlet.Outlet.{Outlet}
 use Rattle.replay_stream.specs.declared.recorder.Recorder.{Recorder}
-use Rattle.replay_stream.specs.Outlet.{is_whole, PassesOn, OutletGoesOn, HasPassedAll}
+use Rattle.replay_stream.specs.Outlet.{is_complete, PassesOn, OutletContinues, HasPassedAll}
 use Rattle.replay_stream.specs.Proxies.{AreEnds, AreNewEnds, GivenThreads, HasJoined, Joined, JoinsRecorder, SendsAll, client_of, failure_with}
 use Rattle.replay_stream.specs.Recorder.{is_refused, unwritten_cause}
 use Rattle.replay_stream.specs.Streaming.{HasRecords, IsStreamedFor, Recorded}
@@ -57,7 +57,7 @@ module _ {W : Type 0} (state_of : W → SinkState) where
       record {
         written = w.written;
         of_own = (w.dropped, all);
-        all = λ whole. sym (append-nil w.written) ∙ ap (λ (l : List Answer). w.written ++ l) (sym (w.none_dropped whole)) ∙ sym all;
+        all = λ entire. sym (append-nil w.written) ∙ ap (λ (l : List Answer). w.written ++ l) (sym (w.none_dropped entire)) ∙ sym all;
         given = w.records;
       }
   records_of_taken (Some out) None first old new (Some recorder) waits taken ends passed none joins = absurd joins
@@ -100,7 +100,7 @@ module _ {W : Type 0} (state_of : W → SinkState) where
       (answers_sent : List Answer) (account : Account) (proxy : ℕ) (threads : GivenThreads S W) (first old : Outlet)
       (joined : Joined W) (printed dropped : List Answer) → threads.requests.sent ≡ [] → first.replies.taken ≡ []
       → first.waiting ≡ None → AreNewEnds first.records threads.answers
-      → OutletGoesOn printed dropped (is_whole first.lost false) (is_whole old.lost has_failed) first old → HasPassedAll old
+      → OutletContinues printed dropped (is_complete first.lost false) (is_complete old.lost has_failed) first old → HasPassedAll old
       → HasJoined remaining state_of old threads joined
       → SettledFor window [] log ended answers_sent account proxy (client_of joined)
       → ((version : ℤ) (j : ℕ) → ReportsCommitted (client_of joined).replies.taken version j
@@ -109,7 +109,7 @@ module _ {W : Type 0} (state_of : W → SinkState) where
       → IsStreamedFor threads.reports window log (account.complete && all_sent) has_failed account.stop (remaining threads.reader) proxy printed
       (failure_with joined) (recorded_of state_of threads.out joined.recorder)
   streamed_for {S} remaining window log ended all_sent has_failed answers_sent account proxy threads first old joined printed dropped
-      none_sent none_taken none_waited ends goes passed has settled reported sent_all whole =
+      none_sent none_taken none_waited ends goes passed has settled reported sent_all entire =
       let sends = has.sent.sends in
       let unsent = option_to_list joined.sent.unsent in
       let sent : joined.sent.requests.sent ≡ sends.batches =
@@ -141,14 +141,14 @@ module _ {W : Type 0} (state_of : W → SinkState) where
         first_fault = sends.first_fault;
         taken = joined.outlet.replies.taken;
         received = settled.receives.received;
-        all_received = λ no_stop. settled.receives.all_received (whole no_stop);
+        all_received = λ no_stop. settled.receives.all_received (entire no_stop);
         all_before_last = λ before last is. settled.receives.all_before_last has_ended before last is;
         reported = reported;
         has_printed = (dropped, taken);
         all_printed = λ well not_lost.
             let parts = or_parts joined.outlet.lost _ not_lost in
-            let stays : is_whole old.lost has_failed ≡ true =
-            ap (λ (l : Bool). is_whole l has_failed) (sym lost_is ∙ parts.0) ∙ ap (is_whole false) well in
+            let stays : is_complete old.lost has_failed ≡ true =
+            ap (λ (l : Bool). is_complete l has_failed) (sym lost_is ∙ parts.0) ∙ ap (is_complete false) well in
             sym (append-nil printed) ∙ ap (λ (l : List Answer). printed ++ l) (sym (goes.none_dropped stays)) ∙ sym taken;
         none_refused = λ not_lost. none_refused threads.out joined.recorder (or_parts joined.outlet.lost _ not_lost).1;
         records =

@@ -12,12 +12,12 @@ Begins old new text = IfSome new (λ _. (n : ℕ) × Appends old new (take n tex
 
 begins_then : (old between new : Option (List ℕ)) (first next : List ℕ) → Appends old between first
     → Begins between new next → Begins old new (first ++ next)
-begins_then old between None first next whole begins = tt
-begins_then None between (Some zs) first next whole begins = (zero, tt)
-begins_then (Some xs) None (Some zs) first next whole begins = absurd whole
-begins_then (Some xs) (Some ys) (Some zs) first next whole begins = (
+begins_then old between None first next entire begins = tt
+begins_then None between (Some zs) first next entire begins = (zero, tt)
+begins_then (Some xs) None (Some zs) first next entire begins = absurd entire
+begins_then (Some xs) (Some ys) (Some zs) first next entire begins = (
   length first + begins.0,
-  begins.1 ∙ ap (λ (text : List ℕ). text ++ take begins.0 next) whole
+  begins.1 ∙ ap (λ (text : List ℕ). text ++ take begins.0 next) entire
       ∙ append_assoc xs first (take begins.0 next)
       ∙ ap (λ (text : List ℕ). xs ++ text) (sym (take-append-add first next begins.0)),
 )

@@ -7,7 +7,7 @@ use Rattle.lane.specs.Lane.{PortView, IntakeView, SameLane}
 use Rattle.resolver.specs.declared.client.Client.{Client}
 use Rattle.replay_stream.specs.declared.outlet.Outlet.{Outlet}
 use Rattle.replay_stream.specs.declared.proxies.Proxy.{Proxy}
-use Rattle.replay_stream.specs.declared.proxies.Task.{Task}
+use Rattle.replay_stream.specs.declared.proxies.ProxyTask.{ProxyTask}
 use Rattle.replay_stream.specs.declared.recorder.Recorder.{Recorder}
 use Rattle.replay_stream.specs.declared.sender.Sent.{Sent}
 use Rattle.replay_stream.specs.declared.streamed.Streamed.{Streamed}
@@ -46,7 +46,7 @@ module _ {S W : Type 0} where
   given_proxies reports proxy [] readers outs = []
 
   -- what the threads of a task must get
-  abbrev pub threads_by : {G : Type 0} → Task S W G → GivenThreads S W
+  abbrev pub threads_by : {G : Type 0} → ProxyTask S W G → GivenThreads S W
   threads_by task = record {
     requests = task.sender.requests;
     reader = task.sender.reader;

@@ -1,7 +1,7 @@
 -- What a recorder has done. This project's own.
 use Rattle.std.specs.Prelude.{◌≡◌, Bool, true, false, List, [], ◌++◌, Option, None, Some}
 use Rattle.keyspace.specs.declared.answer.Answer.{Answer}
-use Rattle.lane.specs.Lane.{IntakeView, IntakeGoesOn, HasEnded}
+use Rattle.lane.specs.Lane.{IntakeView, IntakeContinues, HasEnded}
 use Rattle.replay_output.specs.declared.stream.AnswerError.{AnswerError}
 use Rattle.replay_output.specs.declared.stream.AnswerError.TheVariants.{Memory, Write}
 use Rattle.replay_output.specs.Record.{answer_records}
@@ -28,14 +28,14 @@ pub record WritesRecords (old new : List Answer) (before after : SinkState) (fai
 -- them.
 pub record HasRecorded {W : Type 0} (state_of : W → SinkState) (given : IntakeView Answer) (out : W) (recorder : Recorder W)
     : Type 0 where
-  pub answers : IntakeGoesOn given recorder.answers
+  pub answers : IntakeContinues given recorder.answers
   pub ended : HasEnded recorder.answers
   pub writes :
       WritesRecords given.taken recorder.answers.taken (state_of out) (state_of recorder.out) recorder.failure
 
 -- the same recorder later
-pub record RecorderGoesOn {W : Type 0} (state_of : W → SinkState) (old new : Recorder W) : Type 0 where
-  pub answers : IntakeGoesOn old.answers new.answers
+pub record RecorderContinues {W : Type 0} (state_of : W → SinkState) (old new : Recorder W) : Type 0 where
+  pub answers : IntakeContinues old.answers new.answers
   pub writes :
       (first : List Answer) (before : SinkState)
       → WritesRecords first old.answers.taken before (state_of old.out) old.failure

@@ -11,7 +11,7 @@ use Rattle.serial.specs.Replies.{IsCommittedAt, ReportsCommitted}
 use Rattle.wire.specs.declared.error.WireError.TheVariants as wire
 use Rattle.wire.specs.NextFrame.{IsFaultOf}
 use Rattle.resolver.specs.declared.stop.Stop.{Stop}
-use Rattle.resolver.specs.Core.{IsBeginning}
+use Rattle.resolver.specs.Core.{IsPrefix}
 use Rattle.resolver.specs.Resolver.{TakesOnlyFrom, FinishesLast}
 use Rattle.replay_output.specs.declared.failures.ProxyFailure.{ProxyFailure}
 use Rattle.replay_output.specs.declared.options.Options.{Options}
@@ -46,7 +46,7 @@ recorded_each state_of (None ∷ outs) (recorder ∷ recorders) = None ∷ recor
 -- written.
 pub record HasRecords (own : List Answer) (recorded : Recorded) : Type 0 where
   pub written : List Answer
-  pub of_own : IsBeginning written own
+  pub of_own : IsPrefix written own
   pub all : recorded.failure ≡ None → written ≡ own
   pub given : TookRecords recorded.failure recorded.before recorded.after written
 
@@ -59,7 +59,7 @@ pub record IsStreamedFor (reports : Reports) (window : ℤ) (log : List Step) (c
   pub frames_read : TakesFrames reports bytes left read
   -- the log holds them once, in order; all of them if all is complete and the writer of records hasn't failed, whatever fault the
   -- file has
-  pub batches : IsBeginning (part log proxy) read
+  pub batches : IsPrefix (part log proxy) read
   pub all_batches :
       complete ≡ true → IfSome recorded (λ r. r.failure ≢ Some answer.Write) → read ≡ part log proxy
   -- if the log holds all that was read, reading ended at the file's end or at its fault
@@ -68,16 +68,16 @@ pub record IsStreamedFor (reports : Reports) (window : ℤ) (log : List Step) (c
   pub first_fault : IfSome failure.fault (λ e. e ≢ wire.Memory → e ≢ wire.Read → IfSome left (IsFaultOf e))
   -- the answers that were taken are those of the reference resolver, in order and once; all of them if no stop was met
   pub taken : List Answer
-  pub received : IsBeginning taken (answers window log proxy)
+  pub received : IsPrefix taken (answers window log proxy)
   pub all_received : stop ≡ None → taken ≡ answers window log proxy
   pub all_before_last :
-      (before : List Step) (last : Step) → log ≡ before ++ last ∷ [] → IsBeginning (answers window before proxy) taken
+      (before : List Step) (last : Step) → log ≡ before ++ last ∷ [] → IsPrefix (answers window before proxy) taken
   -- a transaction that they report as committed is committed
   pub reported :
       (version : ℤ) (j : ℕ) → ReportsCommitted taken version j
       → IsCommittedAt (run window log).processed proxy version j
   -- the first of them were printed, in order and once; all of them unless a line was lost or standard output has failed
-  pub has_printed : IsBeginning printed taken
+  pub has_printed : IsPrefix printed taken
   pub all_printed : failed ≡ false → failure.lost ≡ false → printed ≡ taken
   pub records : IfSome recorded (HasRecords taken)
   -- a record for which memory was refused is a loss

@@ -3,10 +3,10 @@
 ghost use Rattle.std.specs.Prelude.{◌≡◌, [], ◌∷◌, true, false, None};
 ghost use Rattle.replay_output.specs.Lines.{line};
 ghost use Rattle.replay_stream.specs.Outlet.{HasPassedAll, IsClosed, PassesOn, PassesSome};
-ghost use Rattle.replay_stream.specs.Outlet.{TookText, is_whole};
+ghost use Rattle.replay_stream.specs.Outlet.{TookText, is_complete};
 ghost use Rattle.replay_stream.specs.Sinks.{state_by};
 
-use crate::progress::Progress;
+use crate::progress::AnswerProgress;
 use keyspace::Answer;
 use lane::{Intake, Port, Refused, Taken};
 use replay_output::{AnswerError, Style, print_line};
@@ -46,7 +46,7 @@ pub struct Outlet {
     pub proxy: usize,
     /// A line was lost for want of memory. Later ones are dropped.
     pub lost: bool,
-    pub progress: Arc<Progress, Global>,
+    pub progress: Arc<AnswerProgress, Global>,
 }
 
 impl Printer {
@@ -104,14 +104,14 @@ impl Outlet {
         ensures style { printer.new.style ≡ printer.old.style }
         ensures ended { result ≡ Passed.Ended → HasPassedAll self.new }
     {
-        if self.is_behind() {
+        if self.is_lagging() {
             return Passed::Waits;
         }
         match self.replies.take() {
             Taken::Item(answer) => {
                 self.print(printer, out, &answer);
                 self.pass_on(answer);
-                self.tell(gatekeeper);
+                self.report(gatekeeper);
                 Passed::Took
             }
             Taken::Empty => Passed::Waits,
@@ -123,7 +123,7 @@ impl Outlet {
     }
 
     // Passes the waiting answer on, and returns whether it still waits.
-    fn is_behind(&mut self) -> bool
+    fn is_lagging(&mut self) -> bool
         ensures others { self.new ≡ record self.old {
           records = self.new.records;
           waiting = self.new.waiting;
@@ -142,7 +142,7 @@ impl Outlet {
     fn print<O: Sink>(&mut self, printer: &mut Printer, out: &mut O, answer: &Answer)
         ensures others { self.new ≡ record self.old { lost = self.new.lost } }
         ensures style { printer.new.style ≡ printer.old.style }
-        ensures text { is_whole self.old.lost printer.old.failed ≡ true → self.new.lost ≡ false
+        ensures text { is_complete self.old.lost printer.old.failed ≡ true → self.new.lost ≡ false
             → TookText printer.new.failed (state_by O.given O.failures out.old)
             (state_by O.given O.failures out.new)
             (line printer.old.style self.old.proxy answer.now) }
@@ -182,9 +182,9 @@ impl Outlet {
     }
 
     // Tells how many answers were taken.
-    fn tell<G: Gatekeeper>(&self, gatekeeper: &G) {
+    fn report<G: Gatekeeper>(&self, gatekeeper: &G) {
         let taken = self.replies.taken();
-        self.progress.tell(taken);
+        self.progress.report(taken);
         gatekeeper.answered(self.proxy, taken.saturating_sub(1));
     }
 

@@ -5,22 +5,22 @@ use std::sync::atomic::{AtomicBool, AtomicU64, Ordering};
 /// How far the answers to a proxy have come, for its sender to see. No clause can say what another
 /// thread has stored.
 #[derive(Drop)]
-pub struct Progress {
+pub struct AnswerProgress {
     answered: AtomicU64,
     ended: AtomicBool,
 }
 
-impl Progress {
+impl AnswerProgress {
     /// Creates the progress of a proxy that has got no answer.
     pub fn new() -> Self {
-        Progress {
+        AnswerProgress {
             answered: AtomicU64::new(0),
             ended: AtomicBool::new(false),
         }
     }
 
     /// Tells that n answers were taken.
-    pub fn tell(&self, answered: u64) {
+    pub fn report(&self, answered: u64) {
         self.answered.store(answered, Ordering::SeqCst);
     }
 

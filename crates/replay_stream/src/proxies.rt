@@ -10,7 +10,7 @@ ghost use Rattle.replay_stream.specs.Proxies.{outlets_of, threads_by, threads_of
 ghost use Rattle.replay_stream.specs.Sinks.{state_by};
 
 use crate::outlet::Outlet;
-use crate::progress::Progress;
+use crate::progress::AnswerProgress;
 use crate::recorder::Recorder;
 use crate::streamed::Streamed;
 use crate::threads::{
@@ -27,7 +27,7 @@ use wire::{Sink, Source};
 
 /// The outlet of a proxy, and what its threads are started with.
 #[derive(Drop)]
-pub struct Task<S, W, G> {
+pub struct ProxyTask<S, W, G> {
     pub outlet: Outlet,
     pub sender: SenderTask<S, G>,
     pub recorder: Option<RecorderTask<W>>,
@@ -50,7 +50,7 @@ pub fn connect_all<S: Drop, W: Drop, G: Drop>(
     records: Vec<Option<W>>,
     clients: Vec<Client>,
     gatekeeper: &Arc<G, Global>,
-) -> Result<Vec<Task<S, W, G>>, AllocError>
+) -> Result<Vec<ProxyTask<S, W, G>>, AllocError>
     requires some { 1 ≤ vec_len readers }
     requires readers { vec_len readers ≡ vec_len clients }
     requires records { vec_len records ≡ vec_len clients }
@@ -92,7 +92,7 @@ fn connect<S: Drop, W: Drop, G: Drop>(
     reader: S,
     out: Option<W>,
     gatekeeper: Arc<G, Global>,
-) -> Result<Task<S, W, G>, AllocError>
+) -> Result<ProxyTask<S, W, G>, AllocError>
     ensures given { IfOk result (λ task. given_with task.outlet (threads_by task) ≡ record {
       proxy = assignment.proxy;
       client = client;
@@ -103,7 +103,7 @@ fn connect<S: Drop, W: Drop, G: Drop>(
     ensures new { IfOk result (λ task. IsNewOutlet task.outlet (threads_by task).answers) }
 {
     let Client { requests, replies } = client;
-    let progress = Arc::new(alloc, Progress::new())?;
+    let progress = Arc::new(alloc, AnswerProgress::new())?;
     let mut outlet = Outlet {
         replies,
         records: None,
@@ -134,7 +134,7 @@ fn connect<S: Drop, W: Drop, G: Drop>(
         gatekeeper,
         progress,
     };
-    Ok(Task {
+    Ok(ProxyTask {
         outlet,
         sender,
         recorder,
@@ -147,7 +147,7 @@ pub fn start_all<
     W: Sink + Send + Drop + 'static,
     G: Gatekeeper + ShareKeeper + Send + Sync + Drop + 'static,
     R: Threads + Wait + Copy + Send + 'static,
->(rt: &R, alloc: Global, tasks: Vec<Task<S, W, G>>) -> Result<Vec<Proxy<S, W>>, StartError>
+>(rt: &R, alloc: Global, tasks: Vec<ProxyTask<S, W, G>>) -> Result<Vec<Proxy<S, W>>, StartError>
     ensures outlets { IfOk result (λ proxies. outlets_of proxies.items
         ≡ map (λ task. task.outlet) tasks.items) }
     ensures threads { IfOk result (λ proxies. map threads_of proxies.items
@@ -166,11 +166,11 @@ fn start<
     W: Sink + Send + Drop + 'static,
     G: Gatekeeper + ShareKeeper + Send + Sync + Drop + 'static,
     R: Threads + Wait + Copy + Send + 'static,
->(rt: &R, alloc: Global, task: Task<S, W, G>) -> Result<Proxy<S, W>, StartError>
+>(rt: &R, alloc: Global, task: ProxyTask<S, W, G>) -> Result<Proxy<S, W>, StartError>
     ensures outlet { IfOk result (λ proxy. proxy.outlet ≡ task.outlet) }
     ensures threads { IfOk result (λ proxy. threads_of proxy ≡ threads_by task) }
 {
-    let Task {
+    let ProxyTask {
         outlet,
         sender,
         recorder,

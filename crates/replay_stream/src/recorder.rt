@@ -5,7 +5,7 @@ ghost use Rattle.keyspace.specs.declared.answer.Answer.{Answer as AnswerValue};
 ghost use Rattle.replay_stream.specs.Recorder.{HasRecorded, WritesRecords};
 ghost use Rattle.replay_stream.specs.Sinks.{SinkState, state_by};
 
-use crate::progress::Progress;
+use crate::progress::AnswerProgress;
 use keyspace::Answer;
 use lane::{Intake, Taken};
 use replay_output::{AnswerError, write_record};
@@ -30,7 +30,7 @@ pub fn record_all<W: Sink + Drop, R: Wait>(
     alloc: Global,
     answers: Intake<Answer>,
     out: W,
-    progress: &Progress,
+    progress: &AnswerProgress,
 ) -> Recorder<W>
     ensures recorded { HasRecorded (state_by W.given W.failures) answers out result }
 {
@@ -51,7 +51,7 @@ pub fn record_all<W: Sink + Drop, R: Wait>(
 
 impl<W: Sink> Recorder<W> {
     // Writes the record of an answer, unless one was not written before.
-    fn write(&mut self, alloc: Global, answer: &Answer, progress: &Progress)
+    fn write(&mut self, alloc: Global, answer: &Answer, progress: &AnswerProgress)
         ensures answers { self.new.answers ≡ self.old.answers }
         ensures writes { (first taken : List AnswerValue) (before : SinkState)
             → WritesRecords first taken before (state_by W.given W.failures self.old.out)

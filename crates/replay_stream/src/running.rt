@@ -6,8 +6,8 @@ ghost use Rattle.std.specs.Prelude.{vec_len, IfOk, IsTrue, OnErr};
 ghost use Rattle.resolver.specs.declared.resolver_core.TheConstants.{MAX_PROXIES};
 ghost use Rattle.replay_stream.specs.Recorder.{is_unwritten, unwritten_cause};
 ghost use Rattle.replay_stream.specs.Streaming.{HaveRecords, IsStreamed, recorded_each};
-ghost use Rattle.resolver.specs.Core.{GoesOn};
-ghost use Rattle.resolver.specs.Lanes.{Lanes, Each, LanesGoOn};
+ghost use Rattle.resolver.specs.Core.{Continues};
+ghost use Rattle.resolver.specs.Lanes.{Lanes, Each, LanesContinue};
 ghost use Rattle.resolver.specs.Resolver.{IsResolving, IsThrough};
 ghost use Rattle.replay_stream.specs.Outlet.{AreNumbered, HavePassedAll, StreamsOn};
 ghost use Rattle.replay_stream.specs.Proxies.{outlets_of, threads_of};
@@ -18,7 +18,7 @@ use crate::outlet::{Passed, Printer};
 use crate::proxies::{Proxy, connect_all, join_all, start_all};
 use crate::streamed::Streamed;
 use replay_output::{Options, StartError};
-use replay_workers::{Gatekeeper, ShareKeeper, Watch, let_through};
+use replay_workers::{Gatekeeper, ShareKeeper, Watch, admit};
 use resolver::{Account, Resolver, Turn, open};
 use std::alloc::Global;
 use std::sync::{Arc, Wait};
@@ -110,8 +110,8 @@ fn turn_to_end<S: Source, W: Sink, G: Gatekeeper + ShareKeeper, R: Wait, O: Sink
         → l.replies.closed ≡ true }
     ensures accounted { IsAccountedFor resolver.old → IsAccountedFor resolver.new }
     ensures resolving { IsResolving resolver.old → IsResolving resolver.new }
-    ensures goes_on { GoesOn resolver.old.core resolver.new.core }
-    ensures lanes { Each (λ _ l m. LanesGoOn l m) resolver.old.lanes resolver.new.lanes }
+    ensures continues { Continues resolver.old.core resolver.new.core }
+    ensures lanes { Each (λ _ l m. LanesContinue l m) resolver.old.lanes resolver.new.lanes }
     ensures streams { StreamsOn printer.old.style printer.old.failed printer.new.failed
         (state_by O.given O.failures out.old)
         (state_by O.given O.failures out.new) (outlets_of proxies.old) (outlets_of proxies.new) }
@@ -123,7 +123,7 @@ fn turn_to_end<S: Source, W: Sink, G: Gatekeeper + ShareKeeper, R: Wait, O: Sink
         match resolver.turn() {
             Ok(Turn::Took(_)) => watch.forget(),
             Ok(Turn::Idle) => {
-                let_through(resolver, gatekeeper, watch);
+                admit(resolver, gatekeeper, watch);
                 thread::yield_now();
             }
             Ok(Turn::Done) => {

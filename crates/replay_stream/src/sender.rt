@@ -3,13 +3,13 @@
 ghost use Rattle.std.specs.Prelude.{◌≡◌, ◌<◌, ◌⊎◌, [], ◌∷◌, ◌++◌, length, None};
 ghost use Rattle.std.specs.Prelude.{IsTrue, OnOk, OnErr, IfErr};
 ghost use Rattle.flow.specs.Share.{unanswered};
-ghost use Rattle.lane.specs.Lane.{PortGoesOn};
+ghost use Rattle.lane.specs.Lane.{PortContinues};
 ghost use Rattle.lane.specs.Refused.{item_of};
 ghost use Rattle.replay_workers.specs.Reporting.{SendsFrames};
 ghost use Rattle.replay_workers.specs.Worker.{SendsBatches, batch_of, fault_of, unsent_of};
 ghost use Rattle.replay_stream.specs.Sender.{HasSent};
 
-use crate::progress::Progress;
+use crate::progress::AnswerProgress;
 use flow::{Stand, is_below_share};
 use keyspace::Batch;
 use lane::{Port, Refused};
@@ -56,7 +56,7 @@ pub fn send_all<S: Source + Drop, G: Gatekeeper + ShareKeeper, R: Wait>(
     reader: S,
     reports: Reports,
     gatekeeper: &G,
-    progress: &Progress,
+    progress: &AnswerProgress,
 ) -> Sent
     ensures sent { HasSent reports (S.remaining reader) requests result }
 {
@@ -80,11 +80,11 @@ impl Sender {
         rt: &R,
         alloc: Global,
         gatekeeper: &G,
-        progress: &Progress,
+        progress: &AnswerProgress,
         reader: S,
         reports: Reports,
     ) -> FileEnd
-        ensures requests { PortGoesOn self.old.requests self.new.requests }
+        ensures requests { PortContinues self.old.requests self.new.requests }
         ensures sent { SendsFrames reports (S.remaining reader) self.old.requests.sent
             self.new.requests.sent (fault_of result) (unsent_of result) }
     {
@@ -105,11 +105,11 @@ impl Sender {
         &mut self,
         rt: &R,
         gatekeeper: &G,
-        progress: &Progress,
+        progress: &AnswerProgress,
         batches: &mut B,
     ) -> FileEnd
         requires fresh { B.refusal batches.old ≡ None }
-        ensures requests { PortGoesOn self.old.requests self.new.requests }
+        ensures requests { PortContinues self.old.requests self.new.requests }
         ensures sent { SendsBatches B.gives B.is_at_end B.is_at_fault batches.old
             self.old.requests.sent self.new.requests.sent (fault_of result) (unsent_of result) }
     {
@@ -133,13 +133,13 @@ impl Sender {
         &mut self,
         rt: &R,
         gatekeeper: &G,
-        progress: &Progress,
+        progress: &AnswerProgress,
         batch: Batch,
     ) -> Result<(), Leftover>
-        ensures requests { PortGoesOn self.old.requests self.new.requests }
+        ensures requests { PortContinues self.old.requests self.new.requests }
         ensures sent { OnOk result (self.new.requests.sent ≡ self.old.requests.sent ++ batch ∷ []) }
         ensures unchanged { OnErr result (self.new.requests.sent ≡ self.old.requests.sent) }
-        ensures handed_back { IfErr result (λ leftover. batch_of leftover ≡ batch) }
+        ensures returned { IfErr result (λ leftover. batch_of leftover ≡ batch) }
     {
         let mut waiting = batch;
         for _ in rt.forever() {
@@ -166,13 +166,13 @@ impl Sender {
         answered: u64,
         batch: Batch,
     ) -> Result<(), Refused<Batch>>
-        ensures requests { PortGoesOn self.old.requests self.new.requests }
+        ensures requests { PortContinues self.old.requests self.new.requests }
         ensures sent { OnOk result (self.new.requests.sent ≡ self.old.requests.sent ++ batch ∷ []) }
         ensures unchanged { OnErr result (self.new.requests.sent ≡ self.old.requests.sent) }
-        ensures handed_back { IfErr result (λ refused. item_of refused ≡ batch) }
+        ensures returned { IfErr result (λ refused. item_of refused ≡ batch) }
         ensures share { OnOk result
             ((unanswered (length self.old.requests.sent) answered < self.old.share)
-            ⊎ G.lets_through gatekeeper.now self.old.proxy
+            ⊎ G.admits gatekeeper.now self.old.proxy
             record { previous = batch.previous; answered = answered }) }
     {
         if !self.may_send(gatekeeper, answered, &batch) {
@@ -193,7 +193,7 @@ impl Sender {
     ) -> bool
         ensures share { IsTrue result
             → (unanswered (length self.now.requests.sent) answered < self.now.share)
-            ⊎ G.lets_through gatekeeper.now self.now.proxy
+            ⊎ G.admits gatekeeper.now self.now.proxy
             record { previous = batch.now.previous; answered = answered } }
     {
         let stand = Stand {

@@ -5,7 +5,7 @@ ghost use Rattle.replay_stream.specs.Sender.{HasSent};
 ghost use Rattle.replay_stream.specs.Recorder.{HasRecorded};
 ghost use Rattle.replay_stream.specs.Sinks.{state_by};
 
-use crate::progress::Progress;
+use crate::progress::AnswerProgress;
 use crate::recorder::{Recorder, record_all};
 use crate::sender::{Sent, send_all};
 use keyspace::{Answer, Batch};
@@ -27,7 +27,7 @@ pub struct SenderTask<S, G> {
     pub reader: S,
     pub reports: Reports,
     pub gatekeeper: Arc<G, Global>,
-    pub progress: Arc<Progress, Global>,
+    pub progress: Arc<AnswerProgress, Global>,
 }
 
 /// What a recorder is started with.
@@ -35,7 +35,7 @@ pub struct SenderTask<S, G> {
 pub struct RecorderTask<W> {
     pub answers: Intake<Answer>,
     pub out: W,
-    pub progress: Arc<Progress, Global>,
+    pub progress: Arc<AnswerProgress, Global>,
 }
 
 // Promises what a sender does with its task.

@@ -3,7 +3,7 @@ pub mod Selecting
 pub mod Rising
 pub mod Summing
 pub mod Fitting
-pub mod Told
+pub mod CountedItems
 pub mod Appending
 pub mod Numbered
 mod Texts

@@ -11,7 +11,7 @@ use Rattle.replay_summary.specs.Text.{last_line, members, proxy_line, proxy_obje
 
 -- what holds on success, of a result that is a success
 pub once_ok : {T E P : Type 0} (result put : Result T E) (x : T) → put ≡ result → put ≡ Ok x → OnOk result P → P
-once_ok {P = P} result put x same is told = subst (λ r. OnOk r P) (sym same ∙ is) told
+once_ok {P = P} result put x same is reported = subst (λ r. OnOk r P) (sym same ∙ is) reported
 
 -- the lines, put into an empty text
 pub words_text : (made before : List ℕ) (summaries : List Summary) (total : Summary) (occupancy : Option Occupancy) (form : SummaryForm)

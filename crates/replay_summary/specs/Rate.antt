@@ -8,7 +8,7 @@ use Rattle.replay_summary.specs.declared.summary.Summary.{Summary}
 
 -- the share of a part in tenths of a percent, rounded to the nearest one, and up from the middle
 abbrev pub tenths : ℕ → ℕ → ℕ
-tenths part whole = (1000 * part + whole / 2) / whole
+tenths part entire = (1000 * part + entire / 2) / entire
 
 -- tenths of a percent, in percent with one decimal
 abbrev pub percent : ℕ → List ℕ

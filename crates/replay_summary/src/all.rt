@@ -17,11 +17,11 @@ pub fn summarize_all<T: HasCounted>(
     alloc: Global,
     answers: &[Vec<T>],
 ) -> Result<Vec<Summary>, SummaryError>
-    requires rise { All (Rise (λ answer. version_of (T.counted_told answer)))
+    requires rise { All (Rise (λ answer. version_of (T.item_counted answer)))
         (map vec_items answers.now) }
     ensures summaries { IfOk result (λ summaries. summaries.items
-        ≡ map (λ of_proxy. summary_of (map T.counted_told of_proxy)) (map vec_items answers.now)) }
-    ensures memory { All (λ of_proxy. Fits (summary_of (map T.counted_told of_proxy)))
+        ≡ map (λ of_proxy. summary_of (map T.item_counted of_proxy)) (map vec_items answers.now)) }
+    ensures memory { All (λ of_proxy. Fits (summary_of (map T.item_counted of_proxy)))
         (map vec_items answers.now) → IfErr result (λ error. error ≡ SummaryError.Memory) }
 {
     let mut summaries = Vec::new(alloc);

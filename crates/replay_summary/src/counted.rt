@@ -51,15 +51,15 @@ impl Counted {
 /// What has a counted answer.
 pub trait HasCounted {
     // The counted answer of this item.
-    ghost counted_told: { Self → CountedValue };
+    ghost item_counted: { Self → CountedValue };
 
     /// Returns the counted answer.
     fn counted(&self) -> Counted
-        ensures counted { result ≡ counted_told self.now };
+        ensures counted { result ≡ item_counted self.now };
 }
 
 impl HasCounted for Counted {
-    ghost counted_told = { λ counted. counted };
+    ghost item_counted = { λ counted. counted };
 
     fn counted(&self) -> Counted {
         *self
@@ -67,7 +67,7 @@ impl HasCounted for Counted {
 }
 
 impl HasCounted for Answer {
-    ghost counted_told = { counted_of };
+    ghost item_counted = { counted_of };
 
     fn counted(&self) -> Counted {
         Counted::of(self)

@@ -14,10 +14,10 @@ use crate::versions::Versions;
 /// Returns the summary of the answers to a proxy, which are sorted by version, or none if a number
 /// of it is beyond 64 bits.
 pub fn summarize<T: HasCounted>(answers: &[T]) -> Option<Summary>
-    requires rises { Rise (λ answer. version_of (T.counted_told answer)) answers.now }
+    requires rises { Rise (λ answer. version_of (T.item_counted answer)) answers.now }
     ensures summary { IfSome result
-        (λ summary. summary ≡ summary_of (map T.counted_told answers.now)) }
-    ensures none { IfNone result (¬ Fits (summary_of (map T.counted_told answers.now))) }
+        (λ summary. summary ≡ summary_of (map T.item_counted answers.now)) }
+    ensures none { IfNone result (¬ Fits (summary_of (map T.item_counted answers.now))) }
 {
     let mut summary = Summary::empty();
     for answer in answers {

@@ -2,8 +2,8 @@
 
 use crate::counting::Counting;
 use crate::rows::{
-    FIRST_RUN_IN_FRAMES, HELD_OVERTAKEN, HELD_REPEAT_ANSWERED_TWICE, REPORT_HISTORY_HITS, Row,
-    SECOND_FILE_CONTINUES_CHAIN, SNAPSHOT_AT_WRITE,
+    FIRST_RUN_IN_FRAMES, HELD_OVERTAKEN, HELD_REPEAT_ANSWERED_TWICE, REPORT_HISTORY_HITS,
+    SECOND_FILE_CONTINUES_CHAIN, SNAPSHOT_AT_WRITE, TestRow,
 };
 use crate::runs::{Reader, file_of, reader, replay_into};
 use replay_program::{Options, Reports, Status, Style, Unshared};
@@ -17,31 +17,31 @@ use test_values::Unmade;
 use wire::StdSink;
 
 // How the lines of a proxy begin.
-fn beginning_of(proxy: usize) -> &'static str {
+fn line_start(proxy: usize) -> &'static str {
     if proxy == 0 { "0 " } else { "1 " }
 }
 
 // How a run has ended.
 #[derive(Drop)]
-struct Ended<'a> {
+struct EndedRun<'a> {
     status: Status,
     out: &'a str,
     error: &'a str,
     counts: &'a Counting,
 }
 
-impl Ended<'_> {
+impl EndedRun<'_> {
     // How many lines were printed of the proxy.
     fn count(&self, proxy: usize) -> u64 {
-        let beginning = beginning_of(proxy);
+        let prefix = line_start(proxy);
         let lines = self.out.lines();
-        lines.filter(|line| line.starts_with(beginning)).count() as u64
+        lines.filter(|line| line.starts_with(prefix)).count() as u64
     }
 }
 
-impl Row<'_> {
+impl TestRow<'_> {
     // Whether a run may end so.
-    fn promises(&self, ended: &Ended) -> bool {
+    fn promises(&self, ended: &EndedRun) -> bool {
         if ended.error.is_empty() {
             return ended.status == Status::Done && ended.out == self.lines;
         }
@@ -53,7 +53,7 @@ impl Row<'_> {
     }
 
     // Whether these lines may be printed where a line names this refusal.
-    fn allows(&self, refusal: &str, ended: &Ended) -> bool {
+    fn allows(&self, refusal: &str, ended: &EndedRun) -> bool {
         match refusal {
             "start 1 Memory" | "start 2 Thread" => ended.out.is_empty(),
             "stop 1 Memory" => self.has_all_taken(ended, 0) && self.has_all_taken(ended, 1),
@@ -66,14 +66,11 @@ impl Row<'_> {
     }
 
     // Whether the lines of the proxy are the first of those that it has with ample memory.
-    fn begins(&self, ended: &Ended, proxy: usize) -> bool {
-        let beginning = beginning_of(proxy);
-        let mut expected = self
-            .lines
-            .lines()
-            .filter(|line| line.starts_with(beginning));
+    fn begins(&self, ended: &EndedRun, proxy: usize) -> bool {
+        let prefix = line_start(proxy);
+        let mut expected = self.lines.lines().filter(|line| line.starts_with(prefix));
         for line in ended.out.lines() {
-            if line.starts_with(beginning) && expected.next() != Some(line) {
+            if line.starts_with(prefix) && expected.next() != Some(line) {
                 return false;
             }
         }
@@ -81,13 +78,13 @@ impl Row<'_> {
     }
 
     // Whether there is a line of each answer that the proxy has taken.
-    fn has_all_taken(&self, ended: &Ended, proxy: usize) -> bool {
+    fn has_all_taken(&self, ended: &EndedRun, proxy: usize) -> bool {
         self.begins(ended, proxy) && ended.count(proxy) == ended.counts.taken(proxy)
     }
 
     // Whether a line of the first proxy is missing, and none of the other. Where it is the sort
     // that is refused, all are missing.
-    fn has_loss(&self, ended: &Ended, proxy: usize, other: usize) -> bool {
+    fn has_loss(&self, ended: &EndedRun, proxy: usize, other: usize) -> bool {
         if ended.out.is_empty() {
             return true;
         }
@@ -97,7 +94,7 @@ impl Row<'_> {
     }
 
     // Whether the lines are those of a file of the proxy that ends after the frames that were read.
-    fn is_cut(&self, ended: &Ended, proxy: usize) -> bool {
+    fn is_cut(&self, ended: &EndedRun, proxy: usize) -> bool {
         let Some(cut) = self.cut.get(proxy) else {
             return false;
         };
@@ -107,7 +104,7 @@ impl Row<'_> {
 
 // What a run is made of.
 #[derive(Drop)]
-struct Run {
+struct MemoryRun {
     readers: Vec<Reader>,
     gatekeeper: Arc<Unshared<Counting>, Global>,
     out: StdSink<Vec<u8>>,
@@ -117,7 +114,7 @@ struct Run {
 // More bytes than a run prints.
 const ROOM: usize = 1_000;
 
-impl Run {
+impl MemoryRun {
     // The outputs have room, so that no write is refused.
     fn new(alloc: Global, files: &[&[&str]]) -> Result<Self, Unmade> {
         let mut readers = Vec::new(alloc);
@@ -125,7 +122,7 @@ impl Run {
             let file = file_of(alloc, batches, b"")?;
             readers.push(reader(file)).map_err(AllocError::from)?;
         }
-        Ok(Run {
+        Ok(MemoryRun {
             readers,
             gatekeeper: Arc::new(alloc, Unshared(Counting::new())).map_err(AllocError::from)?,
             out: StdSink::new(Vec::with_capacity(alloc, ROOM)?),
@@ -135,8 +132,8 @@ impl Run {
 
     // In a second try where the first is refused memory.
     fn new_at_last(alloc: Global, files: &[&[&str]]) -> Result<Self, Unmade> {
-        match Run::new(alloc, files) {
-            Err(Unmade::Memory) => Run::new(alloc, files),
+        match MemoryRun::new(alloc, files) {
+            Err(Unmade::Memory) => MemoryRun::new(alloc, files),
             made => made,
         }
     }
@@ -146,7 +143,7 @@ impl Run {
 fn ends_as_promised<R: Threads + Wait + Copy + Send + 'static>(
     rt: &R,
     alloc: Global,
-    row: &Row,
+    row: &TestRow,
 ) -> Result<bool, Unmade> {
     ends_with(rt, alloc, row, Reports::Asked)
 }
@@ -155,15 +152,15 @@ fn ends_as_promised<R: Threads + Wait + Copy + Send + 'static>(
 fn ends_with<R: Threads + Wait + Copy + Send + 'static>(
     rt: &R,
     alloc: Global,
-    row: &Row,
+    row: &TestRow,
     reports: Reports,
 ) -> Result<bool, Unmade> {
-    let Run {
+    let MemoryRun {
         readers,
         gatekeeper,
         mut out,
         mut error,
-    } = Run::new_at_last(alloc, row.files)?;
+    } = MemoryRun::new_at_last(alloc, row.files)?;
     let mut options = Options::default();
     options.style = Style::all(row.form);
     options.reports = reports;
@@ -181,7 +178,7 @@ fn ends_with<R: Threads + Wait + Copy + Send + 'static>(
         return Err(Unmade::Text("UTF-8"));
     };
     let counts: &Counting = &gatekeeper.0;
-    Ok(row.promises(&Ended {
+    Ok(row.promises(&EndedRun {
         status,
         out,
         error,

@@ -4,7 +4,7 @@
 use replay_program::Form;
 
 /// The files of a row and what they give.
-pub struct Row<'a> {
+pub struct TestRow<'a> {
     /// The batches of each file.
     pub files: &'a [&'a [&'a str]],
     /// The form of printed answers.
@@ -15,7 +15,7 @@ pub struct Row<'a> {
     pub cut: &'a [&'a [&'a str]],
 }
 
-pub const SNAPSHOT_AT_WRITE: Row<'static> = Row {
+pub const SNAPSHOT_AT_WRITE: TestRow<'static> = TestRow {
     files: &[&["-1>0", "0>100: W[a,b)", "100>200: R[a,b) @100"]],
     form: Form::Words,
     lines: "0 0 empty\n0 100 committed\n0 200 committed\n",
@@ -27,7 +27,7 @@ pub const SNAPSHOT_AT_WRITE: Row<'static> = Row {
     ]],
 };
 
-pub const REPORT_HISTORY_HITS: Row<'static> = Row {
+pub const REPORT_HISTORY_HITS: TestRow<'static> = TestRow {
     files: &[&[
         "-1>0",
         "0>100: W[a,b) W[e,f)",
@@ -43,7 +43,7 @@ pub const REPORT_HISTORY_HITS: Row<'static> = Row {
     ]],
 };
 
-pub const HELD_REPEAT_ANSWERED_TWICE: Row<'static> = Row {
+pub const HELD_REPEAT_ANSWERED_TWICE: TestRow<'static> = TestRow {
     files: &[&["-1>0", "100>200", "100>200", "0>100"]],
     form: Form::Words,
     lines: "0 0 empty\n0 100 empty\n0 200 empty\n0 200 empty\n",
@@ -56,7 +56,7 @@ pub const HELD_REPEAT_ANSWERED_TWICE: Row<'static> = Row {
     ]],
 };
 
-pub const HELD_OVERTAKEN: Row<'static> = Row {
+pub const HELD_OVERTAKEN: TestRow<'static> = TestRow {
     files: &[&["-1>0", "150>300", "100>200", "0>100"]],
     form: Form::Words,
     lines: "0 0 empty\n0 100 empty\n0 200 empty\n0 300 never\n",
@@ -69,7 +69,7 @@ pub const HELD_OVERTAKEN: Row<'static> = Row {
     ]],
 };
 
-pub const SECOND_FILE_CONTINUES_CHAIN: Row<'static> = Row {
+pub const SECOND_FILE_CONTINUES_CHAIN: TestRow<'static> = TestRow {
     files: &[&["-1>0", "0>100: W[a,b)"], &["100>200: R[a,b) @100"]],
     form: Form::Words,
     lines: "0 0 empty\n0 100 committed\n1 200 committed\n",
@@ -87,7 +87,7 @@ pub const SECOND_FILE_CONTINUES_CHAIN: Row<'static> = Row {
 };
 
 /// The frames of docs/WIRE.md.
-pub const FIRST_RUN_IN_FRAMES: Row<'static> = Row {
+pub const FIRST_RUN_IN_FRAMES: TestRow<'static> = TestRow {
     files: &[&["-1>0", "0>100: W[a,b)"]],
     form: Form::Frames,
     lines: "0 0 0000000b0200000000000000000000\n0 100 0000000e0200000000000000640001020000\n",

@@ -12,9 +12,9 @@ use Rattle.replay_workers.specs.declared.ends.Ends.{Ends}
 use Rattle.replay_workers.specs.declared.inbox.Inbox.{Inbox}
 use Rattle.replay_output.specs.declared.line.Line.{Line}
 use Rattle.replay_output.specs.Line.{answer_of, answers_of, IsLineOf}
-use Rattle.replay_workers.specs.Ends.{EndsGoOn}
-use Rattle.replay_workers.specs.Inbox.{KeepsLines, InboxGoesOn}
-use Rattle.replay_workers.proofs.callers.SameLanes.{ends_go_on}
+use Rattle.replay_workers.specs.Ends.{EndsContinue}
+use Rattle.replay_workers.specs.Inbox.{KeepsLines, InboxContinues}
+use Rattle.replay_workers.proofs.callers.SameLanes.{ends_continue}
 
 -- the answer's line was kept, behind the others
 abbrev pub IsKept : Style → ℕ → List Line → List Line → Answer → Type 0
@@ -59,15 +59,15 @@ module _ (style : Style) (proxy : ℕ) (before now : List Answer) (answer : Answ
   keeps_also true false keeps stays lost kept = absurd (false≢true (stays refl))
   keeps_also false false keeps stays lost kept = kept_also keeps (kept refl)
 
-pub item_kept : (first old new : Inbox) (ends : Ends) (answer : Answer) → InboxGoesOn first old
-    → EndsGoOn old.ends ends → ends.replies.taken ≡ old.ends.replies.taken ++ answer ∷ [] → new.ends ≡ ends
+pub item_kept : (first old new : Inbox) (ends : Ends) (answer : Answer) → InboxContinues first old
+    → EndsContinue old.ends ends → ends.replies.taken ≡ old.ends.replies.taken ++ answer ∷ [] → new.ends ≡ ends
     → new.proxy ≡ old.proxy → new.style ≡ old.style → (old.lost ≡ true → new.lost ≡ true)
     → (new.lost ≡ true → new.lines.items ≡ old.lines.items)
-    → (new.lost ≡ false → IsKept old.style old.proxy old.lines.items new.lines.items answer) → InboxGoesOn first new
+    → (new.lost ≡ false → IsKept old.style old.proxy old.lines.items new.lines.items answer) → InboxContinues first new
 item_kept first old new ends answer goes on took same_ends same_proxy same_style stays lost kept = record {
   ends =
-      ends_go_on first.ends old.ends new.ends goes.ends
-      (subst (λ (e : Ends). EndsGoOn old.ends e) (sym same_ends) on);
+      ends_continue first.ends old.ends new.ends goes.ends
+      (subst (λ (e : Ends). EndsContinue old.ends e) (sym same_ends) on);
   proxy = same_proxy ∙ goes.proxy;
   style = same_style ∙ goes.style;
   lines = λ before keeps.
@@ -83,18 +83,18 @@ item_kept first old new ends answer goes on took same_ends same_proxy same_style
       (sym same_style) also));
 }
 
-pub inbox_goes_on : (a b c : Inbox) → InboxGoesOn a b → InboxGoesOn b c → InboxGoesOn a c
-inbox_goes_on a b c first second = record {
-  ends = ends_go_on a.ends b.ends c.ends first.ends second.ends;
+pub inbox_continues : (a b c : Inbox) → InboxContinues a b → InboxContinues b c → InboxContinues a c
+inbox_continues a b c first second = record {
+  ends = ends_continue a.ends b.ends c.ends first.ends second.ends;
   proxy = second.proxy ∙ first.proxy;
   style = second.style ∙ first.style;
   lines = λ before keeps. second.lines before (first.lines before keeps);
 }
 
 -- the ends were used otherwise than to take answers
-pub with_ends : (old new : Inbox) → EndsGoOn old.ends new.ends → new.ends.replies ≡ old.ends.replies
-    → new ≡ record old { ends = new.ends } → InboxGoesOn old new
-with_ends old new on same is = subst (InboxGoesOn old) (sym is) (record {
+pub with_ends : (old new : Inbox) → EndsContinue old.ends new.ends → new.ends.replies ≡ old.ends.replies
+    → new ≡ record old { ends = new.ends } → InboxContinues old new
+with_ends old new on same is = subst (InboxContinues old) (sym is) (record {
   ends = on;
   proxy = refl;
   style = refl;
@@ -104,8 +104,8 @@ with_ends old new on same is = subst (InboxGoesOn old) (sym is) (record {
 })
 
 -- answers were taken, and then a batch was sent, or not
-pub sends_on : (first old taken new : Inbox) → InboxGoesOn first old → InboxGoesOn old taken
-    → EndsGoOn taken.ends new.ends → new.ends.replies ≡ taken.ends.replies → new ≡ record taken { ends = new.ends }
-    → InboxGoesOn first new
+pub sends_on : (first old taken new : Inbox) → InboxContinues first old → InboxContinues old taken
+    → EndsContinue taken.ends new.ends → new.ends.replies ≡ taken.ends.replies → new ≡ record taken { ends = new.ends }
+    → InboxContinues first new
 sends_on first old taken new goes takes on same is =
-    inbox_goes_on first old new goes (inbox_goes_on old taken new takes (with_ends taken new on same is))
+    inbox_continues first old new goes (inbox_continues old taken new takes (with_ends taken new on same is))

@@ -1,13 +1,15 @@
 -- How full a resolver is, from turn to turn.
-use Rattle.std.specs.Prelude.{◌≡◌, ℕ, ◌≤◌, ℤ, negsuc, true, false, ◌++◌, min, max, List, [], ◌∷◌, length, take, Option, None, Some, IfSome, Result, Ok, Err, IfErr, OnOk, is_err}
+use Rattle.std.specs.Prelude.{◌≡◌, ℕ, ◌≤◌, ℤ, pos, negsuc, ◌-ℤ◌, ◌≤ℤ◌, true, false, ◌++◌, min, max, List, [], ◌∷◌, length, take, Option, None, Some, IfSome, Result, Ok, Err, IfErr, OnOk, is_err}
+use Rattle.std.specs.Int.{int_max}
 use Rattle.std.proofs.Common.{refl, sym, ap, subst, ◌∙◌, inl, inr, append-nil, arith}
 use Rattle.std.proofs.lemmas.Bool.{cases_lt, false≢true}
 use Rattle.std.proofs.lemmas.List.{length_push, take-append-le, take_all, take_min}
-use Rattle.keyspace.specs.Processed.{Processed}
+use Rattle.keyspace.specs.Processed.{Processed, version_of}
 use Rattle.keyspace.specs.Run.{Step, Take, Finish, run}
 use Rattle.resolver.specs.declared.stop.Stop.{Stop}
 use Rattle.resolver.specs.declared.turn.Turn.{Turn}
-use Rattle.resolver.specs.Core.{IsIn}
+use Rattle.stepmap.specs.StepMap.{AreSteps}
+use Rattle.resolver.specs.Core.{IsIn, RemembersWindow}
 use Rattle.resolver.specs.Lanes.{sent_to}
 use Rattle.resolver.specs.Observed.{HasSeen, Observes}
 use Rattle.resolver.specs.Resolver.{ResolverState, StandsOver, TakesFrom, Finishes, TakesNoStep}
@@ -86,6 +88,25 @@ module _ (limit : ℕ) (window : ℤ) (log : List Step) (before : Occupancy) (he
   no_more : max before.most_boundaries boundaries ≤ limit
   no_more = omega (arith, over.within, within)
 
+  abbrev HasFew : List Step → Type 0
+  HasFew l = (count : ℕ) × HasBoundaries limit window l count × (count ≤ max before.most_boundaries boundaries)
+
+  few_before : (n : ℕ) → HasFew (take n log)
+  few_before n =
+      let was = over.none_more n in
+      let still : was.0 ≤ max before.most_boundaries boundaries = omega (arith, was.2) in
+      (was.0, was.1, still)
+
+  few_after : (x : Step) → HasBoundaries limit window (log ++ x ∷ []) boundaries → (n : ℕ) → HasFew (take n (log ++ x ∷ []))
+  few_after x has n = elim (cases_lt (length log) n) [
+    | inl beyond ↦
+        let all : take n (log ++ x ∷ []) ≡ log ++ x ∷ [] = take_all n (log ++ x ∷ []) (omega (arith, beyond, length_push log x)) in
+        subst HasFew (sym all) (boundaries, has, at_most)
+    | inr no_more ↦
+        let first : take n (log ++ x ∷ []) ≡ take n log = take-append-le n log (x ∷ []) no_more in
+        subst HasFew (sym first) (few_before n)
+  ]
+
   -- noted after one step more
   noted_more : (x : Step) → Holds window (log ++ x ∷ []) held → HasBoundaries limit window (log ++ x ∷ []) boundaries
       → IsOccupancyOver limit window (log ++ x ∷ []) (noted held boundaries before)
@@ -97,6 +118,7 @@ module _ (limit : ℕ) (window : ℤ) (log : List Step) (before : Occupancy) (he
         boundaries = has;
         steps = at.0;
         most_boundaries = at.1;
+        none_more = few_after x has;
         at_most = at_most;
         within = no_more;
       }
@@ -111,13 +133,15 @@ module _ (limit : ℕ) (window : ℤ) (log : List Step) (before : Occupancy) (he
         boundaries = has;
         steps = at.0;
         most_boundaries = at.1;
+        none_more = few_before;
         at_most = at_most;
         within = no_more;
       }
 
 -- the resolver represents this log, and met no stop
 module _ (limit : ℕ) (window : ℤ) (r : ResolverState) (limit_is : r.core.set.map.limit ≡ limit) (window_is : r.core.set.window ≡ window)
-    (none : r.core.stop ≡ None) (log : List Step) (stands : StandsOver r log) where
+    (none : r.core.stop ≡ None) (log : List Step) (stands : StandsOver r log) (steps : AreSteps r.core.set.map)
+    (reaches : RemembersWindow r.core) where
   state : IsIn (run window log) (sent_to r.lanes) r.core
   state =
       subst (λ (w : ℤ). IsIn (run w log) (sent_to r.lanes) r.core) window_is
@@ -131,6 +155,10 @@ module _ (limit : ℕ) (window : ℤ) (r : ResolverState) (limit_is : r.core.set
   boundaries_of : HasBoundaries limit window log (length r.core.set.map.boundaries)
   boundaries_of = record {
     set = r.core.set;
+    steps = steps;
+    edge =
+        subst (λ (w : ℤ). r.core.set.map.edge ≤ℤ int_max (version_of (run window log).processed -ℤ w) (pos 0)) window_is
+        (subst (λ (v : ℤ). r.core.set.map.edge ≤ℤ int_max (v -ℤ r.core.set.window) (pos 0)) state.version (reaches none));
     remembers = state.remembers;
     limit_is = limit_is;
     count_is = refl;
@@ -157,13 +185,13 @@ no_last (first ∷ before) last is = absurd (omega (arith, ap length is))
 
 -- a resolver that has taken nothing, and an observer that has seen nothing
 pub measured_new : (Seen : List Processed → Type 0) (r : ResolverState) → StandsOver r [] → r.core.stop ≡ None → Seen []
-    → (count : ℕ) → count ≡ length r.core.set.map.boundaries → count ≤ r.core.set.map.limit
+    → AreSteps r.core.set.map → RemembersWindow r.core → (count : ℕ) → count ≡ length r.core.set.map.boundaries → count ≤ r.core.set.map.limit
     → IsMeasured Seen (record { most_held = 0; boundaries = count; most_boundaries = count }) r
-measured_new Seen r stands none seen count count_is within =
+measured_new Seen r stands none seen steps reaches count count_is within =
     let window = r.core.set.window in
     let limit = r.core.set.map.limit in
     let has : HasBoundaries limit window [] count =
-    subst (HasBoundaries limit window []) (sym count_is) (boundaries_of limit window r refl refl none [] stands) in
+    subst (HasBoundaries limit window []) (sym count_is) (boundaries_of limit window r refl refl none [] stands steps reaches) in
     let occupancy : Occupancy = record { most_held = 0; boundaries = count; most_boundaries = count } in
     let nothing : length (run window []).held ≡ 0 = refl in
     let none_held : length (run window []).held ≤ 0 = omega (arith, nothing) in
@@ -176,6 +204,8 @@ measured_new Seen r stands none seen count count_is within =
       boundaries = has;
       steps = 0;
       most_boundaries = has;
+      none_more = λ n. subst (λ (l : List Step). (c : ℕ) × HasBoundaries limit window l c × (c ≤ count)) (sym (take_all n [] (omega arith)))
+          (count, has, omega arith);
       at_most = omega arith;
       within = within;
     } in
@@ -199,7 +229,7 @@ module _ (old new : ResolverState) (result : Result Turn Stop) (turns : Turns re
     (finish : Finishes old new → Observes Before After old new (Finish ∷ []))
     (nothing : TakesNoStep old new → Observes Before After old new []) (before after : Occupancy)
     (notes : new.core.stop ≡ None → (after ≡ noted (length new.core.held) (length new.core.set.map.boundaries) before)
-    × (length new.core.set.map.boundaries ≤ new.core.set.map.limit))
+    × (length new.core.set.map.boundaries ≤ new.core.set.map.limit) × AreSteps new.core.set.map × RemembersWindow new.core)
     (keeps : (stop : Stop) → new.core.stop ≡ Some stop → after ≡ before) where
   abbrev window : ℤ
   window = old.core.set.window
@@ -214,10 +244,10 @@ module _ (old new : ResolverState) (result : Result Turn Stop) (turns : Turns re
   Sees log = HasSeen After new.core.stop window log × IsOccupancyOf new.core.stop limit window log after
 
   window_is : new.core.set.window ≡ window
-  window_is = turns.goes_on.window
+  window_is = turns.continues.window
 
   limit_is : new.core.set.map.limit ≡ limit
-  limit_is = turns.goes_on.limit
+  limit_is = turns.continues.limit
 
   abbrev count : ℕ
   count = length new.core.set.map.boundaries
@@ -232,7 +262,8 @@ module _ (old new : ResolverState) (result : Result Turn Stop) (turns : Turns re
       let longer = log ++ x ∷ [] in
       subst (λ (o : Occupancy). IsOccupancyOver limit window longer o) (sym (notes is).0)
       (noted_more limit window log before (length new.core.held) count over (within is) x
-      (holds_of limit window new limit_is window_is is longer stands) (boundaries_of limit window new limit_is window_is is longer stands))
+      (holds_of limit window new limit_is window_is is longer stands (notes is).2 (notes is).3)
+      (boundaries_of limit window new limit_is window_is is longer stands (notes is).2 (notes is).3))
   stepped log x stands over (Some stop) is = record {
     before = log;
     last = x;
@@ -246,7 +277,8 @@ module _ (old new : ResolverState) (result : Result Turn Stop) (turns : Turns re
   rested log stands None is over =
       subst (λ (o : Occupancy). IsOccupancyOver limit window log o) (sym (notes is).0)
       (noted_again limit window log before (length new.core.held) count over (within is)
-      (holds_of limit window new limit_is window_is is log stands) (boundaries_of limit window new limit_is window_is is log stands))
+      (holds_of limit window new limit_is window_is is log stands (notes is).2 (notes is).3)
+      (boundaries_of limit window new limit_is window_is is log stands (notes is).2 (notes is).3))
   rested log stands (Some stop) is occupied =
       subst (λ (o : Occupancy). IsOccupancyOf (Some stop) limit window log o) (sym (keeps stop is)) occupied
 
@@ -257,7 +289,7 @@ module _ (old new : ResolverState) (result : Result Turn Stop) (turns : Turns re
   pub measured_turn : IsMeasured Before before old → IsMeasured After after new
   measured_turn m =
       let also : IsAccountedWith Sees new =
-      after_turn old new turns.goes_on Saw Sees
+      after_turn old new turns.continues Saw Sees
       (λ was proxy took log stands saw. (
         taken proxy took (negsuc 0) log stands saw.0,
         stepped log (Take proxy took.batch) (took.adds (negsuc 0) log stands) (unstopped_over was log saw.1) new.core.stop refl,

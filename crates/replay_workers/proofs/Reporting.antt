@@ -26,7 +26,7 @@ use Rattle.keyspace.specs.declared.row.Row.{Row}
 use Rattle.keyspace.specs.declared.span.Span.{Span}
 use Rattle.keyspace.specs.declared.txn.Txn.{Txn}
 use Rattle.keyspace.specs.Fields.{TxnFields, TxnLimits, txn_fields}
-use Rattle.keyspace.specs.Tables.{AreRows, AreTables, txn_told, txns_from, txns_told}
+use Rattle.keyspace.specs.Tables.{AreRows, AreTables, txn_of_row, txns_from, txns_of_tables}
 use Rattle.replay_workers.specs.Asking.{asking_row}
 use Rattle.replay_workers.specs.Reporting.{asking}
 
@@ -54,13 +54,13 @@ set-asked zero (row ∷ rows) d inside = refl
 set-asked (suc i) (row ∷ rows) d inside = ap (λ (l : List Row). asking_row row ∷ l) (set-asked i rows d (omega (arith, inside)))
 
 -- one row more asks
-pub asked_also : (i : ℕ) (whole rows : List Row) (d : Row) → i < length whole → rows ≡ asked_to i whole
-    → set rows i (asking_row (get_or rows i d)) ≡ asked_to (i + 1) whole
-asked_also i whole rows d inside so_far =
+pub asked_also : (i : ℕ) (entire rows : List Row) (d : Row) → i < length entire → rows ≡ asked_to i entire
+    → set rows i (asking_row (get_or rows i d)) ≡ asked_to (i + 1) entire
+asked_also i entire rows d inside so_far =
     ap (λ (l : List Row). set l i (asking_row (get_or l i d))) so_far
-    ∙ ap (λ (r : Row). set (asked_to i whole) i (asking_row r)) (get-asked i whole d inside)
-    ∙ set-asked i whole d inside
-    ∙ ap (λ (m : ℕ). asked_to m whole) (sym (add-one i))
+    ∙ ap (λ (r : Row). set (asked_to i entire) i (asking_row r)) (get-asked i entire d inside)
+    ∙ set-asked i entire d inside
+    ∙ ap (λ (m : ℕ). asked_to m entire) (sym (add-one i))
 
 -- all of them do, if i is no less than their number
 pub all_asked : (i : ℕ) (rows : List Row) → length rows ≤ i → asked_to i rows ≡ map asking_row rows
@@ -91,33 +91,33 @@ from-asking : (buffer : List ℕ) (spans : List Span) (from : ℕ) (rows : List 
     → txns_from buffer spans from (map asking_row rows) ≡ map asking_fields (txns_from buffer spans from rows)
 from-asking buffer spans from [] = refl
 from-asking buffer spans from (row ∷ rows) =
-    ap (λ (rest : List TxnFields). asking_fields (txn_told buffer spans from row) ∷ rest) (from-asking buffer spans row.end rows)
+    ap (λ (rest : List TxnFields). asking_fields (txn_of_row buffer spans from row) ∷ rest) (from-asking buffer spans row.end rows)
 
 fields-asking : (txns : List Txn) → map asking_fields (map txn_fields txns) ≡ map txn_fields (map asking txns)
 fields-asking [] = refl
 fields-asking (txn ∷ txns) = ap (λ (rest : List TxnFields). asking_fields (txn_fields txn) ∷ rest) (fields-asking txns)
 
 module _ (buffer : List ℕ) (spans : List Span) (rows after : List Row) (asked : after ≡ map asking_row rows) where
-  told_asked : txns_told buffer spans after ≡ map asking_fields (txns_told buffer spans rows)
-  told_asked = ap (txns_told buffer spans) asked ∙ from-asking buffer spans 0 rows
+  reported_asked : txns_of_tables buffer spans after ≡ map asking_fields (txns_of_tables buffer spans rows)
+  reported_asked = ap (txns_of_tables buffer spans) asked ∙ from-asking buffer spans 0 rows
 
   -- the tables of transactions that ask
   pub tables_asking : AreTables buffer spans rows → AreTables buffer spans after
   tables_asking tables = record {
     spans_within = tables.spans_within;
     rows_fit = subst (λ (l : List Row). AreRows 0 l (length spans)) (sym asked) (rows-asking 0 rows (length spans) tables.rows_fit);
-    holds = subst (All TxnLimits) (sym told_asked)
-        (All-map TxnLimits asking_fields (txns_told buffer spans rows)
-        (λ k d inside. limits-asking (get_or (txns_told buffer spans rows) k d) (tables.holds k d inside)));
+    holds = subst (All TxnLimits) (sym reported_asked)
+        (All-map TxnLimits asking_fields (txns_of_tables buffer spans rows)
+        (λ k d inside. limits-asking (get_or (txns_of_tables buffer spans rows) k d) (tables.holds k d inside)));
   }
 
   -- they are those transactions
-  pub told_asking : (txns : List Txn) → txns_told buffer spans rows ≡ map txn_fields txns
-      → txns_told buffer spans after ≡ map txn_fields (map asking txns)
-  told_asking txns told = told_asked ∙ ap (map asking_fields) told ∙ fields-asking txns
+  pub reported_asking : (txns : List Txn) → txns_of_tables buffer spans rows ≡ map txn_fields txns
+      → txns_of_tables buffer spans after ≡ map txn_fields (map asking txns)
+  reported_asking txns reported = reported_asked ∙ ap (map asking_fields) reported ∙ fields-asking txns
 
   -- and no more
-  pub few_asking : (txns : List Txn) → txns_told buffer spans rows ≡ map txn_fields txns → length txns ≤ MAX_TXNS
-      → length (txns_told buffer spans after) ≤ MAX_TXNS
-  few_asking txns told few =
-      omega (arith, few, ap length (told_asking txns told), length-map (map asking txns) txn_fields, length-map txns asking)
+  pub few_asking : (txns : List Txn) → txns_of_tables buffer spans rows ≡ map txn_fields txns → length txns ≤ MAX_TXNS
+      → length (txns_of_tables buffer spans after) ≤ MAX_TXNS
+  few_asking txns reported few =
+      omega (arith, few, ap length (reported_asking txns reported), length-map (map asking txns) txn_fields, length-map txns asking)

@@ -15,7 +15,7 @@ use Rattle.resolver.specs.Settled.{Settled}
 use Rattle.replay_output.specs.declared.failures.ProxyFailure.{ProxyFailure}
 use Rattle.replay_output.specs.declared.line.Line.{Line}
 use Rattle.replay_output.specs.declared.options.Options.{Options}
-use Rattle.replay_workers.specs.declared.outcome.Outcome.{Outcome}
+use Rattle.replay_workers.specs.declared.outcome.RunOutcome.{RunOutcome}
 use Rattle.replay_workers.specs.declared.threads.Worked.{Worked}
 use Rattle.replay_workers.specs.declared.worker.Finished.{Finished}
 use Rattle.replay_workers.specs.Batches.{EndsWith}
@@ -29,12 +29,12 @@ use Rattle.replay_workers.proofs.Working.{finished_count, worked_at}
 
 module _ {B : Type 0} (Gives : B → B → Batch → Type 0) (IsEnd : B → Type 0) (IsFault : B → WireError → Type 0)
     (Stays : B → B → Type 0) (options : Options) (share : ℕ) (streams : List B) (clients : List Client)
-    (workers : List (Worked B)) (outcome : Outcome) (ended : List B) (log : List Step) (lanes : List Lanes) (account : Account)
+    (workers : List (Worked B)) (outcome : RunOutcome) (ended : List B) (log : List Step) (lanes : List Lanes) (account : Account)
     (same : length streams ≡ length clients) (new : All (IsNewClient options.capacity) clients)
     (worked : AllZip (HasWorkedOn Gives IsEnd IsFault Stays) (given_each options.style share 0 clients streams) workers)
     (of_finished : IsOutcomeOf (finished_of workers) outcome) (of_ended : ended ≡ streams_of workers)
     (settled : Settled options.window log lanes (map (λ (f : Finished). f.client) (finished_of workers)) account)
-    (whole : account.stop ≡ None → account.complete ≡ true)
+    (entire : account.stop ≡ None → account.complete ≡ true)
     (met : IfSome account.stop (IsStopOf options.limit options.window log)) where
   count : length workers ≡ length streams
   count = finished_count Gives IsEnd IsFault Stays options.style share 0 clients streams workers same worked ∙ sym same
@@ -79,12 +79,12 @@ module _ {B : Type 0} (Gives : B → B → Batch → Type 0) (IsEnd : B → Type
       (settled.each proxy w.finished.client here) (settled.reported proxy w.finished.client here)
       (λ all. all_at (λ (f : Finished). f.unsent ≡ None) (finished_of workers) proxy w.finished (of_finished.all_sent all)
       (finished_at proxy w there))
-      whole
+      entire
 
   -- without a stop, what is missing is a batch that could not be sent
   leaves : is_complete outcome account ≡ false → account.stop ≡ None → LeavesBatchOver Gives streams log
   leaves not_all no_stop =
-      let yes = whole no_stop in
+      let yes = entire no_stop in
       let not_sent : outcome.all_sent ≡ false = sym (ap (λ (b : Bool). b && outcome.all_sent) yes) ∙ not_all in
       let back = of_finished.unsent not_sent in
       let proxy = back.place in
@@ -142,7 +142,7 @@ module _ {B : Type 0} (Gives : B → B → Batch → Type 0) (IsEnd : B → Type
         (same_Some f.lines.items lines (sym lines_here ∙ lines_at)) here);
     chain = settled.chain;
     serializable = settled.serializable;
-    finish = λ none. settled.finish (whole none);
+    finish = λ none. settled.finish (entire none);
     no_stop = λ all. settled.no_stop (both account.complete outcome.all_sent all).0;
     incomplete = leaves;
     met = met;

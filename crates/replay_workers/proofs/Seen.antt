@@ -27,15 +27,15 @@ map_twice f g (x ∷ xs) = ap (λ rest. g (f x) ∷ rest) (map_twice f g xs)
 module _ {X Y : Type 0} (view : X → Y) (Gives : X → X → Batch → Type 0) (Viewed : Y → Y → Batch → Type 0) (IsEnd : Y → Type 0)
     (IsFault : Y → WireError → Type 0) (seen : (old new : X) (batch : Batch) → Gives old new batch → Viewed (view old) (view new) batch)
   where
-    abbrev pub IsEndBehind : X → Type 0
-    IsEndBehind now = IsEnd (view now)
+    abbrev pub IsEndAfter : X → Type 0
+    IsEndAfter now = IsEnd (view now)
 
-    abbrev pub IsFaultBehind : X → WireError → Type 0
-    IsFaultBehind now e = IsFault (view now) e
+    abbrev pub IsFaultAfter : X → WireError → Type 0
+    IsFaultAfter now e = IsFault (view now) e
 
     -- what a worker has done
     pub worked_seen : (Kept : X → Type 0) (style : Style) (proxy : ℕ) (first : X) (given : Client) (finished : Finished)
-        → HasWorkedOver Gives IsEndBehind IsFaultBehind Kept style proxy first given finished
+        → HasWorkedOver Gives IsEndAfter IsFaultAfter Kept style proxy first given finished
         → HasWorkedOver Viewed IsEnd IsFault (λ _. Unit {0}) style proxy (view first) given finished
     worked_seen Kept style proxy first given finished worked =
         let sends = worked.sends in
@@ -51,7 +51,7 @@ module _ {X Y : Type 0} (view : X → Y) (Gives : X → X → Batch → Type 0) 
 
     served_seen : (Kept : X → Type 0) (window : ℤ) (style : Style) (log : List Step) (complete : Bool) (stop : Option Stop) (first : X)
         (proxy : ℕ) (lines : List Line) (failure : ProxyFailure)
-        → IsServedOver Gives IsEndBehind IsFaultBehind Kept window style log complete stop first proxy lines failure
+        → IsServedOver Gives IsEndAfter IsFaultAfter Kept window style log complete stop first proxy lines failure
         → IsServedOver Viewed IsEnd IsFault (λ _. Unit {0}) window style log complete stop (view first) proxy lines failure
     served_seen Kept window style log complete stop first proxy lines failure served = record {
       read = served.read;
@@ -67,13 +67,13 @@ module _ {X Y : Type 0} (view : X → Y) (Gives : X → X → Batch → Type 0) 
       all_received = served.all_received;
       all_before_last = served.all_before_last;
       reported = served.reported;
-      lines_told = served.lines_told;
+      lines_reported = served.lines_reported;
     }
 
     -- and a run
     pub run_seen : (Kept : ℕ → X → Type 0) (options : Options) (streams : List X) (received : List (List Line))
         (failures : List ProxyFailure) (complete : Bool) (stop : Option Stop)
-        → IsRunOver Gives IsEndBehind IsFaultBehind Kept options streams received failures complete stop
+        → IsRunOver Gives IsEndAfter IsFaultAfter Kept options streams received failures complete stop
         → IsRunOver Viewed IsEnd IsFault (λ _ _. Unit {0}) options (map view streams) received failures complete stop
     run_seen Kept options streams received failures complete stop run = record {
       log = run.log;
@@ -108,7 +108,7 @@ module _ {X Y : Type 0} (view : X → Y) (Gives : X → X → Batch → Type 0) 
     -- over the same log
     pub run_seen_log : (Kept : ℕ → X → Type 0) (options : Options) (streams : List X) (received : List (List Line))
         (failures : List ProxyFailure) (complete : Bool) (stop : Option Stop)
-        (run : IsRunOver Gives IsEndBehind IsFaultBehind Kept options streams received failures complete stop)
+        (run : IsRunOver Gives IsEndAfter IsFaultAfter Kept options streams received failures complete stop)
         → (run_seen Kept options streams received failures complete stop run).log ≡ run.log
     unfolding run_seen
     run_seen_log Kept options streams received failures complete stop run = refl

@@ -13,7 +13,7 @@ use Rattle.serial.specs.Replies.{IsCommittedAt, ReportsCommitted}
 use Rattle.wire.specs.declared.error.WireError.{WireError}
 use Rattle.resolver.specs.declared.client.Client.{Client}
 use Rattle.resolver.specs.declared.turn.Account.{Account}
-use Rattle.resolver.specs.Core.{IsBeginning}
+use Rattle.resolver.specs.Core.{IsPrefix}
 use Rattle.resolver.specs.Settled.{SettledFor}
 use Rattle.replay_output.specs.declared.options.style.Style.{Style}
 use Rattle.replay_workers.specs.declared.worker.Finished.{Finished}
@@ -46,20 +46,20 @@ module _ {X : Type 0} (Gives : X → X → Batch → Type 0) (IsEnd : X → Type
       → IsCommittedAt (run window log).processed proxy version j)
       → (all_sent ≡ true → finished.unsent ≡ None) → (account.stop ≡ None → account.complete ≡ true)
       → IsServedOver Gives IsEnd IsFault Kept window style log (account.complete && all_sent) account.stop first proxy finished.lines.items (failure_of finished)
-  served window style log ended all_sent answers_sent account first proxy given finished none_sent fresh none_taken worked settled reported none_unsent whole =
+  served window style log ended all_sent answers_sent account first proxy given finished none_sent fresh none_taken worked settled reported none_unsent entire =
       let sends = worked.sends in
       let keeps = worked.keeps in
       let unsent = option_to_list finished.unsent in
-      let told = answers_of finished.lines.items in
+      let kept_answers = answers_of finished.lines.items in
       let sent : finished.client.requests.sent ≡ sends.batches =
       sends.sent ∙ ap (λ (l : List Batch). l ++ sends.batches) none_sent in
-      let taken : finished.client.replies.taken ≡ told ++ keeps.dropped =
-      keeps.taken ∙ ap (λ (l : List Answer). l ++ (told ++ keeps.dropped)) none_taken in
+      let taken : finished.client.replies.taken ≡ kept_answers ++ keeps.dropped =
+      keeps.taken ∙ ap (λ (l : List Answer). l ++ (kept_answers ++ keeps.dropped)) none_taken in
       let all_sent_if : account.complete ≡ true → finished.unsent ≡ None → sends.batches ++ unsent ≡ part log proxy =
       λ complete none. ap (λ (u : Option Batch). sends.batches ++ option_to_list u) none ∙ append-nil sends.batches ∙ sym sent
       ∙ sym (settled.all_batches (settled.all_ended complete)) in
-      let all_told : finished.lost ≡ false → told ≡ finished.client.replies.taken = λ not_lost.
-      sym (append-nil told) ∙ ap (λ (l : List Answer). told ++ l) (sym (keeps.none_dropped not_lost)) ∙ sym taken in
+      let all_reported : finished.lost ≡ false → kept_answers ≡ finished.client.replies.taken = λ not_lost.
+      sym (append-nil kept_answers) ∙ ap (λ (l : List Answer). kept_answers ++ l) (sym (keeps.none_dropped not_lost)) ∙ sym taken in
       record {
         read = sends.batches ++ unsent;
         left = sends.left;
@@ -74,7 +74,7 @@ module _ {X : Type 0} (Gives : X → X → Batch → Type 0) (IsEnd : X → Type
             let parts = both account.complete all_sent all in
             all_sent_if parts.0 (none_unsent parts.1);
         all_unless_worn = λ no_stop few.
-            let complete = whole no_stop in
+            let complete = entire no_stop in
             let ended = settled.all_ended complete in
             let leaves = subst (λ (was : Bool). LeavesLane was finished.client.requests finished.unsent) fresh worked.leaves in
             all_sent_if complete
@@ -87,22 +87,22 @@ module _ {X : Type 0} (Gives : X → X → Batch → Type 0) (IsEnd : X → Type
         received = (
           keeps.dropped ++ settled.receives.received.0,
           settled.receives.received.1 ∙ ap (λ (l : List Answer). l ++ settled.receives.received.0) taken
-              ∙ append_assoc told keeps.dropped settled.receives.received.0,
+              ∙ append_assoc kept_answers keeps.dropped settled.receives.received.0,
         );
-        all_received = λ no_stop not_lost. all_told not_lost ∙ settled.receives.all_received (whole no_stop);
+        all_received = λ no_stop not_lost. all_reported not_lost ∙ settled.receives.all_received (entire no_stop);
         all_before_last = λ not_lost before last is.
-            subst (IsBeginning (answers window before proxy)) (sym (all_told not_lost))
+            subst (IsPrefix (answers window before proxy)) (sym (all_reported not_lost))
             (settled.receives.all_before_last worked.ended before last is);
         reported = λ version j reports.
             reported version j (record {
               reply = reports.reply;
               is_received =
                   subst (λ (l : List Answer). Contains l (answer.Reply reports.reply)) (sym taken)
-                  (Contains-append_left told keeps.dropped (answer.Reply reports.reply) reports.is_received);
+                  (Contains-append_left kept_answers keeps.dropped (answer.Reply reports.reply) reports.is_received);
               at_version = reports.at_version;
               verdict = reports.verdict;
             });
-        lines_told = keeps.each;
+        lines_reported = keeps.each;
       }
 
   -- a worker has a batch left that it read and could not send, though no stop was met

@@ -4,7 +4,7 @@ use Rattle.std.proofs.Common.{set, sym, ◌∙◌, ap, inl, inr, arith, length-s
 use Rattle.std.proofs.lemmas.Bool.{false≢true}
 use Rattle.std.proofs.lemmas.List.{set-get_or}
 use Rattle.std.proofs.lemmas.Option.{get_or_from_slice_get, slice_get-get_or}
-use Rattle.flow.specs.declared.told.Told.{Told}
+use Rattle.flow.specs.declared.reported_state.ReportedState.{ReportedState}
 
 module _ {X : Type 0} where
   written : (now : List X) (place : ℕ) (x : X) → place < length now → slice_get (set now place x) place ≡ Some x
@@ -25,27 +25,27 @@ module _ {X : Type 0} where
 
 -- Whether the look is as it was (`after`), where one place was as before until now, by whether the rest is (`before`) and
 -- what is written stood there already (`kept`).
-pub same_after : (was_told old_told new_told : List Told) (was_sent old_sent new_sent : List ℕ) (place : ℕ) (t : Told)
-    (s : ℕ) (before kept after : Bool) → place < length old_told → place < length old_sent
-    → slice_get old_told place ≡ slice_get was_told place → slice_get old_sent place ≡ slice_get was_sent place
-    → new_told ≡ set old_told place t → new_sent ≡ set old_sent place s
-    → IsTrue before ↔ ((old_told ≡ was_told) × (old_sent ≡ was_sent))
-    → IsTrue kept ↔ ((slice_get old_told place ≡ Some t) × (slice_get old_sent place ≡ Some s))
+pub same_after : (was_reported old_reported new_reported : List ReportedState) (was_sent old_sent new_sent : List ℕ) (place : ℕ) (t : ReportedState)
+    (s : ℕ) (before kept after : Bool) → place < length old_reported → place < length old_sent
+    → slice_get old_reported place ≡ slice_get was_reported place → slice_get old_sent place ≡ slice_get was_sent place
+    → new_reported ≡ set old_reported place t → new_sent ≡ set old_sent place s
+    → IsTrue before ↔ ((old_reported ≡ was_reported) × (old_sent ≡ was_sent))
+    → IsTrue kept ↔ ((slice_get old_reported place ≡ Some t) × (slice_get old_sent place ≡ Some s))
     → ((kept ≡ false) × (after ≡ false)) ⊎ ((kept ≡ true) × (after ≡ before))
-    → IsTrue after ↔ ((new_told ≡ was_told) × (new_sent ≡ was_sent))
-same_after was_told old_told new_told was_sent old_sent new_sent place t s before kept after in_told in_sent told_was sent_was
-    told_is sent_is same keeps (inl other) = (
+    → IsTrue after ↔ ((new_reported ≡ was_reported) × (new_sent ≡ was_sent))
+same_after was_reported old_reported new_reported was_sent old_sent new_sent place t s before kept after in_reported in_sent reported_was sent_was
+    reported_is sent_is same keeps (inl other) = (
       λ is. absurd (false≢true (sym other.1 ∙ is)),
       λ both. absurd (false≢true (sym other.0 ∙ keeps.1 (
-        stood was_told old_told place t in_told told_was (sym told_is ∙ both.0),
+        stood was_reported old_reported place t in_reported reported_was (sym reported_is ∙ both.0),
         stood was_sent old_sent place s in_sent sent_was (sym sent_is ∙ both.1),
       ))),
     )
-same_after was_told old_told new_told was_sent old_sent new_sent place t s before kept after in_told in_sent told_was sent_was
-    told_is sent_is same keeps (inr still) =
+same_after was_reported old_reported new_reported was_sent old_sent new_sent place t s before kept after in_reported in_sent reported_was sent_was
+    reported_is sent_is same keeps (inr still) =
     let at = keeps.0 still.0 in
-    let told_stays : new_told ≡ old_told = told_is ∙ written_again old_told place t at.0 in
+    let reported_stays : new_reported ≡ old_reported = reported_is ∙ written_again old_reported place t at.0 in
     let sent_stays : new_sent ≡ old_sent = sent_is ∙ written_again old_sent place s at.1 in (
-      λ is. let rest = same.0 (sym still.1 ∙ is) in (told_stays ∙ rest.0, sent_stays ∙ rest.1),
-      λ both. still.1 ∙ same.1 (sym told_stays ∙ both.0, sym sent_stays ∙ both.1),
+      λ is. let rest = same.0 (sym still.1 ∙ is) in (reported_stays ∙ rest.0, sent_stays ∙ rest.1),
+      λ both. still.1 ∙ same.1 (sym reported_stays ∙ both.0, sym sent_stays ∙ both.1),
     )

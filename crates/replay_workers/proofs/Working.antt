@@ -12,21 +12,21 @@ use Rattle.wire.specs.declared.error.WireError.{WireError}
 use Rattle.resolver.specs.declared.client.Client.{Client}
 use Rattle.resolver.specs.Resolver.{IsNewClient, SameClients}
 use Rattle.replay_output.specs.declared.options.style.Style.{Style}
-use Rattle.replay_workers.specs.declared.outcome.Outcome.{Outcome}
-use Rattle.replay_workers.specs.declared.threads.Started.{Started}
+use Rattle.replay_workers.specs.declared.outcome.RunOutcome.{RunOutcome}
+use Rattle.replay_workers.specs.declared.threads.StartedWorkers.{StartedWorkers}
 use Rattle.replay_workers.specs.declared.worker.Finished.{Finished}
 use Rattle.replay_workers.specs.declared.threads.Worked.{Worked}
 use Rattle.replay_workers.specs.Batches.{EndsWith}
-use Rattle.replay_workers.specs.Worker.{HasWorkedOver, ClientGoesOn}
-use Rattle.replay_workers.specs.Threads.{Given, finished_of, given_each, given_to, HasWorkedOn, HandsBack, IsOutcomeOf, failure_of}
+use Rattle.replay_workers.specs.Worker.{HasWorkedOver, ClientContinues}
+use Rattle.replay_workers.specs.Threads.{Given, finished_of, given_each, given_to, HasWorkedOn, ReturnsBatch, IsOutcomeOf, failure_of}
 use Rattle.replay_workers.specs.Run.{HasCapacity}
 use Rattle.replay_workers.proofs.callers.Lists.{at_also, at_last}
 
 -- whether a batch was handed back by now
-hands_back_also : (finished : List Finished) (f : Finished) (was now : Bool) (unsent : Option Batch) → f.unsent ≡ unsent
-    → (was ≡ false → HandsBack finished) → (was ≡ true → unsent ≡ None → now ≡ true) → now ≡ false
-    → HandsBack (finished ++ f ∷ [])
-hands_back_also finished f false now unsent is before sends none =
+returns_batch_also : (finished : List Finished) (f : Finished) (was now : Bool) (unsent : Option Batch) → f.unsent ≡ unsent
+    → (was ≡ false → ReturnsBatch finished) → (was ≡ true → unsent ≡ None → now ≡ true) → now ≡ false
+    → ReturnsBatch (finished ++ f ∷ [])
+returns_batch_also finished f false now unsent is before sends none =
     let back = before refl in
     record {
       place = back.place;
@@ -35,13 +35,13 @@ hands_back_also finished f false now unsent is before sends none =
       batch = back.batch;
       unsent = back.unsent;
     }
-hands_back_also finished f true now None is before sends none =
+returns_batch_also finished f true now None is before sends none =
     absurd (false≢true (sym none ∙ sends refl refl))
-hands_back_also finished f true now (Some batch) is before sends none =
+returns_batch_also finished f true now (Some batch) is before sends none =
     record { place = length finished; worker = f; at = at_last finished f; batch = batch; unsent = is }
 
 -- one worker more has handed back
-pub outcome_also : (finished : List Finished) (old new : Outcome) (f : Finished) → IsOutcomeOf finished old
+pub outcome_also : (finished : List Finished) (old new : RunOutcome) (f : Finished) → IsOutcomeOf finished old
     → new.clients.items ≡ old.clients.items ++ f.client ∷ [] → new.lines.items ≡ old.lines.items ++ f.lines ∷ []
     → new.failures.items ≡ old.failures.items ++ failure_of f ∷ []
     → (new.all_sent ≡ true → (old.all_sent ≡ true) × (f.unsent ≡ None))
@@ -53,7 +53,7 @@ outcome_also finished old new f of clients lines failures sent sends = record {
   all_sent = λ all.
       let both = sent all in
       All-push (λ (f : Finished). f.unsent ≡ None) finished f (of.all_sent both.0) both.1;
-  unsent = hands_back_also finished f old.all_sent new.all_sent f.unsent refl of.unsent sends;
+  unsent = returns_batch_also finished f old.all_sent new.all_sent f.unsent refl of.unsent sends;
 }
 
 pub given_count : {B : Type 0} (style : Style) (share first : ℕ) (clients : List Client) (streams : List B)
@@ -74,7 +74,7 @@ given_all P style share first (c ∷ clients) (b ∷ streams) all =
     (given_all P style share (first + 1) clients streams (All-tail P b streams all))
 
 -- as many workers were started as there are streams
-pub started_count : {B : Type 0} (style : Style) (share : ℕ) (clients : List Client) (streams : List B) (workers : List (Started B))
+pub started_count : {B : Type 0} (style : Style) (share : ℕ) (clients : List Client) (streams : List B) (workers : List (StartedWorkers B))
     → length streams ≡ length clients → map given_to workers ≡ given_each style share 0 clients streams
     → length workers ≡ length streams
 started_count style share clients streams workers same given =
@@ -87,7 +87,7 @@ at_place (x ∷ xs) (suc place) inside = at_place xs place (omega (arith, inside
 
 -- new clients that were handed back have the capacity of their lanes
 pub capacities : (capacity : ℕ) (clients back : List Client) → All (IsNewClient capacity) clients
-    → AllZip ClientGoesOn clients back → All (HasCapacity capacity) back
+    → AllZip ClientContinues clients back → All (HasCapacity capacity) back
 capacities capacity [] [] new goes = λ k d inside. absurd (omega arith)
 capacities capacity [] (b ∷ back) new goes = absurd goes
 capacities capacity (c ∷ clients) [] new goes = absurd goes
@@ -121,7 +121,7 @@ module _ {B : Type 0} (Gives : B → B → Batch → Type 0) (IsEnd : B → Type
   pub clients_back : (style : Style) (share first : ℕ) (clients : List Client) (streams : List B) (worked : List (Worked B))
       → length streams ≡ length clients
       → AllZip (HasWorkedOn Gives IsEnd IsFault Stays) (given_each style share first clients streams) worked
-      → AllZip ClientGoesOn clients (map (λ (f : Finished). f.client) (finished_of worked))
+      → AllZip ClientContinues clients (map (λ (f : Finished). f.client) (finished_of worked))
   clients_back style share first [] streams [] same all = tt
   clients_back style share first [] streams (f ∷ worked) same all = absurd all
   clients_back style share first (c ∷ clients) [] worked same all = absurd (omega (arith, same))

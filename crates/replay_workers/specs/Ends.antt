@@ -2,15 +2,15 @@
 use Rattle.std.specs.Prelude.{◌≡◌, ℕ, ◌<◌, length}
 use Rattle.keyspace.specs.declared.batch.Batch.{Batch}
 use Rattle.keyspace.specs.declared.answer.Answer.{Answer}
-use Rattle.flow.specs.declared.told.Stand.{Stand}
+use Rattle.flow.specs.declared.reported_state.Stand.{Stand}
 use Rattle.flow.specs.Share.{unanswered}
-use Rattle.lane.specs.Lane.{PortView, IntakeView, PortGoesOn, IntakeGoesOn}
+use Rattle.lane.specs.Lane.{PortView, IntakeView, PortContinues, IntakeContinues}
 use Rattle.replay_workers.specs.declared.ends.Ends.{Ends}
 
 -- the same ends later
-pub record EndsGoOn (old new : Ends) : Type 0 where
-  pub requests : PortGoesOn old.requests new.requests
-  pub replies : IntakeGoesOn old.replies new.replies
+pub record EndsContinue (old new : Ends) : Type 0 where
+  pub requests : PortContinues old.requests new.requests
+  pub replies : IntakeContinues old.replies new.replies
   pub given : new.given.value ≡ old.given.value
   pub proxy : new.proxy ≡ old.proxy
   pub share : new.share ≡ old.share

@@ -5,7 +5,7 @@ use Rattle.keyspace.specs.declared.answer.Answer.{Answer}
 use Rattle.replay_output.specs.declared.options.style.Style.{Style}
 use Rattle.replay_output.specs.declared.line.Line.{Line}
 use Rattle.replay_workers.specs.declared.inbox.Inbox.{Inbox}
-use Rattle.replay_workers.specs.Ends.{EndsGoOn}
+use Rattle.replay_workers.specs.Ends.{EndsContinue}
 use Rattle.replay_output.specs.Line.{answers_of, IsLineOf}
 
 -- These lines are of the answers taken since `before`, in order. After a loss the last of them have no line.
@@ -21,8 +21,8 @@ abbrev pub Keeps : List Answer → Inbox → Type 0
 Keeps before inbox = KeepsLines inbox.style inbox.proxy before inbox.ends.replies.taken inbox.lines.items inbox.lost
 
 -- the same inbox later
-pub record InboxGoesOn (old new : Inbox) : Type 0 where
-  pub ends : EndsGoOn old.ends new.ends
+pub record InboxContinues (old new : Inbox) : Type 0 where
+  pub ends : EndsContinue old.ends new.ends
   pub proxy : new.proxy ≡ old.proxy
   pub style : new.style ≡ old.style
   pub lines : (before : List Answer) → Keeps before old → Keeps before new

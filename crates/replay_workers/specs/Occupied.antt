@@ -1,8 +1,10 @@
 -- How full a resolver is over a log, beside the reference resolver. This project's own.
-use Rattle.std.specs.Prelude.{◌≡◌, ℕ, ◌≤◌, ℤ, List, [], ◌∷◌, ◌++◌, length, take, Option, Some, None, IfSome}
-use Rattle.keyspace.specs.Processed.{Processed}
+use Rattle.std.specs.Prelude.{◌≡◌, ℕ, ◌≤◌, ℤ, pos, ◌≤ℤ◌, ◌-ℤ◌, List, [], ◌∷◌, ◌++◌, length, take, Option, Some, None, IfSome}
+use Rattle.std.specs.Int.{int_max}
+use Rattle.keyspace.specs.Processed.{Processed, version_of}
 use Rattle.keyspace.specs.Run.{Step, run}
 use Rattle.keyspace.specs.Writes.{writes}
+use Rattle.stepmap.specs.StepMap.{AreSteps}
 use Rattle.conflict.specs.ConflictSet.{SetState, Remembers}
 use Rattle.replay_summary.specs.declared.occupancy.Occupancy.{Occupancy}
 use Rattle.resolver.specs.declared.stop.Stop.{Stop}
@@ -17,10 +19,13 @@ pub record IsGreatestHeld (window : ℤ) (log : List Step) (most : ℕ) : Type 0
   pub steps : ℕ
   pub reached : length (run window (take steps log)).held ≡ most
 
--- A conflict set with this limit, which remembers what was committed over this log, has this many boundaries. They measure this project's
--- conflict set: the reference resolver has none.
+-- A conflict set with this limit, which remembers what was committed over this log as far back as the window, has this many boundaries.
+-- They measure this project's conflict set: the reference resolver has none. A set may keep boundaries that it no longer needs, so the log
+-- determines only how few there can be.
 pub record HasBoundaries (limit : ℕ) (window : ℤ) (log : List Step) (count : ℕ) : Type 0 where
   pub set : SetState
+  pub steps : AreSteps set.map
+  pub edge : set.map.edge ≤ℤ int_max (version_of (run window log).processed -ℤ window) (pos 0)
   pub remembers : Remembers set (writes (run window log).processed)
   pub limit_is : set.map.limit ≡ limit
   pub count_is : length set.map.boundaries ≡ count
@@ -33,6 +38,8 @@ pub record IsOccupancyOver (limit : ℕ) (window : ℤ) (log : List Step) (occup
   -- as many as there were at most, there were after this number of steps
   pub steps : ℕ
   pub most_boundaries : HasBoundaries limit window (take steps log) occupancy.most_boundaries
+  -- after no number of steps there were more
+  pub none_more : (n : ℕ) → (count : ℕ) × HasBoundaries limit window (take n log) count × (count ≤ occupancy.most_boundaries)
   pub at_most : occupancy.boundaries ≤ occupancy.most_boundaries
   pub within : occupancy.most_boundaries ≤ limit
 

@@ -15,7 +15,7 @@ use Rattle.wire.specs.declared.error.WireError.TheVariants as wire
 use Rattle.resolver.specs.declared.client.Client.{Client}
 use Rattle.resolver.specs.declared.stop.Stop.{Stop}
 use Rattle.resolver.specs.declared.turn.Account.{Account}
-use Rattle.resolver.specs.Core.{IsBeginning}
+use Rattle.resolver.specs.Core.{IsPrefix}
 use Rattle.resolver.specs.Observed.{HasSeen}
 use Rattle.resolver.specs.Resolver.{TakesOnlyFrom, FinishesLast}
 use Rattle.replay_summary.specs.declared.occupancy.Occupancy.{Occupancy}
@@ -24,7 +24,7 @@ use Rattle.replay_output.specs.declared.options.style.Style.{Style}
 use Rattle.replay_output.specs.declared.line.Line.{Line}
 use Rattle.replay_output.specs.declared.options.Options.{Options}
 use Rattle.replay_output.specs.declared.options.reports.Reports.{Reports}
-use Rattle.replay_workers.specs.declared.outcome.Outcome.{Outcome}
+use Rattle.replay_workers.specs.declared.outcome.RunOutcome.{RunOutcome}
 use Rattle.replay_output.specs.Line.{answers_of, IsLineOf}
 use Rattle.replay_workers.specs.Occupied.{IsOccupancyOf}
 use Rattle.replay_workers.specs.Stops.{IsStopOf}
@@ -33,7 +33,7 @@ use Rattle.replay_workers.specs.Reporting.{TakesResolved}
 use Rattle.replay_workers.specs.Worker.{IsFaultAt}
 
 -- every answer was taken, and every batch that was read was sent
-abbrev pub is_complete : Outcome → Account → Bool
+abbrev pub is_complete : RunOutcome → Account → Bool
 is_complete outcome account = account.complete && outcome.all_sent
 
 -- the lanes of the client have this capacity
@@ -66,7 +66,7 @@ module _ {X : Type 0} (Gives : X → X → Batch → Type 0) (IsEnd : X → Type
     pub frames_read : GivesEach Gives first left read
     pub kept : Kept left
     -- the log holds them once, in order; all of them if all is complete, whatever fault the file has
-    pub batches : IsBeginning (part log proxy) read
+    pub batches : IsPrefix (part log proxy) read
     pub all_batches : complete ≡ true → read ≡ part log proxy
     -- also all of them if no stop was met, unless the proxy's lane has taken as many batches as a lane takes
     pub all_unless_worn : stop ≡ None → length (part log proxy) < MAX_SENT → read ≡ part log proxy
@@ -76,17 +76,17 @@ module _ {X : Type 0} (Gives : X → X → Batch → Type 0) (IsEnd : X → Type
     pub first_fault : IfSome failure.fault (λ e. e ≢ wire.Memory → e ≢ wire.Read → IsFault left e)
     -- the lines are those of the answers of the reference resolver, in order and once; of all where no stop was met and
     -- nothing was lost
-    pub received : IsBeginning (answers_of lines) (answers window log proxy)
+    pub received : IsPrefix (answers_of lines) (answers window log proxy)
     pub all_received : stop ≡ None → failure.lost ≡ false → answers_of lines ≡ answers window log proxy
     -- whatever stop was met, the answers of the log without its last step are among them, unless something was lost
     pub all_before_last :
         failure.lost ≡ false → (before : List Step) (last : Step) → log ≡ before ++ last ∷ []
-        → IsBeginning (answers window before proxy) (answers_of lines)
+        → IsPrefix (answers window before proxy) (answers_of lines)
     -- a transaction that they report as committed is committed
     pub reported :
         (version : ℤ) (j : ℕ) → ReportsCommitted (answers_of lines) version j
         → IsCommittedAt (run window log).processed proxy version j
-    pub lines_told : All (IsLineOf style proxy) lines
+    pub lines_reported : All (IsLineOf style proxy) lines
 
   -- What became of all streams, beside one log of the reference resolver. `received` and `failures` are of each proxy, at its number, and
   -- `Kept` holds of its state at the end.

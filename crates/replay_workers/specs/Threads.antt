@@ -6,11 +6,11 @@ use Rattle.wire.specs.declared.error.WireError.{WireError}
 use Rattle.resolver.specs.declared.client.Client.{Client}
 use Rattle.replay_output.specs.declared.failures.ProxyFailure.{ProxyFailure}
 use Rattle.replay_output.specs.declared.options.style.Style.{Style}
-use Rattle.replay_workers.specs.declared.outcome.Outcome.{Outcome}
+use Rattle.replay_workers.specs.declared.outcome.RunOutcome.{RunOutcome}
 use Rattle.replay_workers.specs.declared.worker.Finished.{Finished}
-use Rattle.replay_workers.specs.declared.threads.Task.{Task}
+use Rattle.replay_workers.specs.declared.threads.WorkerTask.{WorkerTask}
 use Rattle.replay_workers.specs.declared.threads.Work.{Work}
-use Rattle.replay_workers.specs.declared.threads.Started.{Started}
+use Rattle.replay_workers.specs.declared.threads.StartedWorkers.{StartedWorkers}
 use Rattle.replay_workers.specs.declared.threads.Worked.{Worked}
 use Rattle.replay_workers.specs.Batches.{EndsWith}
 use Rattle.replay_workers.specs.Worker.{HasWorkedOver}
@@ -33,7 +33,7 @@ module _ {B : Type 0} where
   given_each style share proxy [] streams = []
 
   -- the values that the worker of a task must get
-  abbrev pub given_by : {G : Type 0} → Task B G → Given B
+  abbrev pub given_by : {G : Type 0} → WorkerTask B G → Given B
   given_by task = record {
     style = task.assignment.style;
     share = task.assignment.share;
@@ -53,7 +53,7 @@ module _ {B : Type 0} where
   }
 
   -- the values of a worker that was started
-  abbrev pub given_to : Started B → Given B
+  abbrev pub given_to : StartedWorkers B → Given B
   given_to worker = given_for worker.handle.promise
 
   -- a worker has worked on what it was given
@@ -76,7 +76,7 @@ abbrev pub failure_of : Finished → ProxyFailure
 failure_of finished = record { fault = finished.fault; lost = finished.lost }
 
 -- one of them hands a batch back that could not be sent
-pub record HandsBack (finished : List Finished) : Type 0 where
+pub record ReturnsBatch (finished : List Finished) : Type 0 where
   pub place : ℕ
   pub worker : Finished
   pub at : slice_get finished place ≡ Some worker
@@ -84,9 +84,9 @@ pub record HandsBack (finished : List Finished) : Type 0 where
   pub unsent : worker.unsent ≡ Some batch
 
 -- the outcome is of what was handed back, each at its place
-pub record IsOutcomeOf (finished : List Finished) (outcome : Outcome) : Type 0 where
+pub record IsOutcomeOf (finished : List Finished) (outcome : RunOutcome) : Type 0 where
   pub clients : outcome.clients.items ≡ map (λ f. f.client) finished
   pub lines : outcome.lines.items ≡ map (λ f. f.lines) finished
   pub failures : outcome.failures.items ≡ map failure_of finished
   pub all_sent : outcome.all_sent ≡ true → All (λ f. f.unsent ≡ None) finished
-  pub unsent : outcome.all_sent ≡ false → HandsBack finished
+  pub unsent : outcome.all_sent ≡ false → ReturnsBatch finished

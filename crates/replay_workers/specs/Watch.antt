@@ -1,11 +1,11 @@
 -- What a look at all proxies finds. This project's own.
 use Rattle.std.specs.Prelude.{◌≡◌, ℕ, ◌<◌, List, length, slice_index}
-use Rattle.flow.specs.declared.told.Told.{Told}
+use Rattle.flow.specs.declared.reported_state.ReportedState.{ReportedState}
 use Rattle.resolver.specs.Lanes.{Lanes, sent_to}
 
 -- of each proxy, at its number, what it has told, and how many answers were sent to it
 pub record Look : Type 0 where
-  pub told : List Told
+  pub reported : List ReportedState
   pub sent : List ℕ
 
 -- how many answers were sent

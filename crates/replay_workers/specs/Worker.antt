@@ -4,7 +4,7 @@ use Rattle.std.specs.Io.KnownBytes.{IsAtEnd}
 use Rattle.keyspace.specs.declared.batch.Batch.{Batch}
 use Rattle.keyspace.specs.declared.answer.Answer.{Answer}
 use Rattle.lane.specs.declared.port.TheConstants.{MAX_SENT}
-use Rattle.lane.specs.Lane.{PortView, IntakeView, PortGoesOn, IntakeGoesOn, HasEnded}
+use Rattle.lane.specs.Lane.{PortView, IntakeView, PortContinues, IntakeContinues, HasEnded}
 use Rattle.wire.specs.declared.error.WireError.{WireError}
 use Rattle.wire.specs.declared.error.WireError.TheVariants as wire
 use Rattle.wire.specs.NextFrame.{TakesFrame, IsFaultOf}
@@ -20,9 +20,9 @@ use Rattle.replay_workers.specs.Batches.{GivesEach}
 use Rattle.replay_workers.specs.Inbox.{KeepsLines}
 
 -- the same client later: its ends are of the same lanes
-pub record ClientGoesOn (old new : Client) : Type 0 where
-  pub requests : PortGoesOn old.requests new.requests
-  pub replies : IntakeGoesOn old.replies new.replies
+pub record ClientContinues (old new : Client) : Type 0 where
+  pub requests : PortContinues old.requests new.requests
+  pub replies : IntakeContinues old.replies new.replies
 
 -- the batch that could not be sent
 abbrev pub batch_of : Leftover → Batch
@@ -90,7 +90,7 @@ module _ {X : Type 0} (Gives : X → X → Batch → Type 0) (IsEnd : X → Type
   -- that is left.
   pub record HasWorkedOver (Kept : X → Type 0) (style : Style) (proxy : ℕ) (first : X) (given : Client) (finished : Finished) : Type 0
     where
-      pub client : ClientGoesOn given finished.client
+      pub client : ClientContinues given finished.client
       pub sends :
           SendsBatches Gives IsEnd IsFault first given.requests.sent finished.client.requests.sent finished.fault finished.unsent
       pub kept : Kept sends.left

@@ -50,7 +50,7 @@ impl MostUnanswered {
 }
 
 impl Ends {
-    ghost use Rattle.replay_workers.specs.Ends.{EndsGoOn, SendsNothing, IsBelowShare};
+    ghost use Rattle.replay_workers.specs.Ends.{EndsContinue, SendsNothing, IsBelowShare};
     ghost use Rattle.replay_workers.specs.Ends.{stand_with, unanswered_of};
 
     /// Takes a client apart that sends and takes as this proxy, within this share.
@@ -75,7 +75,7 @@ impl Ends {
 
     /// Takes the next answer, as [`Intake::take`] does.
     pub fn take(&mut self) -> Taken<Answer>
-        ensures ends { EndsGoOn self.old self.new }
+        ensures ends { EndsContinue self.old self.new }
         ensures taken { self.new.replies.taken ≡ self.old.replies.taken ++ items_of result }
         ensures end { IfEnd result (HasEnded self.new.replies) }
         ensures nothing_sent { SendsNothing self.old self.new }
@@ -90,12 +90,12 @@ impl Ends {
         gatekeeper: &G,
         batch: Batch,
     ) -> Result<(), Refused<Batch>>
-        ensures ends { EndsGoOn self.old self.new }
+        ensures ends { EndsContinue self.old self.new }
         ensures replies { self.new.replies ≡ self.old.replies }
         ensures sent { OnOk result (self.new.requests.sent ≡ self.old.requests.sent ++ batch ∷ []) }
         ensures unchanged { OnErr result (self.new.requests.sent ≡ self.old.requests.sent) }
         ensures closed_stays { self.new.requests.closed ≡ self.old.requests.closed }
-        ensures handed_back { IfErr result (λ refused. item_of refused ≡ batch) }
+        ensures returned { IfErr result (λ refused. item_of refused ≡ batch) }
         ensures closed { result ≡ Err (Refused.Closed batch) → self.new.requests.closed ≡ true }
         ensures worn { result ≡ Err (Refused.Worn batch)
             → MAX_SENT ≤ length self.new.requests.sent }
@@ -103,7 +103,7 @@ impl Ends {
         // Within the share, and then it is counted; or admitted.
         ensures share { OnOk result ((IsBelowShare self.old.share self.old.requests
             self.old.replies × (self.new.most ≡ max self.old.most (unanswered_of self.new)))
-            ⊎ (G.lets_through gatekeeper.now self.old.proxy
+            ⊎ (G.admits gatekeeper.now self.old.proxy
             (stand_with batch self.old.replies) × (self.new.most ≡ self.old.most))) }
         ensures not_counted { OnErr result (self.new.most ≡ self.old.most) }
     {
@@ -121,7 +121,7 @@ impl Ends {
     /// Closes the request lane, as [`Port::close`] does.
     pub fn close(&mut self)
         ensures closed { self.new.requests ≡ record self.old.requests { closed = true } }
-        ensures ends { EndsGoOn self.old self.new }
+        ensures ends { EndsContinue self.old self.new }
         ensures replies { self.new.replies ≡ self.old.replies }
         ensures most { self.new.most ≡ self.old.most }
     {

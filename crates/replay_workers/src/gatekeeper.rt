@@ -1,9 +1,9 @@
 //! When a worker may send.
 
 ghost use Rattle.std.specs.Prelude.{◌≡◌, ℕ, IsTrue};
-ghost use Rattle.flow.specs.declared.told.Stand.{Stand as InHand};
+ghost use Rattle.flow.specs.declared.reported_state.Stand.{Stand as StandValue};
 
-use flow::{Stand, Told, WaitingRoom};
+use flow::{ReportedState, Stand, WaitingRoom};
 
 /// Says when workers may send their batches. A test holds workers back through another one.
 ///
@@ -20,21 +20,21 @@ pub trait Gatekeeper {
 /// program's is a [`WaitingRoom`]. [`Unshared`] keeps none, for any [`Gatekeeper`].
 pub trait ShareKeeper {
     // A proxy whose share is used up may send this batch nevertheless.
-    ghost lets_through: { Self → ℕ → InHand → Type 0 };
+    ghost admits: { Self → ℕ → StandValue → Type 0 };
 
     /// Reports that the proxy stands with a batch ready, since its share is used up. Returns
     /// whether the batch may be sent all the same. It is asked before each try.
     fn stands(&self, proxy: usize, stand: Stand) -> bool
-        ensures through { IsTrue result → lets_through self.now proxy stand };
+        ensures through { IsTrue result → admits self.now proxy stand };
 
     /// Tells that the proxy sends no more: it has closed its lane, or its answers have ended.
     fn closed(&self, proxy: usize);
 
     /// Returns what the proxy has told.
-    fn told(&self, proxy: usize) -> Told;
+    fn reported_state(&self, proxy: usize) -> ReportedState;
 
     /// Lets the batch through with which the proxy stands.
-    fn let_through(&self, proxy: usize);
+    fn admit(&self, proxy: usize);
 }
 
 impl Gatekeeper for WaitingRoom {
@@ -50,7 +50,7 @@ impl Gatekeeper for WaitingRoom {
 impl ShareKeeper for WaitingRoom {
     ghost use Rattle.std.specs.Prelude.{⊤};
 
-    ghost lets_through = { λ _ _ _. ⊤ };
+    ghost admits = { λ _ _ _. ⊤ };
 
     fn stands(&self, proxy: usize, stand: Stand) -> bool {
         WaitingRoom::stands(self, proxy, stand)
@@ -60,12 +60,12 @@ impl ShareKeeper for WaitingRoom {
         self.closes(proxy);
     }
 
-    fn told(&self, proxy: usize) -> Told {
-        WaitingRoom::told(self, proxy)
+    fn reported_state(&self, proxy: usize) -> ReportedState {
+        WaitingRoom::reported_state(self, proxy)
     }
 
-    fn let_through(&self, proxy: usize) {
-        WaitingRoom::let_through(self, proxy);
+    fn admit(&self, proxy: usize) {
+        WaitingRoom::admit(self, proxy);
     }
 }
 
@@ -100,7 +100,7 @@ impl<G: Gatekeeper> Gatekeeper for Unshared<G> {
 impl<G> ShareKeeper for Unshared<G> {
     ghost use Rattle.std.specs.Prelude.{⊤};
 
-    ghost lets_through = { λ _ _ _. ⊤ };
+    ghost admits = { λ _ _ _. ⊤ };
 
     fn stands(&self, _proxy: usize, _stand: Stand) -> bool
         ensures open { IsTrue result }
@@ -110,11 +110,11 @@ impl<G> ShareKeeper for Unshared<G> {
 
     fn closed(&self, _proxy: usize) {}
 
-    fn told(&self, _proxy: usize) -> Told
-        ensures goes { result ≡ Told.Goes }
+    fn reported_state(&self, _proxy: usize) -> ReportedState
+        ensures goes { result ≡ ReportedState.Goes }
     {
-        Told::Goes
+        ReportedState::Goes
     }
 
-    fn let_through(&self, _proxy: usize) {}
+    fn admit(&self, _proxy: usize) {}
 }

@@ -4,7 +4,7 @@ ghost use Rattle.std.specs.Prelude.{◌≡◌, [], ◌∷◌, ◌++◌, true, fa
 ghost use Rattle.lane.specs.Lane.{HasEnded};
 ghost use Rattle.replay_output.specs.Line.{answer_of, IsLineOf};
 ghost use Rattle.replay_workers.specs.Ends.{SendsNothing};
-ghost use Rattle.replay_workers.specs.Inbox.{Keeps, InboxGoesOn};
+ghost use Rattle.replay_workers.specs.Inbox.{Keeps, InboxContinues};
 ghost use Rattle.replay_output.specs.declared.line.Line.{Line as LineOfAnswer};
 
 use crate::ends::Ends;
@@ -60,7 +60,7 @@ impl Inbox {
 
     /// Takes all answers that have come. Returns whether the lane is at its end.
     pub fn take_all<G: Gatekeeper, R: Wait>(&mut self, rt: &R, gatekeeper: &G) -> bool
-        ensures inbox { InboxGoesOn self.old self.new }
+        ensures inbox { InboxContinues self.old self.new }
         ensures nothing_sent { SendsNothing self.old.ends self.new.ends }
         ensures end { result ≡ true → HasEnded self.new.ends.replies }
     {
@@ -79,9 +79,9 @@ impl Inbox {
     }
 
     /// Takes answers until the lane is at its end.
-    #[tactic(auto, using(crate::proofs::Keeping::inbox_goes_on))]
+    #[tactic(auto, using(crate::proofs::Keeping::inbox_continues))]
     pub fn take_to_end<G: Gatekeeper, R: Wait>(&mut self, rt: &R, gatekeeper: &G)
-        ensures inbox { InboxGoesOn self.old self.new }
+        ensures inbox { InboxContinues self.old self.new }
         ensures nothing_sent { SendsNothing self.old.ends self.new.ends }
         ensures end { HasEnded self.new.ends.replies }
     {

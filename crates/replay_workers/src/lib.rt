@@ -1,7 +1,7 @@
 //! Runs one worker per file, each in its own thread, and turns the resolver between them.
 //!
-//! [`run`] does so over any readers, and returns an [`Outcome`]: what the workers returned, and how
-//! full the resolver was.
+//! [`run`] does so over any readers, and returns a [`RunOutcome`]: what the workers returned, and
+//! how full the resolver was.
 //! [`run_observed`] also shows each batch that is processed to an observer, and [`run_over`] takes
 //! any streams of [`Batches`]. [`AskingFrames`] are the batches of a file, whose transactions all
 //! ask for their reports. [`work`] is what one worker does: it reads the batches of its file,
@@ -33,8 +33,8 @@ pub use asking::{AskingFrames, read_asking};
 pub use batches::Batches;
 pub use ends::MostUnanswered;
 pub use gatekeeper::{AlwaysOpen, Gatekeeper, ShareKeeper, Unshared};
-pub use outcome::Outcome;
+pub use outcome::RunOutcome;
 pub use rest::pause;
-pub use running::{let_through, run, run_observed, run_over};
+pub use running::{admit, run, run_observed, run_over};
 pub use watch::Watch;
 pub use worker::{Assignment, FileEnd, Finished, Leftover, work, work_over};

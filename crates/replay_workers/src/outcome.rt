@@ -11,7 +11,7 @@ use std::alloc::{AllocError, Global};
 
 /// What the workers have returned, each at its proxy's number, and how full the resolver was.
 #[derive(Drop)]
-pub struct Outcome {
+pub struct RunOutcome {
     pub clients: Vec<Client>,
     /// The lines of the answers to each proxy, in the order taken.
     pub lines: Vec<Vec<Line>>,
@@ -26,7 +26,7 @@ pub struct Outcome {
     ghost failures_room: { vec_capacity clients ≤ vec_capacity failures },
 }
 
-impl Outcome {
+impl RunOutcome {
     /// Creates an empty outcome with room for the results of n workers.
     pub fn with_room(alloc: Global, workers: usize) -> Result<Self, AllocError>
         ensures room { IfOk result (λ outcome. workers ≤ vec_capacity outcome.clients) }
@@ -35,7 +35,7 @@ impl Outcome {
         ensures failures { IfOk result (λ outcome. outcome.failures.items ≡ []) }
         ensures all_sent { IfOk result (λ outcome. outcome.all_sent ≡ true) }
     {
-        Ok(Outcome {
+        Ok(RunOutcome {
             clients: Vec::with_capacity(alloc, workers)?,
             lines: Vec::with_capacity(alloc, workers)?,
             failures: Vec::with_capacity(alloc, workers)?,

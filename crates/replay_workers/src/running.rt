@@ -5,8 +5,8 @@ ghost use Rattle.std.specs.Prelude.{[], None, slice_get, IfOk};
 ghost use Rattle.std.specs.List.{All};
 ghost use Rattle.flow.specs.Next.{AllWait, IsNext};
 ghost use Rattle.resolver.specs.declared.resolver_core.TheConstants.{MAX_PROXIES};
-ghost use Rattle.resolver.specs.Core.{GoesOn};
-ghost use Rattle.resolver.specs.Lanes.{Lanes, Each, LanesGoOn};
+ghost use Rattle.resolver.specs.Core.{Continues};
+ghost use Rattle.resolver.specs.Lanes.{Lanes, Each, LanesContinue};
 ghost use Rattle.resolver.specs.Resolver.{IsResolving, IsThrough, StandsOver};
 ghost use Rattle.resolver.specs.Turns.{Turns};
 ghost use Rattle.replay_workers.specs.Occupied.{IsMeasured};
@@ -18,7 +18,7 @@ ghost use Rattle.replay_workers.specs.Stops.{IsAccountedFor};
 use crate::asking::asking_each;
 use crate::batches::{Batches, frames_each};
 use crate::gatekeeper::{Gatekeeper, ShareKeeper};
-use crate::outcome::Outcome;
+use crate::outcome::RunOutcome;
 use crate::threads::{join_all, start_workers};
 use crate::watch::Watch;
 use observer::{Observer, Unobserved};
@@ -45,7 +45,7 @@ pub fn run<
     readers: Vec<S>,
     options: Options,
     gatekeeper: &Arc<G, Global>,
-) -> Result<(Outcome, Account), StartError>
+) -> Result<(RunOutcome, Account), StartError>
     requires least_readers { 1 ≤ vec_len readers }
     requires most_readers { vec_len readers ≤ MAX_PROXIES }
     ensures run { IfOk result (λ ended. IsRun options (map S.remaining readers.items)
@@ -76,7 +76,7 @@ pub fn run_observed<
     options: Options,
     gatekeeper: &Arc<G, Global>,
     observer: &mut O,
-) -> Result<(Outcome, Account), StartError>
+) -> Result<(RunOutcome, Account), StartError>
     requires least_readers { 1 ≤ vec_len readers }
     requires most_readers { vec_len readers ≤ MAX_PROXIES }
     ensures run { IfOk result (λ ended. IsRun options (map S.remaining readers.items)
@@ -127,7 +127,7 @@ pub fn run_over<
     options: Options,
     gatekeeper: &Arc<G, Global>,
     observer: &mut O,
-) -> Result<(Outcome, Vec<B>, Account), StartError>
+) -> Result<(RunOutcome, Vec<B>, Account), StartError>
     requires least { 1 ≤ vec_len streams }
     requires most { vec_len streams ≤ MAX_PROXIES }
     requires fresh { All (λ batches. B.refusal batches ≡ None) streams.items }
@@ -157,7 +157,7 @@ pub fn run_over<
         style,
         ..
     } = options;
-    let outcome = Outcome::with_room(alloc, proxies)?;
+    let outcome = RunOutcome::with_room(alloc, proxies)?;
     let ended = Vec::with_capacity(alloc, proxies)?;
     let mut watch = Watch::new(alloc, proxies)?;
     let (mut resolver, clients) = open(alloc, proxies, capacity, window, limit)?;
@@ -188,15 +188,15 @@ fn turn_to_end<G: ShareKeeper, R: Wait, O: Observer>(
         → result.boundaries ≡ length resolver.new.core.set.map.boundaries }
     ensures setting { O.setting observer.new ≡ O.setting observer.old }
     ensures resolving { IsResolving resolver.old → IsResolving resolver.new }
-    ensures goes_on { GoesOn resolver.old.core resolver.new.core }
-    ensures lanes { Each (λ _ l m. LanesGoOn l m) resolver.old.lanes resolver.new.lanes }
+    ensures continues { Continues resolver.old.core resolver.new.core }
+    ensures lanes { Each (λ _ l m. LanesContinue l m) resolver.old.lanes resolver.new.lanes }
 {
     let mut occupancy = Occupancy::new(resolver.boundaries());
     for _ in rt.forever() {
         match turn_and_note(resolver, observer, &mut occupancy) {
             Ok(Turn::Took(_)) => watch.forget(),
             Ok(Turn::Idle) => {
-                let_through(resolver, gatekeeper, watch);
+                admit(resolver, gatekeeper, watch);
                 thread::yield_now();
             }
             Ok(Turn::Done) => return occupancy,
@@ -231,22 +231,22 @@ fn turn_and_note<O: Observer>(
 /// Lets the batch of the proxy through that is next, after a turn that took nothing. What all
 /// proxies have told twice, with such a turn between, is so at once: none of them has gone on
 /// meanwhile, and all that they have sent was taken.
-pub fn let_through<G: ShareKeeper>(resolver: &Resolver, gatekeeper: &G, watch: &mut Watch)
-    ensures proxies { length watch.new.told ≡ length watch.old.told }
+pub fn admit<G: ShareKeeper>(resolver: &Resolver, gatekeeper: &G, watch: &mut Watch)
+    ensures proxies { length watch.new.reported ≡ length watch.old.reported }
 {
     if resolver.owed() > 0 {
         return;
     }
     if let Some(proxy) = watch.look(resolver, gatekeeper) {
-        let_next_through(gatekeeper, watch, proxy);
+        admit_next(gatekeeper, watch, proxy);
         watch.forget();
     }
 }
 
 // Lets the batch of a proxy through, which by the last look is next where all wait for each other.
-fn let_next_through<G: ShareKeeper>(gatekeeper: &G, watch: &Watch, proxy: usize)
-    requires waits { AllWait watch.now.told watch.now.sent }
-    requires next { IsNext watch.now.told proxy }
+fn admit_next<G: ShareKeeper>(gatekeeper: &G, watch: &Watch, proxy: usize)
+    requires waits { AllWait watch.now.reported watch.now.sent }
+    requires next { IsNext watch.now.reported proxy }
 {
-    gatekeeper.let_through(proxy);
+    gatekeeper.admit(proxy);
 }

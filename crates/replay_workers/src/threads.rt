@@ -4,7 +4,7 @@ ghost use Rattle.std.specs.Prelude.{◌≡◌, ◌≤◌, List, map, vec_len, ve
 ghost use Rattle.std.specs.Prelude.{None};
 ghost use Rattle.std.specs.List.{All, AllZip};
 ghost use Rattle.resolver.specs.Share.{share_of};
-ghost use Rattle.replay_workers.specs.declared.threads.Worked.{Worked as HandedBack};
+ghost use Rattle.replay_workers.specs.declared.threads.Worked.{Worked as ReturnedWorker};
 ghost use Rattle.replay_workers.specs.Batches.{EndsWith};
 ghost use Rattle.replay_workers.specs.Worker.{HasWorkedOver};
 ghost use Rattle.replay_workers.specs.Threads.{given_each, given_by, given_to, HasWorkedOn};
@@ -12,7 +12,7 @@ ghost use Rattle.replay_workers.specs.Threads.{IsOutcomeOf, finished_of, streams
 
 use crate::batches::Batches;
 use crate::gatekeeper::{Gatekeeper, ShareKeeper};
-use crate::outcome::Outcome;
+use crate::outcome::RunOutcome;
 use crate::worker::{Assignment, Finished, work_over};
 use replay_output::{StartError, Style};
 use resolver::{Client, share};
@@ -45,26 +45,26 @@ impl<B: Batches> Promise<Worked<B>> for Work<B> {
 
 /// A worker that was started, and what it was given.
 #[derive(Drop)]
-pub struct Started<B: Batches> {
+pub struct StartedWorkers<B: Batches> {
     handle: PromisedHandle<Worked<B>, Work<B>>,
 }
 
 // What a worker is started with.
 #[derive(Drop)]
-struct Task<B, G> {
+struct WorkerTask<B, G> {
     assignment: Assignment,
     client: Client,
     batches: B,
     gatekeeper: Arc<G, Global>,
 }
 
-impl<B: Batches + Drop, G: Gatekeeper + ShareKeeper + Drop> Task<B, G> {
+impl<B: Batches + Drop, G: Gatekeeper + ShareKeeper + Drop> WorkerTask<B, G> {
     fn run<R: Wait>(self, rt: &R, alloc: Global) -> Worked<B>
         requires fresh { B.refusal self.batches ≡ None }
         ensures worked { HasWorkedOn B.gives B.is_at_end B.is_at_fault B.stays (given_by self)
             result }
     {
-        let Task {
+        let WorkerTask {
             assignment,
             client,
             batches,
@@ -91,7 +91,7 @@ pub fn start_workers<
     streams: Vec<B>,
     clients: Vec<Client>,
     gatekeeper: &Arc<G, Global>,
-) -> Result<Vec<Started<B>>, StartError>
+) -> Result<Vec<StartedWorkers<B>>, StartError>
     requires some { 1 ≤ vec_len streams }
     requires each { vec_len streams ≡ vec_len clients }
     requires fresh { All (λ batches. B.refusal batches ≡ None) streams.items }
@@ -116,7 +116,7 @@ fn make_tasks<B: Drop, G: Drop>(
     streams: Vec<B>,
     clients: Vec<Client>,
     gatekeeper: &Arc<G, Global>,
-) -> Result<Vec<Task<B, G>>, AllocError>
+) -> Result<Vec<WorkerTask<B, G>>, AllocError>
     requires each { vec_len streams ≡ vec_len clients }
     ensures given { IfOk result (λ tasks. map given_by tasks.items
         ≡ given_each style share 0 clients.items streams.items) }
@@ -142,12 +142,12 @@ fn make_task<B: Drop, G: Drop>(
     client: Client,
     batches: B,
     gatekeeper: &Arc<G, Global>,
-) -> Result<Task<B, G>, AllocError>
+) -> Result<WorkerTask<B, G>, AllocError>
     ensures assignment { IfOk result (λ task. task.assignment ≡ assignment) }
     ensures client { IfOk result (λ task. task.client ≡ client) }
     ensures batches { IfOk result (λ task. task.batches ≡ batches) }
 {
-    Ok(Task {
+    Ok(WorkerTask {
         assignment,
         client,
         batches,
@@ -159,7 +159,7 @@ fn start<
     B: Batches + Send + Drop + 'static,
     G: Gatekeeper + ShareKeeper + Send + Sync + Drop + 'static,
     R: Threads + Wait + Copy + Send + 'static,
->(rt: &R, alloc: Global, task: Task<B, G>) -> Result<Started<B>, StartError>
+>(rt: &R, alloc: Global, task: WorkerTask<B, G>) -> Result<StartedWorkers<B>, StartError>
     requires fresh { B.refusal task.batches ≡ None }
     ensures given { IfOk result (λ worker. given_to worker ≡ given_by task) }
     ensures thread { IfErr result (λ cause. cause ≡ StartError.Thread) }
@@ -176,7 +176,7 @@ fn start<
             result }
     { task.run(&there, alloc) };
     match thread::spawn_with(rt, promise, run) {
-        Ok(handle) => Ok(Started { handle }),
+        Ok(handle) => Ok(StartedWorkers { handle }),
         Err(_) => Err(StartError::Thread),
     }
 }
@@ -185,15 +185,15 @@ fn start<
 /// order. Takes no memory.
 pub fn join_all<B: Batches + Drop, R: Threads>(
     rt: &R,
-    workers: Vec<Started<B>>,
-    outcome: Outcome,
+    workers: Vec<StartedWorkers<B>>,
+    outcome: RunOutcome,
     streams: Vec<B>,
-) -> (Outcome, Vec<B>)
+) -> (RunOutcome, Vec<B>)
     requires empty { IsOutcomeOf [] outcome }
     requires none { streams.items ≡ [] }
     requires room { vec_len workers ≤ vec_capacity outcome.clients }
     requires streams_room { vec_len workers ≤ vec_capacity streams }
-    ensures worked { (each : List (HandedBack B))
+    ensures worked { (each : List (ReturnedWorker B))
         × AllZip (HasWorkedOn B.gives B.is_at_end B.is_at_fault B.stays)
         (map given_to workers.items) each
         × IsOutcomeOf (finished_of each) result.0

@@ -6,7 +6,7 @@ ghost use Rattle.flow.specs.Next.{AllWait, IsNext, NoneStands};
 ghost use Rattle.replay_workers.specs.Watch.{SeesSent};
 
 use crate::gatekeeper::ShareKeeper;
-use flow::{Told, next_through};
+use flow::{ReportedState, next_admitted};
 use resolver::Resolver;
 use std::alloc::{AllocError, Global};
 use std::marker::Model;
@@ -15,7 +15,7 @@ use std::marker::Model;
 /// answers were sent to it.
 #[derive(Drop)]
 pub struct Watch {
-    told: Vec<Told>,
+    reported: Vec<ReportedState>,
     sent: Vec<u64>,
 }
 
@@ -25,20 +25,21 @@ impl Model for Watch {
 
     ghost Value = { Look };
 
-    ghost view = { λ watch. record { told = watch.told.items; sent = watch.sent.items } };
+    ghost view = { λ watch. record { reported = watch.reported.items; sent = watch.sent.items } };
 
-    ghost invariant = { λ watch. vec_len watch.told ≡ vec_len watch.sent };
+    ghost invariant = { λ watch. vec_len watch.reported ≡ vec_len watch.sent };
 }
 
 impl Watch {
     /// Creates a watch over n proxies, of which it knows nothing yet, as after
     /// [`forget`](Watch::forget). It takes no memory afterwards.
     pub fn new(alloc: Global, proxies: usize) -> Result<Self, AllocError>
-        ensures proxies { IfOk result (λ watch. length watch.told ≡ proxies) }
-        ensures forgotten { IfOk result (λ watch. All (λ told. told ≡ Told.Goes) watch.told) }
+        ensures proxies { IfOk result (λ watch. length watch.reported ≡ proxies) }
+        ensures forgotten { IfOk result (λ watch. All (λ reported. reported
+            ≡ ReportedState.Goes) watch.reported) }
     {
         Ok(Watch {
-            told: vec![in alloc; Told::Goes; proxies]?,
+            reported: vec![in alloc; ReportedState::Goes; proxies]?,
             sent: vec![in alloc; 0; proxies]?,
         })
     }
@@ -46,10 +47,10 @@ impl Watch {
     /// Forgets what the last look found: the next one finds something else, or no proxy that
     /// stands.
     pub fn forget(&mut self)
-        ensures forgotten { All (λ told. told ≡ Told.Goes) self.new.told }
-        ensures proxies { length self.new.told ≡ length self.old.told }
+        ensures forgotten { All (λ reported. reported ≡ ReportedState.Goes) self.new.reported }
+        ensures proxies { length self.new.reported ≡ length self.old.reported }
     {
-        self.told.fill(Told::Goes);
+        self.reported.fill(ReportedState::Goes);
     }
 
     /// Looks at all proxies. Returns the one whose batch is to be admitted, if the last look has
@@ -57,29 +58,29 @@ impl Watch {
     pub fn look<G: ShareKeeper>(&mut self, resolver: &Resolver, gatekeeper: &G) -> Option<usize>
         ensures same { IfSome result (λ _. self.new ≡ self.old) }
         ensures sent { SeesSent resolver.now.lanes self.new }
-        ensures next { IfSome result (λ proxy. AllWait self.new.told self.new.sent
-            × IsNext self.new.told proxy) }
-        ensures none { result ≡ None → self.new ≡ self.old → AllWait self.new.told self.new.sent
-            → NoneStands self.new.told }
-        ensures proxies { length self.new.told ≡ length self.old.told }
+        ensures next { IfSome result (λ proxy. AllWait self.new.reported self.new.sent
+            × IsNext self.new.reported proxy) }
+        ensures none { result ≡ None → self.new ≡ self.old → AllWait self.new.reported self.new.sent
+            → NoneStands self.new.reported }
+        ensures proxies { length self.new.reported ≡ length self.old.reported }
     {
         if !self.finds_the_same(resolver, gatekeeper) {
             return None;
         }
-        next_through(&self.told, &self.sent)
+        next_admitted(&self.reported, &self.sent)
     }
 
     // Looks at all proxies, and returns whether the last look has found the same.
     fn finds_the_same<G: ShareKeeper>(&mut self, resolver: &Resolver, gatekeeper: &G) -> bool
         ensures same { IsTrue result ↔ (self.new ≡ self.old) }
         ensures sent { SeesSent resolver.now.lanes self.new }
-        ensures proxies { length self.new.told ≡ length self.old.told }
+        ensures proxies { length self.new.reported ≡ length self.old.reported }
     {
         let mut is_same = true;
-        for proxy in 0..self.told.len() {
-            let told = gatekeeper.told(proxy);
+        for proxy in 0..self.reported.len() {
+            let reported = gatekeeper.reported_state(proxy);
             let sent = resolver.sent(proxy);
-            if !self.keep(proxy, told, sent) {
+            if !self.keep(proxy, reported, sent) {
                 is_same = false;
             }
         }
@@ -87,16 +88,16 @@ impl Watch {
     }
 
     // Keeps what is found of the proxy, and returns whether the last look has found the same.
-    fn keep(&mut self, proxy: usize, told: Told, sent: u64) -> bool
-        requires inside { proxy < length self.old.told }
-        ensures counts { length self.old.told ≡ length self.old.sent }
-        ensures told { self.new.told ≡ slice_set self.old.told proxy told }
+    fn keep(&mut self, proxy: usize, reported: ReportedState, sent: u64) -> bool
+        requires inside { proxy < length self.old.reported }
+        ensures counts { length self.old.reported ≡ length self.old.sent }
+        ensures reported { self.new.reported ≡ slice_set self.old.reported proxy reported }
         ensures sent { self.new.sent ≡ slice_set self.old.sent proxy sent }
-        ensures same { IsTrue result ↔ ((slice_get self.old.told proxy ≡ Some told)
+        ensures same { IsTrue result ↔ ((slice_get self.old.reported proxy ≡ Some reported)
             × (slice_get self.old.sent proxy ≡ Some sent)) }
     {
-        let is_same = self.told[proxy] == told && self.sent[proxy] == sent;
-        self.told[proxy] = told;
+        let is_same = self.reported[proxy] == reported && self.sent[proxy] == sent;
+        self.reported[proxy] = reported;
         self.sent[proxy] = sent;
         is_same
     }

@@ -7,8 +7,8 @@ ghost use Rattle.lane.specs.declared.port.TheConstants.{MAX_SENT};
 ghost use Rattle.lane.specs.Lane.{HasEnded};
 ghost use Rattle.lane.specs.Refused.{item_of};
 ghost use Rattle.replay_workers.specs.Batches.{EndsWith};
-ghost use Rattle.replay_workers.specs.Ends.{EndsGoOn};
-ghost use Rattle.replay_workers.specs.Inbox.{Keeps, InboxGoesOn};
+ghost use Rattle.replay_workers.specs.Ends.{EndsContinue};
+ghost use Rattle.replay_workers.specs.Inbox.{Keeps, InboxContinues};
 ghost use Rattle.replay_workers.specs.Worker.{HasWorked, HasWorkedOver, IsWithinShare};
 ghost use Rattle.replay_workers.specs.Worker.{CannotSend, SendsBatches};
 ghost use Rattle.replay_workers.specs.Worker.{IfLeaves, LeavesLane, batch_of, fault_of};
@@ -154,7 +154,7 @@ impl Worker {
     }
 
     // Sends the batches of the stream, in order.
-    #[tactic(auto, using(crate::proofs::Keeping::inbox_goes_on))]
+    #[tactic(auto, using(crate::proofs::Keeping::inbox_continues))]
     fn send_batches<B: Batches, G: Gatekeeper + ShareKeeper, R: Wait>(
         &mut self,
         rt: &R,
@@ -162,7 +162,7 @@ impl Worker {
         batches: &mut B,
     ) -> FileEnd
         requires fresh { B.refusal batches.old ≡ None }
-        ensures inbox { InboxGoesOn self.old.inbox self.new.inbox }
+        ensures inbox { InboxContinues self.old.inbox self.new.inbox }
         ensures sent { (sends : SendsBatches B.gives B.is_at_end B.is_at_fault batches.old
             self.old.inbox.ends.requests.sent self.new.inbox.ends.requests.sent (fault_of result)
             (unsent_of result)) × EndsWith B.stays sends.left batches.new }
@@ -190,21 +190,21 @@ impl Worker {
     // Sends a batch as soon as the gatekeeper, the share and the lane let it, and takes answers
     // before each try. Hands the batch back where the answers have ended, or where the lane takes
     // no more.
-    #[tactic(auto, using(crate::proofs::Keeping::inbox_goes_on, crate::proofs::Keeping::sends_on))]
+    #[tactic(auto, using(crate::proofs::Keeping::inbox_continues, crate::proofs::Keeping::sends_on))]
     fn send<G: Gatekeeper + ShareKeeper, R: Wait>(
         &mut self,
         rt: &R,
         gatekeeper: &G,
         batch: Batch,
     ) -> Result<(), Leftover>
-        ensures inbox { InboxGoesOn self.old.inbox self.new.inbox }
+        ensures inbox { InboxContinues self.old.inbox self.new.inbox }
         ensures sent { OnOk result (self.new.inbox.ends.requests.sent
             ≡ self.old.inbox.ends.requests.sent ++ batch ∷ []) }
         ensures unchanged { OnErr result (self.new.inbox.ends.requests.sent
             ≡ self.old.inbox.ends.requests.sent) }
         ensures closed_stays { self.new.inbox.ends.requests.closed
             ≡ self.old.inbox.ends.requests.closed }
-        ensures handed_back { IfErr result (λ leftover. batch_of leftover ≡ batch) }
+        ensures returned { IfErr result (λ leftover. batch_of leftover ≡ batch) }
         ensures gives_up { IfErr result (λ leftover. CannotSend leftover
             self.new.inbox.ends.requests self.new.inbox.ends.replies) }
     {
@@ -231,7 +231,7 @@ impl Worker {
         gatekeeper: &G,
         batch: Batch,
     ) -> Result<(), Refused<Batch>>
-        ensures ends { EndsGoOn self.old.inbox.ends self.new.inbox.ends }
+        ensures ends { EndsContinue self.old.inbox.ends self.new.inbox.ends }
         ensures replies { self.new.inbox.ends.replies ≡ self.old.inbox.ends.replies }
         ensures inbox { self.new.inbox ≡ record self.old.inbox { ends = self.new.inbox.ends } }
         ensures sent { OnOk result (self.new.inbox.ends.requests.sent
@@ -240,7 +240,7 @@ impl Worker {
             ≡ self.old.inbox.ends.requests.sent) }
         ensures closed_stays { self.new.inbox.ends.requests.closed
             ≡ self.old.inbox.ends.requests.closed }
-        ensures handed_back { IfErr result (λ refused. item_of refused ≡ batch) }
+        ensures returned { IfErr result (λ refused. item_of refused ≡ batch) }
         ensures closed { result ≡ Err (Refused.Closed batch)
             → self.new.inbox.ends.requests.closed ≡ true }
         ensures worn { result ≡ Err (Refused.Worn batch)
@@ -259,7 +259,7 @@ impl Worker {
     fn close<G: Gatekeeper + ShareKeeper, R: Wait>(&mut self, rt: &R, gatekeeper: &G, end: &FileEnd)
         requires gives_up { IfLeaves end.now (λ leftover. CannotSend leftover
             self.old.inbox.ends.requests self.old.inbox.ends.replies) }
-        ensures inbox { InboxGoesOn self.old.inbox self.new.inbox }
+        ensures inbox { InboxContinues self.old.inbox self.new.inbox }
         ensures nothing_sent { self.new.inbox.ends.requests.sent
             ≡ self.old.inbox.ends.requests.sent }
         ensures leaves { (was : Bool) → self.old.inbox.ends.requests.closed ≡ was

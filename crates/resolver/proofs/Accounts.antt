@@ -13,13 +13,13 @@ use Rattle.keyspace.specs.Processed.{Processed}
 use Rattle.keyspace.specs.Run.{State, Step, Finish, step, run, answers, answers_to, part}
 use Rattle.keyspace.specs.Laws.{RunsAreChains, EachBatchIsAnswered, NoneIsHeldAfterFinish, held_of}
 use Rattle.serial.specs.Serial.{ChainsAreSerializable}
-use Rattle.serial.specs.Replies.{IsSent, IsCommittedAt, ReportsCommitted, AnswersTellVerdicts}
+use Rattle.serial.specs.Replies.{IsSent, IsCommittedAt, ReportsCommitted, AnswersReportVerdicts}
 use Rattle.lane.specs.Lane.{Lane, HasEnded}
 use Rattle.resolver.specs.declared.stop.Stop.{Stop}
 use Rattle.resolver.specs.declared.turn.Account.{Account}
 use Rattle.resolver.specs.declared.client.Client.{Client}
 use Rattle.resolver.specs.Owed.{owed_to, owed_count}
-use Rattle.resolver.specs.Core.{CoreState, Given, IsBeginning, made_to}
+use Rattle.resolver.specs.Core.{CoreState, Given, IsPrefix, made_to}
 use Rattle.resolver.specs.Stands.{Stands, StandsBy}
 use Rattle.resolver.specs.OpeningLog.{opening_log, log_from}
 use Rattle.resolver.specs.Lanes.{Lanes, has_ended, all_ended, sent_to}
@@ -34,8 +34,8 @@ use Rattle.resolver.proofs.Settling.{lanes_at}
 use Rattle.resolver.proofs.Unchanged.{LanesHold, slice_get_inside}
 
 -- a beginning of the whole length is the whole
-begins_whole : {T : Type 0} (xs ys : List T) → IsBeginning xs ys → length xs ≡ length ys → xs ≡ ys
-begins_whole xs ys begins same =
+begins_entire : {T : Type 0} (xs ys : List T) → IsPrefix xs ys → length xs ≡ length ys → xs ≡ ys
+begins_entire xs ys begins same =
     let both = ap length begins.1 ∙ length-append xs begins.0 in
     let none = nil_from_length begins.0 (omega (arith, both, same)) in
     sym (append-nil xs) ∙ ap (λ rest. xs ++ rest) (sym none) ∙ sym begins.1
@@ -43,32 +43,32 @@ begins_whole xs ys begins same =
 -- the answers made to a proxy begin those of the reference resolver
 pub made_begins : (stop : Option Stop) (log : List Step) (given : Given) (core : CoreState)
     → StandsBy stop log given core → (proxy : ℕ) → proxy < length core.owed
-    → IsBeginning (made_to proxy given core) (answers core.set.window log proxy)
+    → IsPrefix (made_to proxy given core) (answers core.set.window log proxy)
 made_begins None log given core stands proxy inside =
-    subst (IsBeginning (made_to proxy given core)) (stands.answers proxy inside)
+    subst (IsPrefix (made_to proxy given core)) (stands.answers proxy inside)
     (begins_itself (made_to proxy given core))
 made_begins (Some stop) log given core stands proxy inside = stands.made.no_others proxy inside
 
 -- and all answers of the log without its last step are among them
 pub made_before_last : (stop : Option Stop) (log : List Step) (given : Given) (core : CoreState)
     → StandsBy stop log given core → (before : List Step) (last : Step) → log ≡ before ++ last ∷ [] → (proxy : ℕ)
-    → proxy < length core.owed → IsBeginning (answers core.set.window before proxy) (made_to proxy given core)
+    → proxy < length core.owed → IsPrefix (answers core.set.window before proxy) (made_to proxy given core)
 made_before_last None log given core stands before last is proxy inside =
     let window = core.set.window in
     let now = run-more window before last in
-    let whole = stands.answers proxy inside ∙ ap (λ steps. answers window steps proxy) is
+    let entire = stands.answers proxy inside ∙ ap (λ steps. answers window steps proxy) is
     ∙ ap (λ (s : State). answers_to proxy s.answered) now in
-    subst (IsBeginning (answers window before proxy)) (sym whole)
+    subst (IsPrefix (answers window before proxy)) (sym entire)
     (begins_answers_to proxy (run window before).answered (step window last (run window before)).answered
     (grows_step window last (run window before)).answered)
 made_before_last (Some stop) log given core stands before last is proxy inside =
     let same = same_from_push stands.before before stands.last last (sym stands.log_is ∙ is) in
-    subst (λ steps. IsBeginning (answers core.set.window steps proxy) (made_to proxy given core)) same.0
+    subst (λ steps. IsPrefix (answers core.set.window steps proxy) (made_to proxy given core)) same.0
     (stands.made.all_before proxy inside)
 
 -- an item of a prefix is one of the list
-Contains-beginning : {T : Type 0} (xs ys : List T) (x : T) → IsBeginning xs ys → Contains xs x → Contains ys x
-Contains-beginning xs ys x begins among =
+Contains-prefix : {T : Type 0} (xs ys : List T) (x : T) → IsPrefix xs ys → Contains xs x → Contains ys x
+Contains-prefix xs ys x begins among =
     subst (λ zs. Contains zs x) (sym begins.1) (Contains-append_left xs begins.0 x among)
 
 -- what holds of the value that there is
@@ -164,7 +164,7 @@ module _ (p : Parts) (are : AreParts p) (clients : List Client) (count : length 
   takes_all holds proxy c at ended =
       let l = proxy_lanes_of proxy c at in
       let replies = (holds proxy l.0 c l.1 at).1 in
-      begins_whole c.replies.taken l.0.lanes.replies.sent replies.in_order
+      begins_entire c.replies.taken l.0.lanes.replies.sent replies.in_order
       (ended.all ∙ replies.all_seen ended.close)
       ∙ sym (field proxy l.0 l.1 (λ k. k.replies.sent) [])
 
@@ -173,13 +173,13 @@ module _ (p : Parts) (are : AreParts p) (clients : List Client) (count : length 
     opening = opening_log (length clients) version
 
     -- the log over which the reference resolver runs
-    abbrev whole : List Step
-    whole = log_from version (length clients) log
+    abbrev entire : List Step
+    entire = log_from version (length clients) log
 
     as_many : length clients ≡ length lanes
     as_many = count ∙ sym (length-map p.all_lanes (λ k. k.lanes))
 
-    core_stands : Stands core whole (sent_to lanes)
+    core_stands : Stands core entire (sent_to lanes)
     core_stands = Stands-as_many core (sent_to lanes) version (length lanes) (length clients) log as_many stands.core
 
     -- the log finishes
@@ -188,11 +188,11 @@ module _ (p : Parts) (are : AreParts p) (clients : List Client) (count : length 
         subst (λ ended. FinishesBy ended log) (have_ended complete) (stands.finish complete.no_stop)
 
     -- and so no batch is held
-    holds_none : NoneIsHeldAfterFinish → IsComplete (resolver_of p) clients → (run core.set.window whole).held ≡ []
+    holds_none : NoneIsHeldAfterFinish → IsComplete (resolver_of p) clients → (run core.set.window entire).held ≡ []
     holds_none none complete =
         let last = finishes complete in
-        let whole_is = ap (λ (steps : List Step). opening ++ steps) last.1 ∙ sym (append_assoc opening last.0 (Finish ∷ [])) in
-        subst (λ steps. (run core.set.window steps).held ≡ []) (sym whole_is) (none core.set.window (opening ++ last.0))
+        let entire_is = ap (λ (steps : List Step). opening ++ steps) last.1 ∙ sym (append_assoc opening last.0 (Finish ∷ [])) in
+        subst (λ steps. (run core.set.window steps).held ≡ []) (sym entire_is) (none core.set.window (opening ++ last.0))
 
     module _ (proxy : ℕ) (c : Client) (l : ProxyLanesView) (c_at : slice_get clients proxy ≡ Some c)
         (l_at : slice_get p.all_lanes proxy ≡ Some l) (requests : Lane c.requests l.lanes.requests)
@@ -210,7 +210,7 @@ module _ (p : Parts) (are : AreParts p) (clients : List Client) (count : length 
       sent_is = field proxy l l_at (λ k. k.replies.sent) []
 
       -- the log that starts at the version takes the same from it
-      part_same : part whole proxy ≡ part log proxy
+      part_same : part entire proxy ≡ part log proxy
       part_same = part_of_proxy version (length clients) log proxy (slice_get_within clients proxy c c_at)
 
       part_is : part log proxy ≡ l.lanes.requests.taken
@@ -220,11 +220,11 @@ module _ (p : Parts) (are : AreParts p) (clients : List Client) (count : length 
       made_is = ap (λ sent. sent ++ owed_to proxy core.owed) sent_is
 
       -- what was sent begins the answers of the reference resolver
-      sent_begins : IsBeginning l.lanes.replies.sent (answers core.set.window whole proxy)
+      sent_begins : IsPrefix l.lanes.replies.sent (answers core.set.window entire proxy)
       sent_begins =
-          begins_then l.lanes.replies.sent (made_to proxy (sent_to lanes) core) (answers core.set.window whole proxy)
+          begins_then l.lanes.replies.sent (made_to proxy (sent_to lanes) core) (answers core.set.window entire proxy)
           (owed_to proxy core.owed, made_is)
-          (made_begins p.core.stop whole (sent_to lanes) core core_stands proxy inside)
+          (made_begins p.core.stop entire (sent_to lanes) core core_stands proxy inside)
 
       -- if the reply lanes were closed, all that was made was sent
       made_sent : p.closed ≡ true → made_to proxy (sent_to lanes) core ≡ l.lanes.replies.sent
@@ -235,59 +235,59 @@ module _ (p : Parts) (are : AreParts p) (clients : List Client) (count : length 
           ∙ append-nil l.lanes.replies.sent
 
       -- and is all of them, if the reply lanes were closed and no stop was met
-      sent_all : p.closed ≡ true → p.core.stop ≡ None → l.lanes.replies.sent ≡ answers core.set.window whole proxy
+      sent_all : p.closed ≡ true → p.core.stop ≡ None → l.lanes.replies.sent ≡ answers core.set.window entire proxy
       sent_all closed none =
-          let state = IsIn-standing p.core.stop whole (sent_to lanes) core none core_stands in
+          let state = IsIn-standing p.core.stop entire (sent_to lanes) core none core_stands in
           sym (made_sent closed) ∙ state.answers proxy inside
 
       all_taken : HasEnded l.lanes.requests → l.lanes.requests.taken ≡ c.requests.sent
       all_taken ended =
-          begins_whole l.lanes.requests.taken c.requests.sent requests.in_order
+          begins_entire l.lanes.requests.taken c.requests.sent requests.in_order
           (ended.all ∙ requests.all_seen ended.close)
 
       -- if its answers have ended, the reply lanes were closed, and it has taken all that was sent
       closed_at : HasEnded c.replies → p.closed ≡ true
       closed_at ended = sym (are.closed proxy l.lanes at) ∙ replies.seen_close ended.close
 
-      taken_whole : HasEnded c.replies → c.replies.taken ≡ l.lanes.replies.sent
-      taken_whole ended =
-          begins_whole c.replies.taken l.lanes.replies.sent replies.in_order (ended.all ∙ replies.all_seen ended.close)
+      taken_entire : HasEnded c.replies → c.replies.taken ≡ l.lanes.replies.sent
+      taken_entire ended =
+          begins_entire c.replies.taken l.lanes.replies.sent replies.in_order (ended.all ∙ replies.all_seen ended.close)
 
       -- each of its batches has its answer, where none is held
-      one_each : EachBatchIsAnswered → (run core.set.window whole).held ≡ []
-          → c.replies.taken ≡ answers core.set.window whole proxy → part log proxy ≡ c.requests.sent
+      one_each : EachBatchIsAnswered → (run core.set.window entire).held ≡ []
+          → c.replies.taken ≡ answers core.set.window entire proxy → part log proxy ≡ c.requests.sent
           → length c.replies.taken ≡ length c.requests.sent
       one_each once none received batches =
-          let told = once core.set.window whole proxy in
+          let all_answered = once core.set.window entire proxy in
           let left = ap (λ held. length (held_of proxy held)) none in
           let as_answers = ap length received in
           let as_batches = ap length (part_same ∙ batches) in
-          omega (arith, told, left, as_answers, as_batches)
+          omega (arith, all_answered, left, as_answers, as_batches)
 
       -- it has received a prefix of the answers of the reference resolver
-      received : IsBeginning c.replies.taken (answers core.set.window whole proxy)
+      received : IsPrefix c.replies.taken (answers core.set.window entire proxy)
       received =
-          begins_then c.replies.taken l.lanes.replies.sent (answers core.set.window whole proxy) replies.in_order sent_begins
+          begins_then c.replies.taken l.lanes.replies.sent (answers core.set.window entire proxy) replies.in_order sent_begins
 
       -- the log holds a prefix of its batches
-      batches : IsBeginning (part log proxy) c.requests.sent
-      batches = subst (λ taken. IsBeginning taken c.requests.sent) (sym part_is) requests.in_order
+      batches : IsPrefix (part log proxy) c.requests.sent
+      batches = subst (λ taken. IsPrefix taken c.requests.sent) (sym part_is) requests.in_order
 
-      whole_batches : IsBeginning (part whole proxy) c.requests.sent
-      whole_batches = subst (λ taken. IsBeginning taken c.requests.sent) (sym part_same) batches
+      entire_batches : IsPrefix (part entire proxy) c.requests.sent
+      entire_batches = subst (λ taken. IsPrefix taken c.requests.sent) (sym part_same) batches
 
       -- a transaction that was reported to it as committed is committed
-      reported : AnswersTellVerdicts → (version : ℤ) (j : ℕ) → ReportsCommitted c.replies.taken version j
-          → IsCommittedAt (run core.set.window whole).processed proxy version j
-      reported tell version j reports =
-          tell.reported core.set.window whole proxy version j (record {
+      reported : AnswersReportVerdicts → (version : ℤ) (j : ℕ) → ReportsCommitted c.replies.taken version j
+          → IsCommittedAt (run core.set.window entire).processed proxy version j
+      reported known_verdicts version j reports =
+          known_verdicts.reported core.set.window entire proxy version j (record {
             reply = reports.reply;
-            is_received = Contains-beginning c.replies.taken _ (answer.Reply reports.reply) received reports.is_received;
+            is_received = Contains-prefix c.replies.taken _ (answer.Reply reports.reply) received reports.is_received;
             at_version = reports.at_version;
             verdict = reports.verdict;
           })
 
-      module _ (once : EachBatchIsAnswered) (none : NoneIsHeldAfterFinish) (tell : AnswersTellVerdicts) (account : Account)
+      module _ (once : EachBatchIsAnswered) (none : NoneIsHeldAfterFinish) (known_verdicts : AnswersReportVerdicts) (account : Account)
           (is : account.complete ≡ true → IsComplete (resolver_of p) clients) (stop : account.stop ≡ p.core.stop) where
         ended_is : has_ended lanes proxy ≡ l.lanes.ended
         ended_is = field proxy l l_at (λ k. k.ended) true
@@ -298,7 +298,7 @@ module _ (p : Parts) (are : AreParts p) (clients : List Client) (count : length 
         all_batches : has_ended lanes proxy ≡ true → part log proxy ≡ c.requests.sent
         all_batches ended = part_is ∙ all_taken (requests_ended ended)
 
-        all_received : account.complete ≡ true → c.replies.taken ≡ answers core.set.window whole proxy
+        all_received : account.complete ≡ true → c.replies.taken ≡ answers core.set.window entire proxy
         all_received done =
             (is done).taken proxy c c_at ∙ sent_is ∙ sent_all (was_closed (is done)) (is done).no_stop
 
@@ -311,31 +311,31 @@ module _ (p : Parts) (are : AreParts p) (clients : List Client) (count : length 
           all_received = all_received;
           each_answered = λ done.
               one_each once (holds_none none (is done)) (all_received done) (all_batches (every_ended done));
-          received_of_sent = subst (IsBeginning c.replies.taken) (sym sent_is) replies.in_order;
-          all_sent = λ ended. taken_whole ended ∙ sym sent_is;
+          received_of_sent = subst (IsPrefix c.replies.taken) (sym sent_is) replies.in_order;
+          all_sent = λ ended. taken_entire ended ∙ sym sent_is;
           all_unless_stopped = λ ended no_stop.
-              taken_whole ended ∙ sent_all (closed_at ended) (sym stop ∙ no_stop);
+              taken_entire ended ∙ sent_all (closed_at ended) (sym stop ∙ no_stop);
           all_before_last = λ ended before last is_log.
-              let whole_is = ap (λ (steps : List Step). opening ++ steps) is_log
+              let entire_is = ap (λ (steps : List Step). opening ++ steps) is_log
               ∙ sym (append_assoc opening before (last ∷ [])) in
-              subst (IsBeginning (answers core.set.window (opening ++ before) proxy))
-              (made_sent (closed_at ended) ∙ sym (taken_whole ended))
-              (made_before_last p.core.stop whole (sent_to lanes) core core_stands (opening ++ before) last whole_is proxy
+              subst (IsPrefix (answers core.set.window (opening ++ before) proxy))
+              (made_sent (closed_at ended) ∙ sym (taken_entire ended))
+              (made_before_last p.core.stop entire (sent_to lanes) core core_stands (opening ++ before) last entire_is proxy
               inside);
         }
 
         learns : LearnsVerdicts core.set.window opening log account proxy c
         learns = record {
           replies = λ reply among.
-              tell.replies core.set.window whole proxy c.requests.sent whole_batches.0 whole_batches.1 reply
-              (Contains-beginning c.replies.taken _ (answer.Reply reply) received among);
+              known_verdicts.replies core.set.window entire proxy c.requests.sent entire_batches.0 entire_batches.1 reply
+              (Contains-prefix c.replies.taken _ (answer.Reply reply) received among);
           all_replies = λ done entry there own.
               subst (λ taken. Contains taken (answer.Reply entry.reply)) (sym (all_received done))
-              (subst (λ q. Contains (answers core.set.window whole q) (answer.Reply entry.reply)) own
-              (tell.answered core.set.window whole entry there));
+              (subst (λ q. Contains (answers core.set.window entire q) (answer.Reply entry.reply)) own
+              (known_verdicts.answered core.set.window entire entry there));
           all_reported = λ done version j committed.
               subst (λ taken. ReportsCommitted taken version j) (sym (all_received done))
-              (tell.all_reported core.set.window whole proxy version j committed);
+              (known_verdicts.all_reported core.set.window entire proxy version j committed);
         }
 
         pub settled_for : SettledFor core.set.window opening log (has_ended lanes proxy) (sent_to lanes proxy) account proxy c
@@ -350,23 +350,23 @@ module _ (p : Parts) (are : AreParts p) (clients : List Client) (count : length 
 
     -- the headline, of all clients
     pub settled : LanesHold p.all_lanes clients → RunsAreChains → EachBatchIsAnswered → NoneIsHeldAfterFinish
-        → ChainsAreSerializable → AnswersTellVerdicts
+        → ChainsAreSerializable → AnswersReportVerdicts
         → (account : Account)
         → (account.complete ≡ true → IsComplete (resolver_of p) clients) → account.stop ≡ p.core.stop
         → SettledFrom version core.set.window log lanes clients account
-    settled holds chains once none serializable tell account is stop = record {
-      serializable = serializable core.set.window (run core.set.window whole).processed (chains core.set.window whole);
+    settled holds chains once none serializable known_verdicts account is stop = record {
+      serializable = serializable core.set.window (run core.set.window entire).processed (chains core.set.window entire);
       reported = λ proxy c at.
           let l = proxy_lanes_of proxy c at in
           let both = holds proxy l.0 c l.1 at in
-          reported proxy c l.0 at l.1 both.0 both.1 tell;
+          reported proxy c l.0 at l.1 both.0 both.1 known_verdicts;
       each = λ proxy c at.
           let l = proxy_lanes_of proxy c at in
           let both = holds proxy l.0 c l.1 at in
-          settled_for proxy c l.0 at l.1 both.0 both.1 once none tell account is stop;
+          settled_for proxy c l.0 at l.1 both.0 both.1 once none known_verdicts account is stop;
       proxies = only;
       from_clients = from_clients;
-      chain = chains core.set.window whole;
+      chain = chains core.set.window entire;
       finish = λ done. finishes (is done);
       none_held = λ done. holds_none none (is done);
       no_stop = λ done. stop ∙ (is done).no_stop;
@@ -376,14 +376,14 @@ module _ (p : Parts) (are : AreParts p) (clients : List Client) (count : length 
         only = subst (λ many. TakesOnlyFrom many log) (sym as_many) (stands_only version (resolver_of p) log stands)
 
         from_clients : (index : ℕ) (entry : Processed)
-            → slice_get (run core.set.window whole).processed index ≡ Some entry
+            → slice_get (run core.set.window entire).processed index ≡ Some entry
             → length (run core.set.window opening).processed ≤ index
-            → IsSomeAnd (slice_get clients entry.proxy) (λ c. IsSent core.set.window whole c.requests.sent index entry)
+            → IsSomeAnd (slice_get clients entry.proxy) (λ c. IsSent core.set.window entire c.requests.sent index entry)
         from_clients index entry at later =
-            let known = known_sender core.set.window (length clients) log chains tell only version index entry at later in
+            let known = known_sender core.set.window (length clients) log chains known_verdicts only version index entry at later in
             let c = slice_get_inside clients entry.proxy known in
             let l = proxy_lanes_of entry.proxy c.0 c.1 in
             let both = holds entry.proxy l.0 c.0 l.1 c.1 in
-            let sent = whole_batches entry.proxy c.0 l.0 c.1 l.1 both.0 both.1 in
-            some_at (λ c. IsSent core.set.window whole c.requests.sent index entry) (slice_get clients entry.proxy) c.0 c.1
-            (tell.sent core.set.window whole index entry at c.0.requests.sent sent.0 sent.1)
+            let sent = entire_batches entry.proxy c.0 l.0 c.1 l.1 both.0 both.1 in
+            some_at (λ c. IsSent core.set.window entire c.requests.sent index entry) (slice_get clients entry.proxy) c.0 c.1
+            (known_verdicts.sent core.set.window entire index entry at c.0.requests.sent sent.0 sent.1)

@@ -12,8 +12,8 @@ use Rattle.resolver.specs.OpeningLog.{log_from}
 use Rattle.resolver.specs.Resolver.{ResolverState, StandsOverFrom, IsThrough}
 use Rattle.resolver.specs.Parts.{ProxyLanesView, Parts, AreParts, EachProxy, lanes_of, owed_with, closed_proxy_lanes, resolver_of}
 use Rattle.resolver.proofs.AtIndex.{field_same, both_at, each_lanes, owed_with-length, owed_with-same}
-use Rattle.resolver.proofs.Handed.{StandsBy-moved}
-use Rattle.resolver.proofs.HandedOut.{list_all-same}
+use Rattle.resolver.proofs.DeliveredAnswers.{StandsBy-moved}
+use Rattle.resolver.proofs.DeliveryStep.{list_all-same}
 use Rattle.resolver.proofs.Logged.{stands_same}
 
 -- what a close ensures of a resolver

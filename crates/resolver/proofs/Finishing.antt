@@ -21,7 +21,7 @@ use Rattle.std.specs.Prelude.{ℤ, All}
 use Rattle.std.proofs.lemmas.List.{map-append}
 use Rattle.std.proofs.lemmas.List.Elements.{All-head, All-tail}
 use Rattle.keyspace.specs.declared.answer.Answer.{Answer}
-use Rattle.keyspace.specs.declared.answer.Answer.TheVariants as told
+use Rattle.keyspace.specs.declared.answer.Answer.TheVariants as reported
 use Rattle.keyspace.specs.Leaving.{Held}
 use Rattle.keyspace.specs.Run.{State, Finish, step, answers_to}
 use Rattle.resolver.specs.Owed.{owed_also}
@@ -31,28 +31,28 @@ use Rattle.resolver.proofs.Growing.{begins_itself, MadeBetween-grown}
 
 -- what a batch that is still held is answered
 abbrev pub still_held : Held → ℕ × Answer
-still_held h = (h.0, told.Held h.1.version)
+still_held h = (h.0, reported.Held h.1.version)
 
 -- the state with these batches answered and those held
-abbrev pub part_told : State → List Held → List Held → State
-part_told state said held = record state { held = held; answered = state.answered ++ map still_held said }
+abbrev pub part_reported : State → List Held → List Held → State
+part_reported state said held = record state { held = held; answered = state.answered ++ map still_held said }
 
 -- the core after the first of the batches held are answered
-pub record Tells (old now : CoreState) : Type 0 where
+pub record Reports (old now : CoreState) : Type 0 where
   pub said : List Held
   pub held : old.held ≡ said ++ now.held
   pub are : (state : State) (given : Given) → IsIn state given old
-      → IsIn (part_told state said now.held) given now
+      → IsIn (part_reported state said now.held) given now
   pub in_order : IsCore now
   pub set : now.set ≡ old.set
   pub stop : now.stop ≡ old.stop
   pub proxies : length now.owed ≡ length old.owed
 
-module _ (old now : CoreState) (h : Held) (others : List Held) (t : Tells old now)
+module _ (old now : CoreState) (h : Held) (others : List Held) (t : Reports old now)
     (first : now.held ≡ h ∷ others) where
   -- what it is answered
   abbrev last : Answer
-  last = told.Held h.1.version
+  last = reported.Held h.1.version
 
   pub first_known : h.0 < length now.owed
   first_known =
@@ -73,12 +73,12 @@ module _ (old now : CoreState) (h : Held) (others : List Held) (t : Tells old no
     past = t.in_order.past;
   }
 
-  told_first : (state : State) (given : Given) (owed : List (List Answer))
+  reported_first : (state : State) (given : Given) (owed : List (List Answer))
       → owed ≡ owed_also h.0 last now.owed
-      → IsIn (part_told state t.said now.held) given now
-      → IsIn (part_told state (t.said ++ h ∷ []) others) given (record now { held = others; owed = owed })
-  told_first state given owed is are =
-      let next = IsIn-answer (part_told state t.said now.held) given now h.0 last owed are first_known is in
+      → IsIn (part_reported state t.said now.held) given now
+      → IsIn (part_reported state (t.said ++ h ∷ []) others) given (record now { held = others; owed = owed })
+  reported_first state given owed is are =
+      let next = IsIn-answer (part_reported state t.said now.held) given now h.0 last owed are first_known is in
       let answered = append_assoc state.answered (map still_held t.said) (still_held h ∷ [])
       ∙ ap (λ xs. state.answered ++ xs) (sym (map-append still_held t.said (h ∷ []))) in
       record {
@@ -90,19 +90,19 @@ module _ (old now : CoreState) (h : Held) (others : List Held) (t : Tells old no
       }
 
   -- the first of them is answered
-  pub Tells-first : (owed : List (List Answer)) → owed ≡ owed_also h.0 last now.owed
-      → Tells old (record now { held = others; owed = owed })
-  Tells-first owed is = record {
+  pub Reports-first : (owed : List (List Answer)) → owed ≡ owed_also h.0 last now.owed
+      → Reports old (record now { held = others; owed = owed })
+  Reports-first owed is = record {
     said = t.said ++ h ∷ [];
     held = t.held ∙ ap (λ hs. t.said ++ hs) first ∙ sym (append_assoc t.said (h ∷ []) others);
-    are = λ state given are. told_first state given owed is (t.are state given are);
+    are = λ state given are. reported_first state given owed is (t.are state given are);
     in_order = IsCore-first owed (ap length is ∙ length-owed_also h.0 last now.owed);
     set = t.set;
     stop = t.stop;
     proxies = ap length is ∙ length-owed_also h.0 last now.owed ∙ t.proxies;
   }
 
-module _ (window : ℤ) (old now : CoreState) (t : Tells old now) (state : State) (given : Given)
+module _ (window : ℤ) (old now : CoreState) (t : Reports old now) (state : State) (given : Given)
     (are : IsIn state given old) where
   held_is : state.held ≡ t.said ++ now.held
   held_is = sym are.held ∙ t.held
@@ -111,14 +111,14 @@ module _ (window : ℤ) (old now : CoreState) (t : Tells old now) (state : State
   pub IsIn-finish : now.held ≡ [] → IsIn (step window Finish state) given now
   IsIn-finish none =
       let all = held_is ∙ ap (λ hs. t.said ++ hs) none ∙ append-nil t.said in
-      subst (λ hs. IsIn (part_told state hs []) given now) (sym all)
-      (subst (λ hs. IsIn (part_told state t.said hs) given now) none (t.are state given are))
+      subst (λ hs. IsIn (part_reported state hs []) given now) (sym all)
+      (subst (λ hs. IsIn (part_reported state t.said hs) given now) none (t.are state given are))
 
   -- if it stops there, no other answers were made
   pub MadeBetween-finish : (new : CoreState) → new.owed ≡ now.owed
       → MadeBetween state (step window Finish state) given new
   MadeBetween-finish new same =
-      MadeBetween-grown state (part_told state t.said now.held) (step window Finish state) given now new
+      MadeBetween-grown state (part_reported state t.said now.held) (step window Finish state) given now new
       (t.are state given are) same
       (record { processed = begins_itself state.processed; answered = (map still_held t.said, refl) })
       (record {

@@ -8,7 +8,7 @@ use Rattle.keyspace.specs.Processed.{Processed, version_of}
 use Rattle.keyspace.specs.Laws.{RunsAreChains, held_of}
 use Rattle.keyspace.specs.Run.{State, Step, Take, Finish, start, step, run_from, run, answers, part}
 use Rattle.keyspace.proofs.callers.Chains.{each_is_answered}
-use Rattle.serial.specs.Replies.{AnswersTellVerdicts}
+use Rattle.serial.specs.Replies.{AnswersReportVerdicts}
 use Rattle.serial.proofs.callers.Reading.{split_at}
 use Rattle.resolver.specs.Core.{CoreState, Given}
 use Rattle.resolver.specs.Stands.{Stands}
@@ -30,7 +30,7 @@ log_from-more version was now log steps count =
 pub Stands-more : (core : CoreState) (given : Given) (version : ℤ) (was now : ℕ) (log steps : List Step) → now ≡ was
     → Stands core (log_from version was log ++ steps) given → Stands core (log_from version now (log ++ steps)) given
 Stands-more core given version was now log steps count =
-    subst (λ (whole : List Step). Stands core whole given) (log_from-more version was now log steps count)
+    subst (λ (entire : List Step). Stands core entire given) (log_from-more version was now log steps count)
 
 pub Stands-as_many : (core : CoreState) (given : Given) (version : ℤ) (was now : ℕ) (log : List Step) → now ≡ was
     → Stands core (log_from version was log) given → Stands core (log_from version now log) given
@@ -42,7 +42,7 @@ pub Stands-opening : (core : CoreState) (given : Given) (version : ℤ) (was now
     → Stands core (opening_log was version) given → Stands core (log_from version now []) given
 Stands-opening core given version was now count stands =
     Stands-as_many core given version was now [] count
-    (subst (λ (whole : List Step). Stands core whole given) (sym (append-nil (opening_log was version))) stands)
+    (subst (λ (entire : List Step). Stands core entire given) (sym (append-nil (opening_log was version))) stands)
 
 -- what it takes from a proxy: what the opening does, and then what the steps do
 pub part_from : (version : ℤ) (proxies : ℕ) (log : List Step) (proxy : ℕ)
@@ -123,32 +123,32 @@ natural_before (p ∷ ps) zero entry at some = absurd (omega (arith, some))
 natural_before (p ∷ ps) (suc index) entry at some = version_natural p (take index ps)
 
 -- what was processed after the opening is of a proxy from which the steps take
-pub known_sender : (window : ℤ) (proxies : ℕ) (log : List Step) → RunsAreChains → AnswersTellVerdicts
+pub known_sender : (window : ℤ) (proxies : ℕ) (log : List Step) → RunsAreChains → AnswersReportVerdicts
     → TakesOnlyFrom proxies log → (version : ℤ) (index : ℕ) (entry : Processed)
     → slice_get (run window (log_from version proxies log)).processed index ≡ Some entry
     → length (run window (opening_log proxies version)).processed ≤ index → entry.proxy < proxies
-known_sender window proxies log chains tell only (pos n) index entry at later =
-    let whole = log_from (pos n) proxies log in
-    let own = part whole entry.proxy in
-    let sent = tell.sent window whole index entry at own [] (sym (append-nil own)) in
+known_sender window proxies log chains known_verdicts only (pos n) index entry at later =
+    let entire = log_from (pos n) proxies log in
+    let own = part entire entry.proxy in
+    let sent = known_verdicts.sent window entire index entry at own [] (sym (append-nil own)) in
     elim (first_or_later (Take proxies (opening_batch n)) log sent.before (Take entry.proxy entry.batch) sent.after
     sent.taken) [
       | inl first ↦
-          let ps = (run window whole).processed in
+          let ps = (run window entire).processed in
           let some : 1 ≤ index = later in
           let same = taken_batch proxies entry.proxy (opening_batch n) entry.batch first in
           let least : negsuc 0 ≡ entry.batch.previous = ap (λ (b : Batch). b.previous) same in
           let follows : entry.batch.previous ≡ version_of (take index ps) =
-          (chains window whole (take index ps) entry (drop (suc index) ps)
+          (chains window entire (take index ps) entry (drop (suc index) ps)
           (split_at ps index entry at)).previous in
           let natural = natural_before ps index entry at some in
           absurd (omega (arith, ints, least, follows, natural))
       | inr rest ↦
           taken_known proxies rest.0 sent.after entry.proxy entry.batch (subst (TakesOnlyFrom proxies) rest.1 only)
     ]
-known_sender window proxies log chains tell only (negsuc n) index entry at later =
+known_sender window proxies log chains known_verdicts only (negsuc n) index entry at later =
     let own = part log entry.proxy in
-    let sent = tell.sent window log index entry at own [] (sym (append-nil own)) in
+    let sent = known_verdicts.sent window log index entry at own [] (sym (append-nil own)) in
     taken_known proxies sent.before sent.after entry.proxy entry.batch (subst (TakesOnlyFrom proxies) sent.taken only)
 
 -- a resolver that has taken no step since it started at a version has that version

@@ -42,27 +42,27 @@ use Rattle.keyspace.specs.Run.{
   answers_to,
 }
 use Rattle.resolver.specs.Owed.{owed_to}
-use Rattle.resolver.specs.Core.{CoreState, Given, IsBeginning, IsIn, MadeBetween, made_to}
+use Rattle.resolver.specs.Core.{CoreState, Given, IsPrefix, IsIn, MadeBetween, made_to}
 use Rattle.resolver.proofs.Answered.{answers_to-append}
 use Rattle.resolver.proofs.Admitting.{repeat, admit_now}
 
 -- the second state has all that was processed and answered in the first, and perhaps more
 pub record Grows (before after : State) : Type 0 where
-  pub processed : IsBeginning before.processed after.processed
-  pub answered : IsBeginning before.answered after.answered
+  pub processed : IsPrefix before.processed after.processed
+  pub answered : IsPrefix before.answered after.answered
 
 -- a list begins itself, and what begins with it
-pub begins_itself : {T : Type 0} (xs : List T) → IsBeginning xs xs
+pub begins_itself : {T : Type 0} (xs : List T) → IsPrefix xs xs
 begins_itself xs = ([], sym (append-nil xs))
 
-pub begins_then : {T : Type 0} (xs ys zs : List T) → IsBeginning xs ys → IsBeginning ys zs
-    → IsBeginning xs zs
+pub begins_then : {T : Type 0} (xs ys zs : List T) → IsPrefix xs ys → IsPrefix ys zs
+    → IsPrefix xs zs
 begins_then xs ys zs b d =
     (b.0 ++ d.0, d.1 ∙ ap (λ ws. ws ++ d.0) b.1 ∙ append_assoc xs b.0 d.0)
 
 -- so do the answers to each proxy
-pub begins_answers_to : (proxy : ℕ) (xs ys : List (ℕ × Answer)) → IsBeginning xs ys
-    → IsBeginning (answers_to proxy xs) (answers_to proxy ys)
+pub begins_answers_to : (proxy : ℕ) (xs ys : List (ℕ × Answer)) → IsPrefix xs ys
+    → IsPrefix (answers_to proxy xs) (answers_to proxy ys)
 begins_answers_to proxy xs ys b =
     (answers_to proxy b.0, ap (answers_to proxy) b.1 ∙ answers_to-append proxy xs b.0)
 
@@ -104,12 +104,12 @@ grows_left window s h others =
     let admitted = grows_admit window h.0 h.1 (record s { held = others }) in
     record { processed = admitted.processed; answered = admitted.answered }
 
-grows_leave_then : (go_on : State → State) (window : ℤ) → ((s : State) → Grows s (go_on s)) → (s : State)
-    → (l : Option (Held × List Held)) → Grows s (leave_then go_on window s l)
-grows_leave_then go_on window more s None = grows_itself s
-grows_leave_then go_on window more s (Some l) =
+grows_leave_then : (continued : State → State) (window : ℤ) → ((s : State) → Grows s (continued s)) → (s : State)
+    → (l : Option (Held × List Held)) → Grows s (leave_then continued window s l)
+grows_leave_then continued window more s None = grows_itself s
+grows_leave_then continued window more s (Some l) =
     let next = admit window l.0.0 l.0.1 (record s { held = l.1 }) in
-    grows_then s next (go_on next) (grows_left window s l.0 l.1) (more next)
+    grows_then s next (continued next) (grows_left window s l.0 l.1) (more next)
 
 pub grows_leave : (turns : ℕ) (window : ℤ) (s : State) → Grows s (leave turns window s)
 grows_leave zero window s = grows_itself s
@@ -142,10 +142,10 @@ MadeBetween-grown before now after given core new are same more rest =
     let made = made_then now given core new are same in
     record {
       all_before = λ p inside.
-          subst (IsBeginning (answers_to p before.answered)) (sym (made p inside))
+          subst (IsPrefix (answers_to p before.answered)) (sym (made p inside))
           (begins_answers_to p before.answered now.answered more.answered);
       no_others = λ p inside.
-          subst (λ xs. IsBeginning xs (answers_to p after.answered)) (sym (made p inside))
+          subst (λ xs. IsPrefix xs (answers_to p after.answered)) (sym (made p inside))
           (begins_answers_to p now.answered after.answered rest.answered);
     }
 

@@ -11,7 +11,7 @@ pub mod Finishing
 pub mod Standing
 pub mod Observing
 pub mod AtIndex
-pub mod Handed
+pub mod DeliveredAnswers
 pub mod NewCore
 pub mod OpenedCore
 pub mod FromVersion
@@ -20,12 +20,12 @@ pub mod Logged
 pub mod SeenSteps
 pub mod OnlyFrom
 pub mod Resolving
-pub mod HandedOut
+pub mod DeliveryStep
 pub mod Closing
 pub mod Turning
 pub mod Each
 pub mod Finding
-pub mod Handing
+pub mod DeliveryLoop
 pub mod Stepping
 pub mod NewLanes
 pub mod Connected
@@ -33,3 +33,4 @@ pub mod Settling
 pub mod Unchanged
 pub mod Accounts
 pub mod Shares
+pub mod Windows

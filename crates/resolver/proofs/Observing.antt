@@ -5,7 +5,7 @@ use Rattle.std.proofs.lemmas.List.{same_from_push}
 use Rattle.keyspace.specs.Processed.{Processed}
 use Rattle.keyspace.specs.Run.{State, Step, step, run}
 use Rattle.resolver.specs.declared.stop.Stop.{Stop}
-use Rattle.resolver.specs.Core.{IsBeginning}
+use Rattle.resolver.specs.Core.{IsPrefix}
 use Rattle.resolver.specs.Observed.{HasSeenBetween, HasSeen}
 use Rattle.resolver.proofs.Growing.{Grows, begins_itself, begins_then, grows_itself, grows_step}
 use Rattle.resolver.proofs.Standing.{run-more}
@@ -49,8 +49,8 @@ module _ (Seen : List Processed → Type 0) where
     all = λ _. refl;
     all_before_last = λ before last is.
         let earlier = (run window before).processed in
-        subst (λ (steps : List Step). IsBeginning earlier (run window steps).processed) (sym is)
-        (subst (λ (s : State). IsBeginning earlier s.processed) (sym (run-more window before last))
+        subst (λ (steps : List Step). IsPrefix earlier (run window steps).processed) (sym is)
+        (subst (λ (s : State). IsPrefix earlier s.processed) (sym (run-more window before last))
         (grows_step window last (run window before)).processed);
   }
 
@@ -67,9 +67,9 @@ module _ (Seen : List Processed → Type 0) where
     list = between.list;
     seen = between.seen;
     no_others =
-        subst (λ (s : State). IsBeginning between.list s.processed) (sym (run-more window log x)) between.no_others;
+        subst (λ (s : State). IsPrefix between.list s.processed) (sym (run-more window log x)) between.no_others;
     all = λ none. some_is_none stop none;
     all_before_last = λ before last is.
-        subst (λ (steps : List Step). IsBeginning (run window steps).processed between.list)
+        subst (λ (steps : List Step). IsPrefix (run window steps).processed between.list)
         (same_from_push log before x last is).0 between.all_before;
   }

@@ -8,7 +8,7 @@ use Rattle.std.proofs.lemmas.Int.{ints}
 use Rattle.std.proofs.lemmas.List.{length-replicate}
 use Rattle.std.proofs.lemmas.List.Elements.{All-nil}
 use Rattle.keyspace.specs.declared.answer.Answer.{Answer}
-use Rattle.keyspace.specs.declared.answer.Answer.TheVariants as told
+use Rattle.keyspace.specs.declared.answer.Answer.TheVariants as reported
 use Rattle.keyspace.specs.declared.reply.Reply.{Reply}
 use Rattle.keyspace.specs.declared.reply.Verdict.TheVariants.{Committed}
 use Rattle.keyspace.specs.Writes.{Write}
@@ -79,8 +79,8 @@ module _ (window : ℤ) (proxies : ℕ) (set : SetState) (held : List Held) (rep
   pub is_core : (version : ℤ) → set.stop ≡ None → set.resolved ≡ version → (ws : List Write) → Remembers set ws
       → ((p : ℕ) (v : ℤ) → reply_of replies p v ≡ kept (run window (opening_log proxies version)).processed p v)
       → IsCore (core_of set version held replies owed None)
-  is_core version goes_on resolved ws remembers kept_is = record {
-    takes_more = λ _. goes_on;
+  is_core version continues resolved ws remembers kept_is = record {
+    takes_more = λ _. continues;
     resolved = λ _. omega (arith, ints, resolved);
     remembers = (ws, remembers);
     known = rw none_held (All-nil (λ (h : Held). h.0 < length owed.answers));
@@ -101,7 +101,7 @@ module _ (window : ℤ) (proxies : ℕ) (set : SetState) (held : List Held) (rep
     answers = λ proxy within.
         let many = ap length none ∙ length-replicate proxies [] in
         nothing_owed proxy
-        ∙ sym (none_answered proxies proxy (told.Reply (judge window [] (opening_batch n)))
+        ∙ sym (none_answered proxies proxy (reported.Reply (judge window [] (opening_batch n)))
         (omega (arith, within, many)));
   }
   is_in_opening (negsuc n) from remembers kept_is = record {
@@ -123,7 +123,7 @@ openings_start window proxies (pos n) from = record {
   none_held = refl;
   none_sent = none_sent proxies n;
   none_answered = λ proxy within.
-      none_answered proxies proxy (told.Reply (judge window [] (opening_batch n))) within;
+      none_answered proxies proxy (reported.Reply (judge window [] (opening_batch n))) within;
 }
 openings_start window proxies (negsuc n) from = record {
   at = sym (none_before n from);

@@ -18,7 +18,7 @@ use Rattle.std.proofs.Common.{
 }
 use Rattle.std.specs.Prelude.{ℤ, ◌<ℤ◌, ◌≤ℤ◌, All}
 use Rattle.std.proofs.lemmas.Int.{ints}
-use Rattle.keyspace.specs.declared.answer.Answer.TheVariants as told
+use Rattle.keyspace.specs.declared.answer.Answer.TheVariants as reported
 use Rattle.keyspace.specs.declared.batch.Batch.{Batch}
 use Rattle.keyspace.specs.declared.reply.Reply.{Reply}
 use Rattle.keyspace.specs.Writes.{Write, writes, writes_of}
@@ -40,7 +40,7 @@ pub record Processes (old : CoreState) (proxy : ℕ) (batch : Batch) (reply : Re
   pub held : new.held ≡ old.held
   pub kept : (p : ℕ) (v : ℤ) → reply_of new.kept p v
       ≡ kept_also proxy batch.received reply (reply_of old.kept) p v
-  pub owed : new.owed ≡ owed_also proxy (told.Reply reply) old.owed
+  pub owed : new.owed ≡ owed_also proxy (reported.Reply reply) old.owed
 
 -- no reply is kept of a version to come
 pub absent_later : (core : CoreState) (proxy : ℕ) (version : ℤ) → IsCore core → core.version <ℤ version
@@ -69,7 +69,7 @@ module _ (state : State) (given : Given) (old new : CoreState) (proxy : ℕ) (ba
   -- the state with a batch processed and answered by this reply
   abbrev processed_by : Reply → State
   processed_by reply =
-      answer proxy (told.Reply reply)
+      answer proxy (reported.Reply reply)
       (record state {
         processed = state.processed ++ record { proxy = proxy; batch = batch; reply = reply } ∷ [];
       })
@@ -89,7 +89,7 @@ module _ (state : State) (given : Given) (old new : CoreState) (proxy : ℕ) (ba
             ∙ ap (λ before. kept_also proxy batch.received reply (λ _ _. before) q v) (are.kept q v)
             ∙ sym (kept_more p q v state.processed same (sym (are.kept proxy batch.version) ∙ absent));
         remembers = subst (Remembers new.set) (sym (writes-more state.processed p)) remembers;
-        answers = made_also proxy (told.Reply reply) given state old new.owed known made.owed are.answers;
+        answers = made_also proxy (reported.Reply reply) given state old new.owed known made.owed are.answers;
       }
 
   pub IsIn-process : (window : ℤ) (reply : Reply) → IsIn state given old → proxy < length old.owed

@@ -28,7 +28,7 @@ use Rattle.keyspace.specs.Processed.{Processed, version_of}
 use Rattle.keyspace.specs.Leaving.{Held, next_due}
 use Rattle.keyspace.specs.Laws.{Leaves}
 use Rattle.keyspace.specs.Run.{State, admit, leave, leave_then, leave_all}
-use Rattle.resolver.specs.Core.{CoreState, Given, IsCore, IsIn, GoesOn, StopsIn, StopsAsTheyLeave}
+use Rattle.resolver.specs.Core.{CoreState, Given, IsCore, IsIn, Continues, StopsIn, StopsAsTheyLeave}
 use Rattle.resolver.specs.Observed.{HasSeenBetween}
 use Rattle.resolver.proofs.Admitting.{admit-held}
 use Rattle.resolver.proofs.Growing.{Grows, grows_leave, grows_leave_all}
@@ -84,8 +84,8 @@ leave_all-next window s h others next due fewer =
     ∙ ap (λ hs. leave (length hs) window (left window s h others)) (sym same)
 
 -- what stays the same over two changes
-pub GoesOn-then : (first second third : CoreState) → GoesOn first second → GoesOn second third → GoesOn first third
-GoesOn-then first second third g h = record {
+pub Continues-then : (first second third : CoreState) → Continues first second → Continues second third → Continues first third
+Continues-then first second third g h = record {
   window = h.window ∙ g.window;
   limit = h.limit ∙ g.limit;
   proxies = h.proxies ∙ g.proxies;

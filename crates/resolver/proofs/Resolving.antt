@@ -8,12 +8,12 @@ use Rattle.resolver.specs.declared.turn.Turn.TheVariants as turn
 use Rattle.resolver.specs.Owed.{owed_to}
 use Rattle.resolver.specs.Core.{CoreState}
 use Rattle.resolver.specs.Stands.{Stands}
-use Rattle.resolver.specs.Lanes.{Lanes, Each, LanesGoOn, AreSameLists, TakesNone, all_ended, sent_to}
+use Rattle.resolver.specs.Lanes.{Lanes, Each, LanesContinue, AreSameLists, TakesNone, all_ended, sent_to}
 use Rattle.resolver.specs.OpeningLog.{log_from}
 use Rattle.resolver.specs.Resolver.{ResolverState, StandsOverFrom, IsResolvingFrom, TakesFrom, Finishes, TakesNoStep, StepsBy}
 use Rattle.resolver.proofs.AtIndex.{field_same}
-use Rattle.resolver.proofs.Handed.{StandsBy-moved}
-use Rattle.resolver.proofs.HandedOut.{list_all-same}
+use Rattle.resolver.proofs.DeliveredAnswers.{StandsBy-moved}
+use Rattle.resolver.proofs.DeliveryStep.{list_all-same}
 use Rattle.resolver.proofs.Logged.{was_closed, stands_same}
 
 module _ (version : ℤ) (old new : ResolverState) (before : IsResolvingFrom version old) where
@@ -55,7 +55,7 @@ module _ (version : ℤ) (old new : ResolverState) (before : IsResolvingFrom ver
 
 -- the same core, and lanes with the same lists
 module _ (old new : ResolverState) (core : new.core ≡ old.core)
-    (lanes : Each (λ _ l m. LanesGoOn l m × AreSameLists l m) old.lanes new.lanes) where
+    (lanes : Each (λ _ l m. LanesContinue l m × AreSameLists l m) old.lanes new.lanes) where
   none_taken : TakesNone old.lanes new.lanes
   none_taken =
       field_same (λ (l : Lanes). l.requests.taken) old.lanes new.lanes lanes.count
@@ -77,10 +77,10 @@ module _ (old new : ResolverState) (core : new.core ≡ old.core)
   core_stands : (version : ℤ) (log : List Step) → StandsOverFrom version old log
       → Stands new.core (log_from version (length old.lanes) log) (sent_to new.lanes)
   core_stands version log stands =
-      let whole = log_from version (length old.lanes) log in
-      subst (λ (c : CoreState). Stands c whole (sent_to new.lanes)) (sym core)
+      let entire = log_from version (length old.lanes) log in
+      subst (λ (c : CoreState). Stands c entire (sent_to new.lanes)) (sym core)
       (StandsBy-moved (sent_to old.lanes) (sent_to new.lanes) old.core old.core.owed refl
-      (λ p _. ap (λ sent. sent ++ owed_to p old.core.owed) (none_sent p)) old.core.stop whole stands.core)
+      (λ p _. ap (λ sent. sent ++ owed_to p old.core.owed) (none_sent p)) old.core.stop entire stands.core)
 
   pub stands_settled : (version : ℤ) (log : List Step) → StandsOverFrom version old log → StandsOverFrom version new log
   stands_settled version log stands =

@@ -28,10 +28,10 @@ slice_get-set_other (y ∷ xs) (suc i) (suc j) x other =
 -- what stands in a Vec whose items were written as a slice of the same length
 pub written_back : {A : Type 0} (n : ℕ) (new old : List A) → length new ≡ length old → n ≡ length old
     → take n (new ++ drop (length new) old) ≡ new
-written_back n new old same whole =
+written_back n new old same entire =
     ap (λ rest. take n (new ++ rest)) (drop_all (length new) old (omega (arith, same)))
     ∙ ap (take n) (append-nil new)
-    ∙ take_all n new (omega (arith, same, whole))
+    ∙ take_all n new (omega (arith, same, entire))
 
 -- the lanes of a proxy stand at its index
 pub lanes_at : (all_lanes : List ProxyLanesView) (proxy : ℕ) (l : ProxyLanesView) → slice_get all_lanes proxy ≡ Some l

@@ -141,20 +141,20 @@ module _ (version : ℤ) (r : ResolverState) (log : List Step) (stands : StandsO
   abbrev opening : List Step
   opening = opening_log (length r.lanes) version
 
-  abbrev whole : List Step
-  whole = log_from version (length r.lanes) log
+  abbrev entire : List Step
+  entire = log_from version (length r.lanes) log
 
   abbrev held : List Held
-  held = (run r.core.set.window whole).held
+  held = (run r.core.set.window entire).held
 
   -- what is held of a proxy was taken, and no answer to it was made
   unanswered : (q : ℕ) → q < length r.lanes
       → length (made_to q (sent_to r.lanes) r.core) + length (held_of q held) ≤ length (taken_from r.lanes q)
   unanswered q inside =
-      let made = made_begins r.core.stop whole (sent_to r.lanes) r.core stands.core q (omega (arith, inside, count)) in
+      let made = made_begins r.core.stop entire (sent_to r.lanes) r.core stands.core q (omega (arith, inside, count)) in
       let long = ap length made.1 ∙ length-append (made_to q (sent_to r.lanes) r.core) made.0 in
       let own = ap length (part_of_proxy version (length r.lanes) log q inside) in
-      omega (arith, long, each_is_answered r.core.set.window whole q, own, ap length (stands.parts q))
+      omega (arith, long, each_is_answered r.core.set.window entire q, own, ap length (stands.parts q))
 
   -- and none is held of a proxy that there isn't
   none_unknown : (q : ℕ) → length r.lanes ≤ q → length (held_of q held) ≡ 0
@@ -163,10 +163,10 @@ module _ (version : ℤ) (r : ResolverState) (log : List Step) (stands : StandsO
       let none = ap length (stands.parts q ∙ field_past (λ l. l.requests.taken) r.lanes q past) in
       let both = ap length (part_from version (length r.lanes) log q) ∙ length-append (part opening q) (part log q) in
       let first = opening_answered window version (length r.lanes) q in
-      let begins = begins_answers_to q (run window opening).answered (run window whole).answered
+      let begins = begins_answers_to q (run window opening).answered (run window entire).answered
       (grows_from window version (length r.lanes) log).answered in
       let more = ap length begins.1 ∙ length-append (answers window opening q) begins.0 in
-      omega (arith, each_is_answered window whole q, none, both, first, more)
+      omega (arith, each_is_answered window entire q, none, both, first, more)
 
   -- where more are held than fall to all proxies, one has more than its share unanswered
   pub beyond : MAX_HELD < length held
@@ -194,12 +194,12 @@ beyond_share version old new as_many same count running before proxy took ahead 
     let is_ahead = subst (λ (version : ℤ). version <ℤ took.batch.previous) are.version ahead in
     let held = ap length (held_ahead window was proxy took.batch is_ahead) in
     let more = length-append (run window was).held ((proxy, took.batch) ∷ []) in
-    let whole = ap (λ (ss : List Step). length (run window ss).held)
+    let entire = ap (λ (ss : List Step). length (run window ss).held)
     (log_from-more version (length old.lanes) (length new.lanes) before.log steps as_many) in
     let now = ap (λ (w : ℤ). length (run w (log_from version (length new.lanes) log)).held) same in
     let many = ap length (sym are.held) ∙ full in
     beyond version new log (took.adds version before.log before.stands) count
-    (omega (arith, held, more, whole, now, many))
+    (omega (arith, held, more, entire, now, many))
 
 -- a client that keeps its share has no more unanswered
 pub within_share : (share proxy : ℕ) (r : ResolverState) (c : Client) (l : Lanes) → slice_get r.lanes proxy ≡ Some l

@@ -31,7 +31,7 @@ use Rattle.keyspace.specs.declared.batch.Batch.{Batch}
 use Rattle.keyspace.specs.Run.{State, Step, admit, leave, step, run_from, run, answers_to, start}
 use Rattle.resolver.specs.declared.stop.Stop.{Stop}
 use Rattle.resolver.specs.Owed.{owed_to, given_oldest}
-use Rattle.resolver.specs.Core.{CoreState, Given, IsBeginning, IsIn, MadeBetween, StopsIn, StopsAtLimit, made_to}
+use Rattle.resolver.specs.Core.{CoreState, Given, IsPrefix, IsIn, MadeBetween, StopsIn, StopsAtLimit, made_to}
 use Rattle.resolver.specs.Stands.{StoppedIn, StandsBy, given_also}
 
 run_from-more : (window : ℤ) (log : List Step) (x : Step) (s : State)
@@ -111,10 +111,10 @@ module _ (proxy : ℕ) (answer : Option Answer) (given : Given) (old : CoreState
       → MadeBetween before after (given_also proxy answer given) new
   MadeBetween-given before after made = record {
     all_before = λ p inside.
-        subst (IsBeginning (answers_to p before.answered)) (sym (made_same p))
+        subst (IsPrefix (answers_to p before.answered)) (sym (made_same p))
         (made.all_before p (omega (arith, many)));
     no_others = λ p inside.
-        subst (λ xs. IsBeginning xs (answers_to p after.answered)) (sym (made_same p))
+        subst (λ xs. IsPrefix xs (answers_to p after.answered)) (sym (made_same p))
         (made.no_others p (omega (arith, many)));
   }
 

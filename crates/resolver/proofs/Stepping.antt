@@ -42,14 +42,14 @@ use Rattle.std.proofs.lemmas.Option.{slice_get-get_or, slice_get_within, get_or_
 use Rattle.keyspace.specs.declared.batch.Batch.{Batch}
 use Rattle.keyspace.specs.Processed.{Processed}
 use Rattle.keyspace.specs.Run.{Step, Take, Finish, run}
-use Rattle.lane.specs.Lane.{IntakeGoesOn, PortGoesOn, HasEnded}
-use Rattle.resolver.specs.Core.{CoreState, Given, GoesOn, StopsAtLimit}
+use Rattle.lane.specs.Lane.{IntakeContinues, PortContinues, HasEnded}
+use Rattle.resolver.specs.Core.{CoreState, Given, Continues, StopsAtLimit}
 use Rattle.resolver.specs.Owed.{owed_to, owed_count}
 use Rattle.resolver.specs.Stands.{Stands}
 use Rattle.resolver.specs.Lanes.{
   Lanes,
   Each,
-  LanesGoOn,
+  LanesContinue,
   taken_from,
   sent_to,
   all_ended,
@@ -83,10 +83,10 @@ use Rattle.resolver.proofs.AtIndex.{
   owed_with-length,
   owed_with-same,
 }
-use Rattle.resolver.proofs.Handed.{
-  handed_to,
-  handed_same,
-  made_handed,
+use Rattle.resolver.proofs.DeliveredAnswers.{
+  delivered_to,
+  delivered_same,
+  made_delivered,
   StandsBy-moved,
   StopsAtLimit-moved,
   stands_with,
@@ -98,7 +98,7 @@ use Rattle.resolver.proofs.Observing.{seen_more}
 use Rattle.resolver.proofs.SeenSteps.{step_taken, step_finished, step_none, observes_nothing}
 
 -- an intake that hasn't changed goes on
-intake_same : {T : Type 0} (v : _) → IntakeGoesOn {T = T} v v
+intake_same : {T : Type 0} (v : _) → IntakeContinues {T = T} v v
 intake_same v = record {
   lane = refl;
   capacity = refl;
@@ -107,13 +107,13 @@ intake_same v = record {
   looks = omega arith;
 }
 
-port_same : {T : Type 0} (v : _) → PortGoesOn {T = T} v v
+port_same : {T : Type 0} (v : _) → PortContinues {T = T} v v
 port_same v = record { lane = refl; capacity = refl; seen_taken = omega arith; looks = omega arith }
 
 -- what a look keeps of a pair of lanes, by the batches that it has taken there
 pub record Looks (batches : List Batch) (l m : ProxyLanesView) : Type 0 where
   pub taken : m.lanes.requests.taken ≡ l.lanes.requests.taken ++ batches
-  pub requests : IntakeGoesOn l.lanes.requests m.lanes.requests
+  pub requests : IntakeContinues l.lanes.requests m.lanes.requests
   pub ended : l.lanes.ended ≡ true → m.lanes.ended ≡ true
   pub at_end : (l.lanes.ended ≡ true → HasEnded l.lanes.requests) → m.lanes.ended ≡ true → HasEnded m.lanes.requests
   pub replies : m.lanes.replies ≡ l.lanes.replies
@@ -225,12 +225,12 @@ module _ (taken : ℕ → List Batch) (old new : List ProxyLanesView) (e : EachP
   count_lanes : length (lanes_of new) ≡ length (lanes_of old)
   count_lanes = length-map new (λ l. l.lanes) ∙ e.count ∙ sym (length-map old (λ l. l.lanes))
 
-  pub lanes_go_on : Each (λ p l m. LanesGoOn l m) (lanes_of old) (lanes_of new)
-  lanes_go_on =
-      each_lanes (λ p l m. Looks (taken p) l m) (λ p l m. LanesGoOn l m) old new
+  pub lanes_continue : Each (λ p l m. LanesContinue l m) (lanes_of old) (lanes_of new)
+  lanes_continue =
+      each_lanes (λ p l m. Looks (taken p) l m) (λ p l m. LanesContinue l m) old new
       (λ p k n was is looks. record {
         requests = looks.requests;
-        replies = subst (PortGoesOn k.lanes.replies) (sym looks.replies) (port_same k.lanes.replies);
+        replies = subst (PortContinues k.lanes.replies) (sym looks.replies) (port_same k.lanes.replies);
         ended = looks.ended;
       }) e
 
@@ -257,15 +257,15 @@ module _ (taken : ℕ → List Batch) (old new : List ProxyLanesView) (e : EachP
       field_past (λ (l : Lanes). l.requests.taken) (lanes_of new) p (omega (arith, past, count_lanes))
       ∙ sym (field_past (λ (l : Lanes). l.requests.taken) (lanes_of old) p past)
 
-  handed_on : (p : ℕ) → handed_to new p ≡ handed_to old p
-  handed_on =
-      handed_same old new e.count (λ p k n was is.
+  delivered_on : (p : ℕ) → delivered_to new p ≡ delivered_to old p
+  delivered_on =
+      delivered_same old new e.count (λ p k n was is.
       let looks = e.each p k n was is in
       cc (ap (λ r. r.sent) looks.replies, looks.waiting))
 
   -- a core stands over the pairs of lanes as they are now
   pub stands_now : (core : CoreState) → length old ≡ length core.owed → (log : List Step)
-      → Stands core log (handed_to old) → Stands (resolver_of record {
+      → Stands core log (delivered_to old) → Stands (resolver_of record {
         core = core;
         all_lanes = new;
         next = 0;
@@ -274,8 +274,8 @@ module _ (taken : ℕ → List Batch) (old new : List ProxyLanesView) (e : EachP
       }).core log (sent_to (lanes_of new))
   stands_now core count log stands =
       stands_with core new (e.count ∙ count) log
-      (StandsBy-moved (handed_to old) (handed_to new) core core.owed refl
-      (λ p inside. ap (λ xs. xs ++ owed_to p core.owed) (handed_on p)) core.stop log stands)
+      (StandsBy-moved (delivered_to old) (delivered_to new) core core.owed refl
+      (λ p inside. ap (λ xs. xs ++ owed_to p core.owed) (delivered_on p)) core.stop log stands)
 
   -- those that had ended had been taken from to the end, and so have those that have ended now
   pub ended_now : ((p : ℕ) (l : Lanes) → slice_get (lanes_of old) p ≡ Some l → l.ended ≡ true → HasEnded l.requests)
@@ -320,9 +320,9 @@ not_all_ended all_lanes p k at still =
     (ap (λ (l : Lanes). l.ended) (get_or_from_slice_get (lanes_of all_lanes) p k.lanes k.lanes at_lanes) ∙ still)
 
 -- what stays the same of the core does so of the resolver's core
-pub go_on_with : (old new : Parts) → GoesOn old.core new.core
-    → GoesOn (resolver_of old).core (resolver_of new).core
-go_on_with old new g = record {
+pub continue_with : (old new : Parts) → Continues old.core new.core
+    → Continues (resolver_of old).core (resolver_of new).core
+continue_with old new g = record {
   window = g.window;
   limit = g.limit;
   proxies =
@@ -365,13 +365,13 @@ other_than_false true b is not = refl
 other_than_false false true is not = sym is
 other_than_false false false is not = sym not
 
-pub go_on_itself : (b : CoreState) → GoesOn b b
-go_on_itself b = record { window = refl; limit = refl; proxies = refl }
+pub continue_itself : (b : CoreState) → Continues b b
+continue_itself b = record { window = refl; limit = refl; proxies = refl }
 
 -- A batch of a proxy was taken and admitted.
 module _ (old new : Parts) (first proxy : ℕ) (batch : Batch)
     (f : FindsOne (λ p. ComesBefore first p proxy) proxy batch old.all_lanes new.all_lanes)
-    (are : AreParts old) (running : old.core.stop ≡ None) (goes_on : GoesOn old.core new.core)
+    (are : AreParts old) (running : old.core.stop ≡ None) (continues : Continues old.core new.core)
     (finished : new.finished ≡ old.finished) (closed : new.closed ≡ old.closed) (next : new.next ≡ proxy + 1) where
   looks : LooksFor proxy batch old.all_lanes new.all_lanes
   looks = looks_for first proxy batch old.all_lanes new.all_lanes f
@@ -405,7 +405,7 @@ module _ (old new : Parts) (first proxy : ℕ) (batch : Batch)
 
   pub parts_taken : AreParts new
   parts_taken = record {
-    count = looks.count ∙ are.count ∙ sym goes_on.proxies;
+    count = looks.count ∙ are.count ∙ sym continues.proxies;
     few = omega (arith, looks.count, are.few);
     some = omega (arith, looks.count, are.some);
     in_range = omega (arith, looks.count, next, f.known);
@@ -440,12 +440,12 @@ module _ (old new : Parts) (first proxy : ℕ) (batch : Batch)
     batch = batch;
     taken = takes_one;
     adds = λ version log s.
-        let whole = log_from version (length (lanes_of old.all_lanes)) log in
+        let entire = log_from version (length (lanes_of old.all_lanes)) log in
         stands_taken (resolver_of old) (resolver_of new) version log (replies_same taken old.all_lanes new.all_lanes looks).count
         (λ p l m was is. ap (λ r. r.closed) ((replies_same taken old.all_lanes new.all_lanes looks).each p l m was is))
         running s proxy batch takes_one some_before some_after
-        (stands_now taken old.all_lanes new.all_lanes looks new.core (are.count ∙ sym goes_on.proxies) (whole ++ Take proxy batch ∷ [])
-        (stands whole (handed_to old.all_lanes) (stands_without old.core old.all_lanes are.count whole s.core)));
+        (stands_now taken old.all_lanes new.all_lanes looks new.core (are.count ∙ sym continues.proxies) (entire ++ Take proxy batch ∷ [])
+        (stands entire (delivered_to old.all_lanes) (stands_without old.core old.all_lanes are.count entire s.core)));
   }
 
   -- with what holds of the batch
@@ -469,15 +469,15 @@ module _ (old new : Parts) (first proxy : ℕ) (batch : Batch)
       (run old.core.set.window (log_from version (length (lanes_of old.all_lanes)) log))
       (sent_to (lanes_of new.all_lanes)) (resolver_of new).core
   stops_at_limit version log s stops =
-      let whole = log_from version (length (lanes_of old.all_lanes)) log in
-      let many : length new.all_lanes ≡ length new.core.owed = looks.count ∙ are.count ∙ sym goes_on.proxies in
-      StopsAtLimit-moved (handed_to old.all_lanes) (sent_to (lanes_of new.all_lanes)) new.core
+      let entire = log_from version (length (lanes_of old.all_lanes)) log in
+      let many : length new.all_lanes ≡ length new.core.owed = looks.count ∙ are.count ∙ sym continues.proxies in
+      StopsAtLimit-moved (delivered_to old.all_lanes) (sent_to (lanes_of new.all_lanes)) new.core
       (owed_with new.all_lanes new.core.owed) (owed_with-length new.all_lanes new.core.owed)
       (λ p inside.
-      made_handed new.all_lanes new.core.owed many p inside
-      ∙ ap (λ xs. xs ++ owed_to p new.core.owed) (handed_on taken old.all_lanes new.all_lanes looks p))
-      old.core.set.map.limit old.core.set.window proxy batch (run old.core.set.window whole)
-      (stops whole (handed_to old.all_lanes) (stands_without old.core old.all_lanes are.count whole s.core))
+      made_delivered new.all_lanes new.core.owed many p inside
+      ∙ ap (λ xs. xs ++ owed_to p new.core.owed) (delivered_on taken old.all_lanes new.all_lanes looks p))
+      old.core.set.map.limit old.core.set.window proxy batch (run old.core.set.window entire)
+      (stops entire (delivered_to old.all_lanes) (stands_without old.core old.all_lanes are.count entire s.core))
 
   -- the observer has seen what the core showed it
   pub sees_taken : (before after : List Processed → Type 0)
@@ -489,17 +489,17 @@ module _ (old new : Parts) (first proxy : ℕ) (batch : Batch)
       step_taken before after (resolver_of old) (resolver_of new) proxy batch takes_one
       (λ version log s seen.
       let proxies = length (lanes_of old.all_lanes) in
-      let whole = log_from version proxies log in
+      let entire = log_from version proxies log in
       subst (HasSeen after new.core.stop old.core.set.window)
       (log_from-more version proxies proxies log (Take proxy batch ∷ []) refl)
-      (sees whole (handed_to old.all_lanes) (stands_without old.core old.all_lanes are.count whole s.core)
+      (sees entire (delivered_to old.all_lanes) (stands_without old.core old.all_lanes are.count entire s.core)
       (subst before (seen.all running) seen.seen)))
 
   pub replies_taken : Each (λ p l m. m.replies ≡ l.replies) (lanes_of old.all_lanes) (lanes_of new.all_lanes)
   replies_taken = replies_same taken old.all_lanes new.all_lanes looks
 
-  pub lanes_taken : Each (λ p l m. LanesGoOn l m) (lanes_of old.all_lanes) (lanes_of new.all_lanes)
-  lanes_taken = lanes_go_on taken old.all_lanes new.all_lanes looks
+  pub lanes_taken : Each (λ p l m. LanesContinue l m) (lanes_of old.all_lanes) (lanes_of new.all_lanes)
+  lanes_taken = lanes_continue taken old.all_lanes new.all_lanes looks
 
   pub passed_taken : Each (λ p l m. ComesBefore first p proxy → IsLookedThrough l m) (lanes_of old.all_lanes) (lanes_of new.all_lanes)
   passed_taken =
@@ -507,8 +507,8 @@ module _ (old new : Parts) (first proxy : ℕ) (batch : Batch)
       (λ p l m. ComesBefore first p proxy → IsLookedThrough l m) old.all_lanes new.all_lanes
       (λ p k n was is through comes. (through comes).through) f.looked
 
-  pub goes_on_taken : GoesOn (resolver_of old).core (resolver_of new).core
-  goes_on_taken = go_on_with old new goes_on
+  pub continues_taken : Continues (resolver_of old).core (resolver_of new).core
+  continues_taken = continue_with old new continues
 
 -- a lane that has ended stays so, and so do all
 all_stay : (old new : List ProxyLanesView) → length new ≡ length old
@@ -524,7 +524,7 @@ all_stay (k ∷ old) (n ∷ new) same each all =
 
 -- All lanes were looked at, and no batch was taken.
 module _ (old new : Parts) (f : FindsNone (λ p. p < length old.all_lanes) old.all_lanes new.all_lanes) (are : AreParts old)
-    (running : old.core.stop ≡ None) (goes_on : GoesOn old.core new.core) (closed : new.closed ≡ old.closed)
+    (running : old.core.stop ≡ None) (continues : Continues old.core new.core) (closed : new.closed ≡ old.closed)
     (next : new.next ≡ old.next) where
   abbrev nothing : ℕ → List Batch
   nothing p = []
@@ -547,7 +547,7 @@ module _ (old new : Parts) (f : FindsNone (λ p. p < length old.all_lanes) old.a
   pub parts_looked : (new.core.stop ≡ None → new.finished ≡ all_ended (lanes_of new.all_lanes))
       → (new.closed ≡ true → IsThrough (resolver_of new)) → AreParts new
   parts_looked finished through = record {
-    count = at_all.count ∙ are.count ∙ sym goes_on.proxies;
+    count = at_all.count ∙ are.count ∙ sym continues.proxies;
     few = omega (arith, at_all.count, are.few);
     some = omega (arith, at_all.count, are.some);
     in_range = omega (arith, at_all.count, next, are.in_range);
@@ -560,20 +560,20 @@ module _ (old new : Parts) (f : FindsNone (λ p. p < length old.all_lanes) old.a
   pub replies_looked : Each (λ p l m. m.replies ≡ l.replies) (lanes_of old.all_lanes) (lanes_of new.all_lanes)
   replies_looked = replies_same nothing old.all_lanes new.all_lanes at_all
 
-  pub lanes_looked : Each (λ p l m. LanesGoOn l m) (lanes_of old.all_lanes) (lanes_of new.all_lanes)
-  lanes_looked = lanes_go_on nothing old.all_lanes new.all_lanes at_all
+  pub lanes_looked : Each (λ p l m. LanesContinue l m) (lanes_of old.all_lanes) (lanes_of new.all_lanes)
+  lanes_looked = lanes_continue nothing old.all_lanes new.all_lanes at_all
 
   pub all_looked : Each (λ p l m. IsLookedThrough l m) (lanes_of old.all_lanes) (lanes_of new.all_lanes)
   all_looked =
       each_lanes (λ p l m. p < length old.all_lanes → TakesFromProxy None l m) (λ p l m. IsLookedThrough l m) old.all_lanes
       new.all_lanes (λ p k n was is looked. (looked (slice_get_within old.all_lanes p k was)).through) f.looked
 
-  pub goes_on_looked : GoesOn (resolver_of old).core (resolver_of new).core
-  goes_on_looked = go_on_with old new goes_on
+  pub continues_looked : Continues (resolver_of old).core (resolver_of new).core
+  continues_looked = continue_with old new continues
 
-  stands_looked : (log : List Step) → Stands new.core log (handed_to old.all_lanes)
+  stands_looked : (log : List Step) → Stands new.core log (delivered_to old.all_lanes)
       → Stands (resolver_of new).core log (sent_to (lanes_of new.all_lanes))
-  stands_looked = stands_now nothing old.all_lanes new.all_lanes at_all new.core (are.count ∙ sym goes_on.proxies)
+  stands_looked = stands_now nothing old.all_lanes new.all_lanes at_all new.core (are.count ∙ sym continues.proxies)
 
   -- where it is found that not the same have ended as when the core was finished, it wasn't
   pub newly_ended : (ended : Bool) → ended ≡ all_ended (lanes_of new.all_lanes) → beq ended old.finished ≡ false
@@ -606,11 +606,11 @@ module _ (old new : Parts) (f : FindsNone (λ p. p < length old.all_lanes) old.a
       after = after;
       taken = takes_none;
       adds = λ version log s.
-          let whole = log_from version (length (lanes_of old.all_lanes)) log in
+          let entire = log_from version (length (lanes_of old.all_lanes)) log in
           stands_finished (resolver_of old) (resolver_of new) version log replies_looked.count
           (λ p l m was is. ap (λ r. r.closed) (replies_looked.each p l m was is)) running s takes_none not_before after
-          (stands_looked (whole ++ Finish ∷ [])
-          (stands whole (handed_to old.all_lanes) (stands_without old.core old.all_lanes are.count whole s.core)));
+          (stands_looked (entire ++ Finish ∷ [])
+          (stands entire (delivered_to old.all_lanes) (stands_without old.core old.all_lanes are.count entire s.core)));
     }
 
     -- the observer has seen nothing more, and nothing more is processed
@@ -620,9 +620,9 @@ module _ (old new : Parts) (f : FindsNone (λ p. p < length old.all_lanes) old.a
         (λ version log s seen.
         let window = old.core.set.window in
         let proxies = length (lanes_of old.all_lanes) in
-        let whole = log_from version proxies log in
+        let entire = log_from version proxies log in
         subst (HasSeen Seen new.core.stop window) (log_from-more version proxies proxies log (Finish ∷ []) refl)
-        (seen_more Seen new.core.stop window whole Finish (subst Seen (seen.all running) seen.seen)))
+        (seen_more Seen new.core.stop window entire Finish (subst Seen (seen.all running) seen.seen)))
 
   -- no more have ended than had
   module _ (core : new.core ≡ old.core) (same : new.finished ≡ old.finished)
@@ -658,11 +658,11 @@ module _ (old new : Parts) (f : FindsNone (λ p. p < length old.all_lanes) old.a
       ended = ended_same;
       taken = takes_none;
       adds = λ version log s.
-          let whole = log_from version (length (lanes_of old.all_lanes)) log in
+          let entire = log_from version (length (lanes_of old.all_lanes)) log in
           stands_same (resolver_of old) (resolver_of new) version log replies_looked.count
           (ap (λ (k : CoreState). k.stop) core) ended_same takes_none s
-          (stands_looked whole (subst (λ (k : CoreState). Stands k whole (handed_to old.all_lanes)) (sym core)
-          (stands_without old.core old.all_lanes are.count whole s.core)))
+          (stands_looked entire (subst (λ (k : CoreState). Stands k entire (delivered_to old.all_lanes)) (sym core)
+          (stands_without old.core old.all_lanes are.count entire s.core)))
           (λ still p m at shut. ended_same ∙ s.closed running p _ (was_at p m at).1
           (sym (ap (λ r. r.closed) (replies_looked.each p _ m (was_at p m at).1 at)) ∙ shut));
     }

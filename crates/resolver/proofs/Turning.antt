@@ -6,12 +6,12 @@ use Rattle.std.proofs.lemmas.Option.{slice_get_cases, slice_get_past, none-some}
 use Rattle.keyspace.specs.declared.answer.Answer.{Answer}
 use Rattle.keyspace.specs.Processed.{Processed}
 use Rattle.keyspace.specs.Run.{State, Step, Take, Finish}
-use Rattle.lane.specs.Lane.{PortGoesOn, IntakeGoesOn}
+use Rattle.lane.specs.Lane.{PortContinues, IntakeContinues}
 use Rattle.resolver.specs.Owed.{owed_to, owed_count}
 use Rattle.resolver.specs.Core.{CoreState, StopsAtLimit}
 use Rattle.keyspace.specs.declared.batch.Batch.{Batch}
-use Rattle.resolver.proofs.Handed.{StopsAtLimit-moved}
-use Rattle.resolver.specs.Lanes.{Lanes, Each, LanesGoOn, taken_from, sent_to, all_ended, IsLookedThrough, IsFull}
+use Rattle.resolver.proofs.DeliveredAnswers.{StopsAtLimit-moved}
+use Rattle.resolver.specs.Lanes.{Lanes, Each, LanesContinue, taken_from, sent_to, all_ended, IsLookedThrough, IsFull}
 use Rattle.resolver.specs.Resolver.{ResolverState, StandsOverFrom, IsThrough, TakesFrom, Finishes, TakesNoStep, StepsBy, IfNotTaken}
 use Rattle.resolver.specs.OpeningLog.{log_from}
 use Rattle.resolver.specs.Observed.{HasSeen, Observes, ObservesStep}
@@ -20,7 +20,7 @@ use Rattle.resolver.specs.declared.turn.Turn.TheVariants as turn
 use Rattle.resolver.specs.declared.stop.Stop.{Stop}
 use Rattle.resolver.specs.Parts.{Parts, AreParts, resolver_of}
 use Rattle.resolver.proofs.AtIndex.{field_same, both_at, lanes_at}
-use Rattle.resolver.proofs.HandedOut.{HandedOver, list_all-same}
+use Rattle.resolver.proofs.DeliveryStep.{IsDelivery, list_all-same}
 use Rattle.resolver.proofs.Closing.{ClosedOver}
 
 -- one change after another
@@ -39,7 +39,7 @@ Each-then P Q R {old} {mid} {new} then e f = record {
 pub record AnswersLane (owed : List Answer) (old new : Lanes) : Type 0 where
   pub requests : new.requests ≡ old.requests
   pub ended : new.ended ≡ old.ended
-  pub replies : PortGoesOn old.replies new.replies
+  pub replies : PortContinues old.replies new.replies
   pub full : owed ≢ [] → IsFull old new
 
 pub record AnswersOver (old new : ResolverState) : Type 0 where
@@ -49,28 +49,28 @@ pub record AnswersOver (old new : ResolverState) : Type 0 where
 
 -- once it was handed out and then closed
 closed_lane : (owed : List Answer) (l m n : Lanes) → (owed ≢ [] → IsFull l m)
-    → (m ≡ record l { replies = m.replies }) × PortGoesOn l.replies m.replies
+    → (m ≡ record l { replies = m.replies }) × PortContinues l.replies m.replies
     → n ≡ record m { replies = record m.replies { closed = n.replies.closed } } → AnswersLane owed l n
-closed_lane owed l m n full handed closed = record {
-  requests = ap (λ (x : Lanes). x.requests) closed ∙ ap (λ (x : Lanes). x.requests) handed.0;
-  ended = ap (λ (x : Lanes). x.ended) closed ∙ ap (λ (x : Lanes). x.ended) handed.0;
-  replies = subst (λ (x : Lanes). PortGoesOn l.replies x.replies) (sym closed) (record {
-    lane = handed.1.lane;
-    capacity = handed.1.capacity;
-    seen_taken = handed.1.seen_taken;
-    looks = handed.1.looks;
+closed_lane owed l m n full delivered closed = record {
+  requests = ap (λ (x : Lanes). x.requests) closed ∙ ap (λ (x : Lanes). x.requests) delivered.0;
+  ended = ap (λ (x : Lanes). x.ended) closed ∙ ap (λ (x : Lanes). x.ended) delivered.0;
+  replies = subst (λ (x : Lanes). PortContinues l.replies x.replies) (sym closed) (record {
+    lane = delivered.1.lane;
+    capacity = delivered.1.capacity;
+    seen_taken = delivered.1.seen_taken;
+    looks = delivered.1.looks;
   });
   full = λ some. subst (IsFull l) (sym closed) (full some);
 }
 
-pub answers_over : (old mid new : ResolverState) → HandedOver old mid → ClosedOver mid new → AnswersOver old new
+pub answers_over : (old mid new : ResolverState) → IsDelivery old mid → ClosedOver mid new → AnswersOver old new
 answers_over old mid new h k = record {
   stands = λ version log s. k.stands version log (h.stands version log s);
   stop = ap (λ c. c.stop) k.core ∙ h.same.stop;
   lanes =
       Each-then
       (λ p l m. (owed_to p new.core.owed ≢ [] → IsFull l m)
-      × ((m ≡ record l { replies = m.replies }) × PortGoesOn l.replies m.replies))
+      × ((m ≡ record l { replies = m.replies }) × PortContinues l.replies m.replies))
       (λ _ l m. m ≡ record l { replies = record l.replies { closed = m.replies.closed } })
       (λ p l m. AnswersLane (owed_to p new.core.owed) l m)
       (λ p l m n a b. closed_lane (owed_to p new.core.owed) l m n a.0 a.1 b)
@@ -97,7 +97,7 @@ module _ (mid new : ResolverState) (a : AnswersOver mid new) where
       (λ p l m at_old at_new. (a.lanes.each p l m at_old at_new).ended)
 
 -- what was said of the step holds once answers were handed out and lanes closed
-module _ {old mid given new : ResolverState} (h : HandedOver mid given) (k : ClosedOver given new) where
+module _ {old mid given new : ResolverState} (h : IsDelivery mid given) (k : ClosedOver given new) where
   abbrev pub TakesFrom-on : (proxy : ℕ) → TakesFrom proxy old mid → TakesFrom proxy old new
   TakesFrom-on proxy t =
       let a = answers_over mid given new h k in
@@ -128,7 +128,7 @@ module _ {old mid given new : ResolverState} (h : HandedOver mid given) (k : Clo
       }
 
 -- and so does what the observer has seen, which sees nothing of it
-module _ {old mid given new : ResolverState} (h : HandedOver mid given) (k : ClosedOver given new)
+module _ {old mid given new : ResolverState} (h : IsDelivery mid given) (k : ClosedOver given new)
     {before after : List Processed → Type 0} (sees : ObservesStep before after old mid) where
   seen_on : (steps : List Step) → Observes before after old mid steps → Observes before after old new steps
   seen_on steps observes version log s seen =
@@ -154,7 +154,7 @@ module _ {old mid given new : ResolverState} (h : HandedOver mid given) (k : Clo
   pub sees_nothing_on : TakesNoStep old new → Observes before after old new []
   sees_nothing_on n = seen_on [] (sees.nothing (ended_before ∙ n.ended) (λ p. taken_before p ∙ n.taken p))
 
-module _ {before : List Lanes} {mid given new : ResolverState} (h : HandedOver mid given) (k : ClosedOver given new) where
+module _ {before : List Lanes} {mid given new : ResolverState} (h : IsDelivery mid given) (k : ClosedOver given new) where
   -- what was looked through
   pub looked_on : (Which : ℕ → Type 0) → Each (λ p l m. Which p → IsLookedThrough l m) before mid.lanes
       → Each (λ p l m. Which p → IsLookedThrough l m) before new.lanes
@@ -181,12 +181,12 @@ module _ {before : List Lanes} {mid given new : ResolverState} (h : HandedOver m
       ])
       same (answers_over mid given new h k).lanes
 
-  pub lanes_on : Each (λ _ l m. LanesGoOn l m) before mid.lanes → Each (λ _ l m. LanesGoOn l m) before new.lanes
-  lanes_on go_on =
-      Each-then (λ _ l m. LanesGoOn l m) (λ p l m. AnswersLane (owed_to p new.core.owed) l m)
-      (λ _ l m. LanesGoOn l m)
+  pub lanes_on : Each (λ _ l m. LanesContinue l m) before mid.lanes → Each (λ _ l m. LanesContinue l m) before new.lanes
+  lanes_on continued =
+      Each-then (λ _ l m. LanesContinue l m) (λ p l m. AnswersLane (owed_to p new.core.owed) l m)
+      (λ _ l m. LanesContinue l m)
       (λ p l m n first then. record {
-        requests = subst (IntakeGoesOn l.requests) (sym then.requests) first.requests;
+        requests = subst (IntakeContinues l.requests) (sym then.requests) first.requests;
         replies = record {
           lane = then.replies.lane ∙ first.replies.lane;
           capacity = then.replies.capacity ∙ first.replies.capacity;
@@ -195,17 +195,17 @@ module _ {before : List Lanes} {mid given new : ResolverState} (h : HandedOver m
         };
         ended = λ was. then.ended ∙ first.ended was;
       })
-      go_on (answers_over mid given new h k).lanes
+      continued (answers_over mid given new h k).lanes
 
 -- of all lanes
-pub all_looked_on : {before : List Lanes} {mid given new : ResolverState} → HandedOver mid given → ClosedOver given new
+pub all_looked_on : {before : List Lanes} {mid given new : ResolverState} → IsDelivery mid given → ClosedOver given new
     → Each (λ _ l m. IsLookedThrough l m) before mid.lanes → Each (λ _ l m. IsLookedThrough l m) before new.lanes
 all_looked_on h k looked =
     let on = looked_on h k (λ _. Unit {0}) (record { count = looked.count; each = λ p l m was is _. looked.each p l m was is }) in
     record { count = on.count; each = λ p l m was is. on.each p l m was is tt }
 
 -- a stop that was met before the turn
-pub stopped_on : {old mid given new : ResolverState} → HandedOver mid given → ClosedOver given new
+pub stopped_on : {old mid given new : ResolverState} → IsDelivery mid given → ClosedOver given new
     → (stop : Option Stop) (result : Result (Option ℕ) Stop) → IsSome stop
     → IfSome stop (λ s. (result ≡ Err s) × (mid ≡ old)) → TakesNoStep old new
 stopped_on h k None result some kept = absurd (false≢true some)
@@ -214,7 +214,7 @@ stopped_on {old} {mid} h k (Some stop) result some kept =
     (subst (λ r. TakesNoStep old r) (sym kept.1) (record { ended = refl; taken = λ p. refl; adds = λ version log s. s }))
 
 -- a stop that was met in the turn
-pub stop_met_on : {old mid given new : ResolverState} → HandedOver mid given → ClosedOver given new
+pub stop_met_on : {old mid given new : ResolverState} → IsDelivery mid given → ClosedOver given new
     → (old.core.stop ≡ None → ((proxy : ℕ) × TakesFrom proxy old mid) ⊎ Finishes old mid)
     → old.core.stop ≡ None → ((proxy : ℕ) × TakesFrom proxy old new) ⊎ Finishes old new
 stop_met_on h k met running =
@@ -224,33 +224,33 @@ stop_met_on h k met running =
     ]
 
 -- what a turn answers, by what the step has taken and whether the reply lanes are closed
-abbrev pub told : Option ℕ → Bool → Turn
-told (Some proxy) closed = turn.Took proxy
-told None true = turn.Done
-told None false = turn.Idle
+abbrev pub reported : Option ℕ → Bool → Turn
+reported (Some proxy) closed = turn.Took proxy
+reported None true = turn.Done
+reported None false = turn.Idle
 
-pub StepsBy-told : (old new : ResolverState) (taken : Option ℕ) (closed : Bool)
+pub StepsBy-reported : (old new : ResolverState) (taken : Option ℕ) (closed : Bool)
     → ((proxy : ℕ) → taken ≡ Some proxy → TakesFrom proxy old new)
-    → (taken ≡ None → Finishes old new ⊎ TakesNoStep old new) → StepsBy (told taken closed) old new
-StepsBy-told old new (Some proxy) closed took none = took proxy refl
-StepsBy-told old new None true took none = none refl
-StepsBy-told old new None false took none = none refl
+    → (taken ≡ None → Finishes old new ⊎ TakesNoStep old new) → StepsBy (reported taken closed) old new
+StepsBy-reported old new (Some proxy) closed took none = took proxy refl
+StepsBy-reported old new None true took none = none refl
+StepsBy-reported old new None false took none = none refl
 
-pub IfNotTaken-told : (taken : Option ℕ) (closed : Bool) (P : Type 0) → (taken ≡ None → P)
-    → IfNotTaken (told taken closed) P
-IfNotTaken-told (Some proxy) closed P none = tt
-IfNotTaken-told None true P none = none refl
-IfNotTaken-told None false P none = none refl
+pub IfNotTaken-reported : (taken : Option ℕ) (closed : Bool) (P : Type 0) → (taken ≡ None → P)
+    → IfNotTaken (reported taken closed) P
+IfNotTaken-reported (Some proxy) closed P none = tt
+IfNotTaken-reported None true P none = none refl
+IfNotTaken-reported None false P none = none refl
 
-pub took-told : (taken : Option ℕ) (closed : Bool) (proxy : ℕ) → told taken closed ≡ turn.Took proxy → taken ≡ Some proxy
-took-told (Some other) closed proxy is = cc
-took-told None true proxy is = cc
-took-told None false proxy is = cc
+pub took-reported : (taken : Option ℕ) (closed : Bool) (proxy : ℕ) → reported taken closed ≡ turn.Took proxy → taken ≡ Some proxy
+took-reported (Some other) closed proxy is = cc
+took-reported None true proxy is = cc
+took-reported None false proxy is = cc
 
-pub done-told : (taken : Option ℕ) (closed : Bool) → told taken closed ≡ turn.Done → (taken ≡ None) × (closed ≡ true)
-done-told (Some other) closed is = cc
-done-told None true is = (refl, refl)
-done-told None false is = cc
+pub done-reported : (taken : Option ℕ) (closed : Bool) → reported taken closed ≡ turn.Done → (taken ≡ None) × (closed ≡ true)
+done-reported (Some other) closed is = cc
+done-reported None true is = (refl, refl)
+done-reported None false is = cc
 
 -- the reply lanes are closed where the resolver is through
 pub closed_by : (parts : Parts) (new : ResolverState) → AreParts parts → resolver_of parts ≡ new
@@ -272,10 +272,10 @@ none_taken_where (Some proxy) not = absurd (not proxy refl)
 -- when a turn answers that all is done
 module _ (mid new : ResolverState) (a : AnswersOver mid new) (taken : Option ℕ) (closed : Bool)
     (running : mid.core.stop ≡ None) where
-  pub done_means : (closed ≡ true → IsThrough new) → told taken closed ≡ turn.Done
+  pub done_means : (closed ≡ true → IsThrough new) → reported taken closed ≡ turn.Done
       → (all_ended new.lanes ≡ true) × (owed_count new.core.owed ≡ 0)
   done_means through is =
-      let ends = through (done-told taken closed is).1 in (
+      let ends = through (done-reported taken closed is).1 in (
         elim ends.no_more [
           | inl ended ↦ ended
           | inr stopped ↦ absurd (true≢false (sym stopped ∙ ap is_some (a.stop ∙ running)))
@@ -284,7 +284,7 @@ module _ (mid new : ResolverState) (a : AnswersOver mid new) (taken : Option ℕ
       )
 
   pub done_where : (IsThrough new → closed ≡ true) → ((proxy : ℕ) → taken ≡ Some proxy → all_ended mid.lanes ≡ false)
-      → (all_ended new.lanes ≡ true) × (owed_count new.core.owed ≡ 0) → told taken closed ≡ turn.Done
+      → (all_ended new.lanes ≡ true) × (owed_count new.core.owed ≡ 0) → reported taken closed ≡ turn.Done
   done_where through still_open both =
       let is_closed = through (record { nothing_owed = both.1; no_more = inl both.0 }) in
       let none : taken ≡ None = none_taken_where taken (λ proxy is.
@@ -292,7 +292,7 @@ module _ (mid new : ResolverState) (a : AnswersOver mid new) (taken : Option ℕ
       rw (none, is_closed) refl
 
 -- the conflict set and the batch at which the core stopped are the same once answers were handed out and lanes closed
-module _ {mid given new : ResolverState} (h : HandedOver mid given) (k : ClosedOver given new) where
+module _ {mid given new : ResolverState} (h : IsDelivery mid given) (k : ClosedOver given new) where
   pub same_set : new.core.set ≡ mid.core.set
   same_set = ap (λ (c : CoreState). c.set) k.core ∙ ap (λ (b : CoreState). b.set) h.same.core
 

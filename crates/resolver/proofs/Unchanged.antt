@@ -8,7 +8,7 @@ use Rattle.lane.specs.Lane.{Lane, HasEnded}
 use Rattle.resolver.specs.declared.client.Client.{Client}
 use Rattle.resolver.specs.declared.resolver_core.TheConstants.{MAX_PROXIES}
 use Rattle.resolver.specs.Owed.{owed_count}
-use Rattle.resolver.specs.Lanes.{Lanes, Each, LanesGoOn, AreSameLists, all_ended}
+use Rattle.resolver.specs.Lanes.{Lanes, Each, LanesContinue, AreSameLists, all_ended}
 use Rattle.resolver.specs.Resolver.{IsThrough, SameClients}
 use Rattle.resolver.specs.Parts.{
   ProxyLanesView,
@@ -85,14 +85,14 @@ module _ (old new : List ProxyLanesView) (before after : List Client) (each : Ea
       (settles.requests, settles.replies)
 
   -- each pair of lanes goes on, with the same lists
-  pub lanes_settled : Each (λ _ l m. LanesGoOn l m × AreSameLists l m) (lanes_of old) (lanes_of new)
+  pub lanes_settled : Each (λ _ l m. LanesContinue l m × AreSameLists l m) (lanes_of old) (lanes_of new)
   lanes_settled = record {
     count = length-map new (λ l. l.lanes) ∙ each.count ∙ sym (length-map old (λ l. l.lanes));
     each = λ proxy l m l_at m_at.
         let k = proxy_lanes_at old proxy l l_at in
         let n = proxy_lanes_at new proxy m m_at in
         let settles = (settles_at proxy k.0 n.0 k.1 n.1).2 in
-        subst₂ (λ x y. LanesGoOn x y × AreSameLists x y) k.2 n.2 (settles.goes_on, settles.same);
+        subst₂ (λ x y. LanesContinue x y × AreSameLists x y) k.2 n.2 (settles.continues, settles.same);
   }
 
   -- and each client

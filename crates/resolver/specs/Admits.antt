@@ -5,7 +5,7 @@ use Rattle.keyspace.specs.Run.{Step, Take, run}
 use Rattle.chain.specs.declared.gate.TheConstants.{MAX_HELD}
 use Rattle.resolver.specs.declared.stop.Stop.{Stop}
 use Rattle.resolver.specs.declared.stop.Stop.TheVariants as stop
-use Rattle.resolver.specs.Core.{CoreState, Given, GoesOn, StopsAtLimit}
+use Rattle.resolver.specs.Core.{CoreState, Given, Continues, StopsAtLimit}
 use Rattle.resolver.specs.Stands.{Stands}
 
 pub record Admits {T : Type 0} (result : Result T Stop) (proxy : ℕ) (batch : Batch) (old new : CoreState) : Type 0 where
@@ -17,7 +17,7 @@ pub record Admits {T : Type 0} (result : Result T Stop) (proxy : ℕ) (batch : B
   pub «open» : OnOk result ((old.stop ≡ None) × (new.stop ≡ None))
   pub stops : IfErr result (λ met. new.stop ≡ Some met)
   pub stopped : IfSome old.stop (λ met. (result ≡ Err met) × (new ≡ old))
-  pub goes_on : GoesOn old new
+  pub continues : Continues old new
   -- when each stop comes
   pub gate_full :
       old.stop ≡ None

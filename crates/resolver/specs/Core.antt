@@ -1,5 +1,6 @@
 -- What a core is seen as, and when it is in a state of the reference resolver. This project's own.
-use Rattle.std.specs.Prelude.{◌≡◌, ℕ, ◌<◌, ◌==◌, ◌&&◌, if◌then◌else◌, ℤ, ◌≤ℤ◌, int_le, ◌⊎◌, List, ◌++◌, length, All, Option, Some, None}
+use Rattle.std.specs.Prelude.{◌≡◌, ℕ, ◌<◌, ◌==◌, ◌&&◌, if◌then◌else◌, ℤ, pos, ◌-ℤ◌, ◌≤ℤ◌, int_le, ◌⊎◌, List, ◌++◌, length, All, Option, Some, None}
+use Rattle.std.specs.Int.{int_max}
 use Rattle.std.specs.Ordering.{int_eq}
 use Rattle.keyspace.specs.declared.answer.Answer.{Answer}
 use Rattle.keyspace.specs.declared.batch.Batch.{Batch}
@@ -31,8 +32,8 @@ pub record CoreState : Type 0 where
   pub stop : Option Stop
 
 -- the first list is a prefix of the second, which may be all of it
-abbrev pub IsBeginning : {T : Type 0} → List T → List T → Type 0
-IsBeginning {T} xs ys = (rest : List T) × (ys ≡ xs ++ rest)
+abbrev pub IsPrefix : {T : Type 0} → List T → List T → Type 0
+IsPrefix {T} xs ys = (rest : List T) × (ys ≡ xs ++ rest)
 
 -- the answers given so far to each proxy, by its number
 abbrev pub Given : Type 0
@@ -78,8 +79,12 @@ pub record IsCore (c : CoreState) : Type 0 where
       (proxy : ℕ) (version : ℤ) (reply : Reply) → reply_of c.kept proxy version ≡ Some reply →
       version ≤ℤ c.version
 
+-- a core that takes more remembers what was written as far back as its window, from its version
+abbrev pub RemembersWindow : CoreState → Type 0
+RemembersWindow core = core.stop ≡ None → core.set.map.edge ≤ℤ int_max (core.version -ℤ core.set.window) (pos 0)
+
 -- what stays the same of a core, whatever is done to it
-pub record GoesOn (old new : CoreState) : Type 0 where
+pub record Continues (old new : CoreState) : Type 0 where
   pub window : new.set.window ≡ old.set.window
   pub limit : new.set.map.limit ≡ old.set.map.limit
   pub proxies : length new.owed ≡ length old.owed
@@ -88,10 +93,10 @@ pub record GoesOn (old new : CoreState) : Type 0 where
 pub record MadeBetween (before after : State) (given : Given) (core : CoreState) : Type 0 where
   pub all_before :
       (proxy : ℕ) → proxy < length core.owed →
-      IsBeginning (answers_to proxy before.answered) (made_to proxy given core)
+      IsPrefix (answers_to proxy before.answered) (made_to proxy given core)
   pub no_others :
       (proxy : ℕ) → proxy < length core.owed →
-      IsBeginning (made_to proxy given core) (answers_to proxy after.answered)
+      IsPrefix (made_to proxy given core) (answers_to proxy after.answered)
 
 -- In this state the reference resolver processes the batch, which exceeds the limit: at its edge, the writes committed up
 -- to it, its own included, may need too many boundaries. All answers before it were made, and no others.

@@ -4,7 +4,7 @@ use Rattle.std.specs.List.{list_all}
 use Rattle.keyspace.specs.declared.batch.Batch.{Batch}
 use Rattle.keyspace.specs.declared.answer.Answer.{Answer}
 use Rattle.lane.specs.declared.port.TheConstants.{MAX_SENT}
-use Rattle.lane.specs.Lane.{IntakeView, PortView, IntakeGoesOn, PortGoesOn}
+use Rattle.lane.specs.Lane.{IntakeView, PortView, IntakeContinues, PortContinues}
 use Rattle.resolver.specs.Core.{Given}
 
 -- the resolver's ends of the two lanes of a proxy
@@ -36,9 +36,9 @@ pub record Each (P : ℕ → Lanes → Lanes → Type 0) (old new : List Lanes) 
   pub each : (proxy : ℕ) (l m : Lanes) → slice_get old proxy ≡ Some l → slice_get new proxy ≡ Some m → P proxy l m
 
 -- the same ends later
-pub record LanesGoOn (old new : Lanes) : Type 0 where
-  pub requests : IntakeGoesOn old.requests new.requests
-  pub replies : PortGoesOn old.replies new.replies
+pub record LanesContinue (old new : Lanes) : Type 0 where
+  pub requests : IntakeContinues old.requests new.requests
+  pub replies : PortContinues old.replies new.replies
   pub ended : old.ended ≡ true → new.ended ≡ true
 
 -- the same batches were taken, the same answers sent

@@ -5,7 +5,7 @@ use Rattle.keyspace.specs.declared.batch.Batch.{Batch}
 use Rattle.keyspace.specs.Processed.{Processed}
 use Rattle.keyspace.specs.Run.{Step, Take, Finish, run}
 use Rattle.resolver.specs.declared.stop.Stop.{Stop}
-use Rattle.resolver.specs.Core.{IsBeginning}
+use Rattle.resolver.specs.Core.{IsPrefix}
 use Rattle.resolver.specs.OpeningLog.{log_from}
 use Rattle.resolver.specs.Lanes.{all_ended, TakesOne, TakesNone}
 use Rattle.resolver.specs.Resolver.{ResolverState, StandsOverFrom}
@@ -14,19 +14,19 @@ use Rattle.resolver.specs.Resolver.{ResolverState, StandsOverFrom}
 pub record HasSeenBetween (Seen : List Processed → Type 0) (before after : List Processed) : Type 0 where
   pub list : List Processed
   pub seen : Seen list
-  pub all_before : IsBeginning before list
-  pub no_others : IsBeginning list after
+  pub all_before : IsPrefix before list
+  pub no_others : IsPrefix list after
 
 -- What the observer has seen of the batches that the reference resolver processes over this log, by whether a stop was met.
 pub record HasSeen (Seen : List Processed → Type 0) (stop : Option Stop) (window : ℤ) (log : List Step) : Type 0 where
   pub list : List Processed
   pub seen : Seen list
-  pub no_others : IsBeginning list (run window log).processed
+  pub no_others : IsPrefix list (run window log).processed
   -- all of them, unless a stop was met
   pub all : stop ≡ None → list ≡ (run window log).processed
   -- and in any case those of the log without its last step
   pub all_before_last :
-      (before : List Step) (last : Step) → log ≡ before ++ last ∷ [] → IsBeginning (run window before).processed list
+      (before : List Step) (last : Step) → log ≡ before ++ last ∷ [] → IsPrefix (run window before).processed list
 
 -- What the observer has seen follows the resolver's log as these steps are added to it.
 abbrev pub Observes : (before after : List Processed → Type 0) (old new : ResolverState) (steps : List Step) → Type 0

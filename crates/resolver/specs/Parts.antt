@@ -3,11 +3,11 @@ use Rattle.std.specs.Prelude.{◌≡◌, ℕ, ◌<◌, ◌≤◌, ◌⊎◌, ◌
 use Rattle.std.specs.List.{sum_by}
 use Rattle.keyspace.specs.declared.batch.Batch.{Batch}
 use Rattle.keyspace.specs.declared.answer.Answer.{Answer}
-use Rattle.lane.specs.Lane.{Lane, IntakeGoesOn, PortGoesOn, HasEnded}
+use Rattle.lane.specs.Lane.{Lane, IntakeContinues, PortContinues, HasEnded}
 use Rattle.resolver.specs.declared.client.Client.{Client}
 use Rattle.resolver.specs.declared.resolver_core.TheConstants.{MAX_PROXIES}
-use Rattle.resolver.specs.Core.{CoreState, IsBeginning}
-use Rattle.resolver.specs.Lanes.{Lanes, LanesGoOn, AreSameLists, all_ended, IsLookedThrough, IsFull}
+use Rattle.resolver.specs.Core.{CoreState, IsPrefix}
+use Rattle.resolver.specs.Lanes.{Lanes, LanesContinue, AreSameLists, all_ended, IsLookedThrough, IsFull}
 use Rattle.resolver.specs.Resolver.{ResolverState, IsThrough, SameClient, AreClients, IsNewClient}
 
 -- the resolver's ends of the lanes of a proxy, and the answer that the reply lane has handed back
@@ -71,7 +71,7 @@ pub record EachProxy (P : ℕ → ProxyLanesView → ProxyLanesView → Type 0) 
 pub record TakesFromProxy (batch : Option Batch) (old new : ProxyLanesView) : Type 0 where
   pub taken : new.lanes.requests.taken ≡ old.lanes.requests.taken ++ option_to_list batch
   pub through : IfNone batch (IsLookedThrough old.lanes new.lanes)
-  pub requests : IntakeGoesOn old.lanes.requests new.lanes.requests
+  pub requests : IntakeContinues old.lanes.requests new.lanes.requests
   pub ended : old.lanes.ended ≡ true → new.lanes.ended ≡ true
   pub still_open : IsSome batch → new.lanes.ended ≡ false
   pub at_end : new.lanes.ended ≡ true → HasEnded new.lanes.requests
@@ -83,15 +83,15 @@ abbrev pub made_over : ProxyLanesView → List Answer → List Answer
 made_over l owed = l.lanes.replies.sent ++ (option_to_list l.waiting ++ owed)
 
 -- answers move from the owed ones to the sent ones
-pub record HandsOut (old new : ProxyLanesView) (owed_before owed_after : List Answer) : Type 0 where
+pub record Delivers (old new : ProxyLanesView) (owed_before owed_after : List Answer) : Type 0 where
   pub made : made_over new owed_after ≡ made_over old owed_before
-  pub sent : IsBeginning old.lanes.replies.sent new.lanes.replies.sent
+  pub sent : IsPrefix old.lanes.replies.sent new.lanes.replies.sent
   pub full :
       (option_to_list new.waiting ++ owed_after ≢ []) → (new.lanes.replies.closed ≡ true)
       ⊎ IsFull old.lanes new.lanes
   pub requests : new.lanes.requests ≡ old.lanes.requests
   pub ended : new.lanes.ended ≡ old.lanes.ended
-  pub replies : PortGoesOn old.lanes.replies new.lanes.replies
+  pub replies : PortContinues old.lanes.replies new.lanes.replies
   pub closed : new.lanes.replies.closed ≡ old.lanes.replies.closed
 
 -- the core is the same except for the answers that it owes
@@ -141,7 +141,7 @@ pub record SettlesLanes (old : ProxyLanesView) (client_before : Client) (new : P
   pub replies : Lane old.lanes.replies client_before.replies
   pub same : AreSameLists old.lanes new.lanes
   pub waiting : new.waiting ≡ old.waiting
-  pub goes_on : LanesGoOn old.lanes new.lanes
+  pub continues : LanesContinue old.lanes new.lanes
   pub at_end : (old.lanes.ended ≡ true → HasEnded old.lanes.requests) → new.lanes.ended ≡ true → HasEnded new.lanes.requests
   pub client : SameClient client_before client_after
 

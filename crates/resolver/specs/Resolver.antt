@@ -2,7 +2,7 @@
 use Rattle.std.specs.Prelude.{◌≡◌, ℕ, ℤ, negsuc, ◌<◌, ◌⊎◌, Bool, true, false, List, [], ◌∷◌, ◌++◌, length, Some, None, IsSome, slice_get}
 use Rattle.keyspace.specs.declared.batch.Batch.{Batch}
 use Rattle.keyspace.specs.Run.{Step, Take, Finish, part}
-use Rattle.lane.specs.Lane.{SameLane, PortGoesOn, IntakeGoesOn, new_port, new_intake}
+use Rattle.lane.specs.Lane.{SameLane, PortContinues, IntakeContinues, new_port, new_intake}
 use Rattle.resolver.specs.declared.client.Client.{Client}
 use Rattle.resolver.specs.declared.turn.Turn.{Turn}
 use Rattle.resolver.specs.declared.turn.Turn.TheVariants as turn
@@ -119,7 +119,7 @@ pub record AreClients (lanes : List Lanes) (clients : List Client) : Type 0 wher
       SameLane l.replies c.replies
 
 -- answers were handed out, and nothing else was done
-pub record SameBut (old new : ResolverState) : Type 0 where
+pub record SameExcept (old new : ResolverState) : Type 0 where
   pub stop : new.core.stop ≡ old.core.stop
   pub core : new.core ≡ record old.core { owed = new.core.owed }
   pub proxies : length new.core.owed ≡ length old.core.owed
@@ -130,8 +130,8 @@ pub record SameClient (old new : Client) : Type 0 where
   pub sent : new.requests.sent ≡ old.requests.sent
   pub closed : new.requests.closed ≡ old.requests.closed
   pub taken : new.replies.taken ≡ old.replies.taken
-  pub requests : PortGoesOn old.requests new.requests
-  pub replies : IntakeGoesOn old.replies new.replies
+  pub requests : PortContinues old.requests new.requests
+  pub replies : IntakeContinues old.replies new.replies
 
 pub record SameClients (old new : List Client) : Type 0 where
   pub count : length new ≡ length old

@@ -11,7 +11,7 @@ use Rattle.serial.specs.Replies.{IsSent, IsReplyTo, IsCommittedAt, ReportsCommit
 use Rattle.lane.specs.Lane.{HasEnded}
 use Rattle.resolver.specs.declared.client.Client.{Client}
 use Rattle.resolver.specs.declared.turn.Account.{Account}
-use Rattle.resolver.specs.Core.{IsBeginning}
+use Rattle.resolver.specs.Core.{IsPrefix}
 use Rattle.resolver.specs.Lanes.{Lanes, has_ended, sent_to}
 use Rattle.resolver.specs.Resolver.{ResolverState, TakesOnlyFrom, FinishesLast}
 use Rattle.resolver.specs.OpeningLog.{opening_log, log_from}
@@ -24,12 +24,12 @@ use Rattle.resolver.specs.OpeningLog.{opening_log, log_from}
 pub record ReceivesAnswers (window : ℤ) (opening log : List Step) (sent : List Answer) (account : Account) (proxy : ℕ)
     (client : Client) : Type 0 where
   -- it has received, in order and once, the answers of the reference resolver; all of them if the account is complete
-  pub received : IsBeginning client.replies.taken (answers window (opening ++ log) proxy)
+  pub received : IsPrefix client.replies.taken (answers window (opening ++ log) proxy)
   pub all_received : account.complete ≡ true → client.replies.taken ≡ answers window (opening ++ log) proxy
   -- if the account is complete, it has received one answer per batch that it has sent
   pub each_answered : account.complete ≡ true → length client.replies.taken ≡ length client.requests.sent
   -- It has received the first answers that were sent to it, and all that were sent if its answers have ended.
-  pub received_of_sent : IsBeginning client.replies.taken sent
+  pub received_of_sent : IsPrefix client.replies.taken sent
   pub all_sent : HasEnded client.replies → client.replies.taken ≡ sent
   -- If its answers have ended, it has received all answers of the log unless a stop was met, and in any case those of the log without
   -- its last step.
@@ -37,7 +37,7 @@ pub record ReceivesAnswers (window : ℤ) (opening log : List Step) (sent : List
       HasEnded client.replies → account.stop ≡ None → client.replies.taken ≡ answers window (opening ++ log) proxy
   pub all_before_last :
       HasEnded client.replies → (before : List Step) (last : Step) → log ≡ before ++ last ∷ []
-      → IsBeginning (answers window (opening ++ before) proxy) client.replies.taken
+      → IsPrefix (answers window (opening ++ before) proxy) client.replies.taken
 
 -- What these answers say of the batches and transactions that the client has sent.
 pub record LearnsVerdicts (window : ℤ) (opening log : List Step) (account : Account) (proxy : ℕ) (client : Client)
@@ -60,7 +60,7 @@ pub record LearnsVerdicts (window : ℤ) (opening log : List Step) (account : Ac
 pub record SettledFor (window : ℤ) (opening log : List Step) (ended : Bool) (sent : List Answer) (account : Account)
     (proxy : ℕ) (client : Client) : Type 0 where
   -- the log holds its batches once, as sent; all of them once its request lane has ended, and then nothing more can be sent
-  pub batches : IsBeginning (part log proxy) client.requests.sent
+  pub batches : IsPrefix (part log proxy) client.requests.sent
   pub all_batches : ended ≡ true → part log proxy ≡ client.requests.sent
   pub nothing_after : ended ≡ true → client.requests.closed ≡ true
   pub all_ended : account.complete ≡ true → ended ≡ true

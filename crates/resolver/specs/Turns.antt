@@ -7,9 +7,9 @@ use Rattle.resolver.specs.declared.stop.Stop.TheVariants.{GateFull, ArenaFull}
 use Rattle.resolver.specs.declared.turn.Turn.{Turn}
 use Rattle.resolver.specs.declared.turn.Turn.TheVariants as turn
 use Rattle.resolver.specs.Owed.{owed_to, owed_count}
-use Rattle.resolver.specs.Core.{GoesOn, StopsAtLimit}
+use Rattle.resolver.specs.Core.{Continues, StopsAtLimit}
 use Rattle.resolver.specs.OpeningLog.{log_from}
-use Rattle.resolver.specs.Lanes.{Lanes, all_ended, Each, LanesGoOn, IsLookedThrough, ComesBefore, IsFull, sent_to}
+use Rattle.resolver.specs.Lanes.{Lanes, all_ended, Each, LanesContinue, IsLookedThrough, ComesBefore, IsFull, sent_to}
 use Rattle.resolver.specs.Resolver.{ResolverState, StandsOverFrom, IsResolvingFrom, TakesFrom, Finishes, TakesNoStep, StepsBy, IfNotTaken, IsThrough}
 use Rattle.resolver.specs.Share.{share_of, HasMoreUnanswered}
 
@@ -52,5 +52,5 @@ pub record Turns (result : Result Turn Stop) (old new : ResolverState) : Type 0 
       × StopsAtLimit old.core.set.map.limit old.core.set.window proxy took.batch
       (run old.core.set.window (log_from version (length old.lanes) log)) (sent_to new.lanes) new.core
   -- what stays the same
-  pub lanes : Each (λ _ l m. LanesGoOn l m) old.lanes new.lanes
-  pub goes_on : GoesOn old.core new.core
+  pub lanes : Each (λ _ l m. LanesContinue l m) old.lanes new.lanes
+  pub continues : Continues old.core new.core

@@ -9,7 +9,7 @@ ghost use Rattle.std.specs.List.{list_all};
 ghost use Rattle.resolver.specs.Owed.{owed_to};
 ghost use Rattle.resolver.specs.Lanes.{IsLookedThrough, all_ended, ComesBefore};
 ghost use Rattle.resolver.specs.Parts.{ProxyLanesView, lanes_of, EachProxy, TakesFromProxy};
-ghost use Rattle.resolver.specs.Parts.{HandsOut, OwesOnly, FindsOne, FindsNone, waiting_count};
+ghost use Rattle.resolver.specs.Parts.{Delivers, OwesOnly, FindsOne, FindsNone, waiting_count};
 ghost use Rattle.resolver.specs.Parts.{closed_proxy_lanes, EachSettled};
 
 use crate::client::Client;
@@ -68,14 +68,14 @@ pub fn waiting(all_lanes: &[ProxyLanes]) -> usize
 }
 
 /// Sends each proxy the answers owed to it, while its reply lane accepts them.
-pub fn hand_out(all_lanes: &mut [ProxyLanes], core: &mut Core)
+pub fn deliver(all_lanes: &mut [ProxyLanes], core: &mut Core)
     requires each { length all_lanes.old ≡ length core.old.owed }
-    ensures each { EachProxy (λ proxy l m. HandsOut l m (owed_to proxy core.old.owed)
+    ensures each { EachProxy (λ proxy l m. Delivers l m (owed_to proxy core.old.owed)
         (owed_to proxy core.new.owed)) all_lanes.old all_lanes.new }
     ensures core { OwesOnly core.old core.new }
 {
     for proxy in 0..all_lanes.len() {
-        all_lanes[proxy].hand_out(core, proxy);
+        all_lanes[proxy].deliver(core, proxy);
     }
 }
 

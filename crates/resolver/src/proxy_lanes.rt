@@ -2,10 +2,10 @@
 
 ghost use Rattle.std.specs.Prelude.{◌≡◌, ◌≢◌, ◌↔◌, ◌⊎◌, ◌<◌, ℕ, false, true, [], ◌∷◌, ◌++◌, length};
 ghost use Rattle.std.specs.Prelude.{None, Some, IsSome, IsTrue, IsFalse, IfNone, option_to_list};
-ghost use Rattle.lane.specs.Lane.{SameLane, PortGoesOn};
+ghost use Rattle.lane.specs.Lane.{SameLane, PortContinues};
 ghost use Rattle.resolver.specs.Owed.{owed_to};
 ghost use Rattle.resolver.specs.Lanes.{IsFull};
-ghost use Rattle.resolver.specs.Parts.{TakesFromProxy, HandsOut, OwesOnly, SettlesLanes};
+ghost use Rattle.resolver.specs.Parts.{TakesFromProxy, Delivers, OwesOnly, SettlesLanes};
 
 use crate::client::Client;
 use crate::resolver_core::Core;
@@ -95,9 +95,9 @@ impl ProxyLanes {
 
     /// Sends the proxy the answers owed to it, oldest first, while the reply lane accepts them. One
     /// that it returns waits here.
-    pub fn hand_out(&mut self, core: &mut Core, proxy: usize)
+    pub fn deliver(&mut self, core: &mut Core, proxy: usize)
         requires known { proxy < length core.old.owed }
-        ensures hands_out { HandsOut self.old self.new
+        ensures delivers { Delivers self.old self.new
             (owed_to proxy core.old.owed) (owed_to proxy core.new.owed) }
         ensures core { OwesOnly core.old core.new }
         ensures others { (other : ℕ) → other ≢ proxy
@@ -161,7 +161,7 @@ impl ProxyLanes {
             × (self.new.waiting ≡ Some answer) }
         ensures full { IsFalse result → (self.new.lanes.replies.closed ≡ true)
             ⊎ IsFull self.old.lanes self.new.lanes }
-        ensures replies { PortGoesOn self.old.lanes.replies self.new.lanes.replies }
+        ensures replies { PortContinues self.old.lanes.replies self.new.lanes.replies }
         ensures closed { self.new.lanes.replies.closed ≡ self.old.lanes.replies.closed }
         ensures requests { self.new.lanes
             ≡ record self.old.lanes { replies = self.new.lanes.replies } }

@@ -8,12 +8,13 @@ ghost use Rattle.chain.specs.declared.gate.TheConstants.{MAX_HELD};
 ghost use Rattle.lane.specs.Lane.{HasEnded};
 ghost use Rattle.resolver.specs.declared.client.Client.{Client as ClientEnds};
 ghost use Rattle.resolver.specs.Owed.{owed_to, owed_count};
-ghost use Rattle.resolver.specs.Core.{GoesOn, StopsAtLimit};
+ghost use Rattle.stepmap.specs.StepMap.{AreSteps};
+ghost use Rattle.resolver.specs.Core.{Continues, RemembersWindow, StopsAtLimit};
 ghost use Rattle.resolver.specs.Stands.{Stands};
 ghost use Rattle.resolver.specs.OpeningLog.{opening_log, log_from};
 ghost use Rattle.resolver.specs.Parts.{AreNewLanes, lanes_of};
 ghost use Rattle.resolver.specs.declared.resolver_core.TheConstants.{MAX_PROXIES};
-ghost use Rattle.resolver.specs.Lanes.{Lanes, all_ended, Each, LanesGoOn, IsLookedThrough};
+ghost use Rattle.resolver.specs.Lanes.{Lanes, all_ended, Each, LanesContinue, IsLookedThrough};
 ghost use Rattle.resolver.specs.Lanes.{ComesBefore, IsFull, AreSameLists, sent_to};
 ghost use Rattle.resolver.specs.Resolver.{ResolverState, StandsOverFrom, IsResolvingFrom};
 ghost use Rattle.resolver.specs.Resolver.{TakesFrom, Finishes, TakesNoStep, StepsBy, IfNotTaken};
@@ -158,8 +159,8 @@ impl Resolver {
             (run self.old.core.set.window (log_from version (length self.old.lanes) log))
             (sent_to self.new.lanes) self.new.core }
 
-        ensures lanes { Each (λ _ l m. LanesGoOn l m) self.old.lanes self.new.lanes }
-        ensures goes_on { GoesOn self.old.core self.new.core }
+        ensures lanes { Each (λ _ l m. LanesContinue l m) self.old.lanes self.new.lanes }
+        ensures continues { Continues self.old.core self.new.core }
     {
         self.turn_observed(&mut Unobserved)
     }
@@ -182,7 +183,7 @@ impl Resolver {
         ensures setting { O.setting observer.new ≡ O.setting observer.old }
     {
         let stepped = self.step(observer);
-        self.hand_out();
+        self.deliver();
         self.close();
         Ok(match stepped? {
             Some(proxy) => Turn::Took(proxy),
@@ -212,14 +213,14 @@ impl Resolver {
         ensures stop { result.stop ≡ self.old.core.stop }
         ensures core { self.new.core ≡ self.old.core }
         ensures next { self.new.next ≡ self.old.next }
-        ensures lanes { Each (λ _ l m. LanesGoOn l m
+        ensures lanes { Each (λ _ l m. LanesContinue l m
             × AreSameLists l m) self.old.lanes self.new.lanes }
         ensures clients { SameClients clients.old clients.new }
     {
         laws::runs_are_chains();
         laws::each_batch_is_answered();
         serial::laws::chains_are_serializable();
-        serial::laws::answers_tell_verdicts();
+        serial::laws::answers_report_verdicts();
         let all_taken = all_lanes::settle(&mut self.all_lanes, clients);
         Account::new(self.core.stop(), self.closed, all_taken)
     }
@@ -243,6 +244,8 @@ impl Resolver {
     pub fn boundaries(&self) -> usize
         ensures count { result ≡ length self.now.core.set.map.boundaries }
         ensures within { result ≤ self.now.core.set.map.limit }
+        ensures steps { AreSteps self.now.core.set.map }
+        ensures window { RemembersWindow self.now.core }
     {
         self.core.set().boundaries()
     }

@@ -9,7 +9,7 @@ ghost use Rattle.stepmap.specs.declared.step_map.TheConstants.{MAX_LIMIT};
 ghost use Rattle.conflict.specs.declared.conflict_set.TheConstants.{MAX_WINDOW};
 ghost use Rattle.chain.specs.declared.gate.TheConstants.{MAX_HELD};
 ghost use Rattle.resolver.specs.Owed.{owed_to, given_oldest, owed_count};
-ghost use Rattle.resolver.specs.Core.{Given, GoesOn, StopsAtLimit};
+ghost use Rattle.resolver.specs.Core.{Given, Continues, IsCore, StopsAtLimit};
 ghost use Rattle.resolver.specs.Stands.{Stands, given_also};
 ghost use Rattle.resolver.specs.Admits.{Admits};
 ghost use Rattle.resolver.specs.Observed.{HasSeen};
@@ -158,7 +158,7 @@ impl Core {
         ensures stops { IfErr result (λ stop. self.new.stop ≡ Some stop) }
         ensures stopped { IfSome self.old.stop (λ stop. (result ≡ Err stop)
             × (self.new ≡ self.old)) }
-        ensures goes_on { GoesOn self.old self.new }
+        ensures continues { Continues self.old self.new }
         ensures gate_full { self.old.stop ≡ None → (result ≡ Err Stop.GateFull)
             ↔ (self.old.version <ℤ batch.previous) × (length self.old.held ≡ MAX_HELD) }
         ensures arena_full { self.old.stop ≡ None → result ≡ Err Stop.ArenaFull
@@ -218,7 +218,7 @@ impl Core {
         ensures stopped { IfSome self.old.stop (λ stop. (result ≡ Err stop)
             × (self.new ≡ self.old)) }
         ensures memory { self.old.stop ≡ None → IfErr result (λ stop. stop ≡ Stop.Memory) }
-        ensures goes_on { GoesOn self.old self.new }
+        ensures continues { Continues self.old self.new }
     {
         if let Some(stop) = self.stop {
             return Err(stop);
@@ -276,6 +276,7 @@ impl Core {
     /// Returns the conflict set.
     pub fn set(&self) -> &ConflictSet
         ensures set { result.now ≡ self.now.set }
+        ensures core { IsCore self.now }
     {
         &self.set
     }

@@ -14,7 +14,7 @@ use test_values::Unmade;
 
 // A core that is given the steps of a row.
 #[derive(Drop)]
-struct Run {
+struct CoreRun {
     alloc: Global,
     core: Core,
     // The stop that was met.
@@ -25,7 +25,7 @@ struct Run {
     made: usize,
 }
 
-impl Run {
+impl CoreRun {
     fn call(&mut self, text: &str) -> Result<Result<(), Stop>, Unmade> {
         if text == "finish" {
             return Ok(self.core.finish());
@@ -60,8 +60,8 @@ impl Run {
 
     // Takes an answer, and returns whether it is this one. It may be missing where its step is the
     // one that met the stop, or a later one.
-    fn gives(&mut self, step: usize, told: &str) -> Result<bool, Unmade> {
-        let (proxy, expected) = numbered(told.trim_start())?;
+    fn gives(&mut self, step: usize, reported: &str) -> Result<bool, Unmade> {
+        let (proxy, expected) = numbered(reported.trim_start())?;
         match give(&mut self.core, proxy)? {
             Some(answer) => Ok(text_at_last(self.alloc, &answer)?.as_str() == expected),
             None => Ok(step >= self.steps),
@@ -70,9 +70,9 @@ impl Run {
 
     fn gives_all(&mut self, step: usize, answers: &str) -> Result<bool, Unmade> {
         let mut is_right = true;
-        for told in answers.split(';') {
-            if !told.is_empty() {
-                is_right &= self.gives(step, told)?;
+        for reported in answers.split(';') {
+            if !reported.is_empty() {
+                is_right &= self.gives(step, reported)?;
             }
         }
         Ok(is_right)
@@ -82,7 +82,7 @@ impl Run {
 // What a row has come to: the stop that was met, if any, or else the step that answered otherwise.
 type Outcome<'a> = Result<Option<Stop>, &'a str>;
 
-impl Run {
+impl CoreRun {
     // Makes the calls of the row, and returns the first that didn't return what it may.
     fn calls_all<'a>(&mut self, row: &[&'a str]) -> Result<Option<&'a str>, Unmade> {
         for step in row {
@@ -127,7 +127,7 @@ impl Run {
 fn outcome<'a>(alloc: Global, proxies: usize, row: &[&'a str]) -> Result<Outcome<'a>, Unmade> {
     match open(alloc, proxies)? {
         Ok(core) => {
-            let mut run = Run {
+            let mut run = CoreRun {
                 alloc,
                 core,
                 stop: None,

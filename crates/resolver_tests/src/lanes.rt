@@ -14,7 +14,7 @@ use test_values::Unmade;
 
 // A service that is given the steps of a row.
 #[derive(Drop)]
-struct Run {
+struct LanesRun {
     alloc: Global,
     service: Service,
     // The stop that was met.
@@ -36,7 +36,7 @@ fn turn_of(text: &str) -> Result<Turn, Unmade> {
     }
 }
 
-impl Run {
+impl LanesRun {
     // Sends a batch, which its lane accepts, or not after a stop.
     fn send(&mut self, text: &str) -> Result<bool, Unmade> {
         let Some((proxy, text)) = text.split_once(' ') else {
@@ -114,7 +114,7 @@ impl Run {
 // What a row has come to: the stop that was met, if any, or else the step that answered otherwise.
 type Outcome<'a> = Result<Option<Stop>, &'a str>;
 
-impl Run {
+impl LanesRun {
     fn play<'a>(&mut self, row: &[&'a str]) -> Result<Outcome<'a>, Unmade> {
         for step in row {
             if !self.step(step)? {
@@ -133,7 +133,7 @@ fn outcome<'a>(
 ) -> Result<Outcome<'a>, Unmade> {
     match Service::open(alloc, proxies, capacity)? {
         Ok(service) => {
-            let mut run = Run {
+            let mut run = LanesRun {
                 alloc,
                 service,
                 stop: None,

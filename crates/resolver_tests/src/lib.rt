@@ -7,12 +7,12 @@
 //!
 //! The tests named for it, as `core_stops_at_one_growth_refused`, pass whichever one growth is
 //! refused; `.ci/refused-memory` refuses each in turn. Those of `rows_over_lanes` play the rows of
-//! `cores` over lanes of one. `batches_alike` has two tests whose allocations `.ci/refused-memory`
+//! `cores` over lanes of one. `batches_equal` has two tests whose allocations `.ci/refused-memory`
 //! counts.
 #![tactic(auto)]
 
 #[cfg(test)]
-mod batches_alike;
+mod batches_equal;
 #[cfg(test)]
 mod calls_without_waiting;
 #[cfg(test)]

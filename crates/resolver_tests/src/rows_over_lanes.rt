@@ -11,7 +11,7 @@ use test_values::Unmade;
 
 // The resolver of two proxies that is given the steps of a row.
 #[derive(Drop)]
-struct Run {
+struct RowRun {
     alloc: Global,
     service: Service,
     // The stop that was met.
@@ -22,7 +22,7 @@ struct Run {
     has_missed: bool,
 }
 
-impl Run {
+impl RowRun {
     // Turns once, and returns whether it may answer so: one of these, or a stop, and then always
     // that one.
     fn turn(&mut self, expected: &[Turn]) -> bool {
@@ -68,8 +68,8 @@ impl Run {
     // Takes an answer of the step at this place, and turns once more, since a lane has room for
     // one. Returns whether it is this answer. It may be missing where its step is the one that met
     // the stop, or a later one, and then none comes any more.
-    fn take(&mut self, place: usize, told: &str) -> Result<bool, Unmade> {
-        let (proxy, expected) = numbered(told.trim_start())?;
+    fn take(&mut self, place: usize, reported: &str) -> Result<bool, Unmade> {
+        let (proxy, expected) = numbered(reported.trim_start())?;
         match self.service.take(proxy)? {
             Taken::Item(answer) => {
                 let text = text_at_last(self.alloc, &answer)?;
@@ -85,9 +85,9 @@ impl Run {
 
     fn take_each(&mut self, place: usize, answers: &str) -> Result<bool, Unmade> {
         let mut is_right = true;
-        for told in answers.split(';') {
-            if !told.is_empty() {
-                is_right &= self.take(place, told)?;
+        for reported in answers.split(';') {
+            if !reported.is_empty() {
+                is_right &= self.take(place, reported)?;
             }
         }
         Ok(is_right)
@@ -138,7 +138,7 @@ fn outcome<'a>(alloc: Global, row: &[&'a str]) -> Result<Result<Option<Stop>, &'
     let Ok(service) = Service::open(alloc, 2, 1)? else {
         return Ok(Ok(Some(Stop::Memory)));
     };
-    let mut run = Run {
+    let mut run = RowRun {
         alloc,
         service,
         stop: None,

@@ -9,7 +9,7 @@ use Rattle.keyspace.specs.Processed.{Processed}
 use Rattle.serial.specs.Commits.{IsCommitted}
 use Rattle.serial.specs.Stores.{Store, Plan, Plans, Stores, start, commit, noted, run_txn, stores_after, stores_at}
 use Rattle.serial.proofs.Reading.{some_at}
-use Rattle.serial.proofs.Steps.{maybe_txn, maybe_batch, run_txns-suc, run_txns-whole, run_batches-suc}
+use Rattle.serial.proofs.Steps.{maybe_txn, maybe_batch, run_txns-suc, run_txns-entire, run_batches-suc}
 
 -- it holds after a transaction, if it holds where that is committed
 run_txn_holds : (P : Stores → Type 0) (first : Store) (t : Txn) (verdict : Verdict) (plan : Plan) (s : Stores)
@@ -60,7 +60,7 @@ module _ (first : Store) (plans : Plans) (ps : List Processed) (P : Stores → T
   maybe_batch_holds i (Some p) at holds =
       let s = stores_after first plans (take i ps) in
       notes p.batch.version _
-      (subst P (sym (run_txns-whole first (plans i) 0 p.batch.txns p.reply.entries s))
+      (subst P (sym (run_txns-entire first (plans i) 0 p.batch.txns p.reply.entries s))
       (holds_in_batch i p at holds (length p.batch.txns)))
 
   -- so it holds after any number of batches

@@ -38,7 +38,7 @@ use Rattle.keyspace.specs.declared.reply.Entry.{Entry}
 use Rattle.keyspace.specs.declared.reply.Reply.{Reply}
 use Rattle.keyspace.specs.declared.reply.Verdict.TheVariants.{Committed}
 use Rattle.keyspace.specs.declared.answer.Answer.{Answer}
-use Rattle.keyspace.specs.declared.answer.Answer.TheVariants as told
+use Rattle.keyspace.specs.declared.answer.Answer.TheVariants as reported
 use Rattle.keyspace.specs.Processed.{Processed}
 use Rattle.keyspace.specs.Writes.{writes}
 use Rattle.keyspace.specs.Judged.{Judged}
@@ -101,10 +101,10 @@ part_at : (before after : List Step) (proxy : ℕ) (batch : Batch)
     → part (before ++ Take proxy batch ∷ after) proxy ≡ part before proxy ++ batch ∷ part after proxy
 part_at [] after proxy batch = rw (eq-eqb proxy proxy refl) refl
 part_at (Take p b ∷ before) after proxy batch =
-    let whole = part (before ++ Take proxy batch ∷ after) proxy in
+    let entire = part (before ++ Take proxy batch ∷ after) proxy in
     let parts = part before proxy in
     let more = part_at before after proxy batch in
-    elim (p == proxy) as (λ own. cond own (b ∷ whole) whole ≡ cond own (b ∷ parts) parts ++ batch ∷ part after proxy) [
+    elim (p == proxy) as (λ own. cond own (b ∷ entire) entire ≡ cond own (b ∷ parts) parts ++ batch ∷ part after proxy) [
       | true ↦ ap (λ batches. b ∷ batches) more
       | false ↦ more
     ]
@@ -138,16 +138,16 @@ module _ (window : ℤ) (log : List Step) (chains : RunsAreChains) where
 
   -- its proxy is answered with its reply
   pub each_answered : (index : ℕ) (entry : Processed) → slice_get ps index ≡ Some entry
-      → Contains (answers window log entry.proxy) (told.Reply entry.reply)
+      → Contains (answers window log entry.proxy) (reported.Reply entry.reply)
   each_answered index entry at =
-      to_proxy entry.proxy (told.Reply entry.reply) (run window log).answered
+      to_proxy entry.proxy (reported.Reply entry.reply) (run window log).answered
       ((knows_run window log).answered index entry at)
 
   -- each reply is that of one of them
   pub each_reply : (proxy : ℕ) (sent later : List Batch) → sent ≡ part log proxy ++ later → (reply : Reply)
-      → Contains (answers window log proxy) (told.Reply reply) → IsReplyTo window log proxy sent reply
+      → Contains (answers window log proxy) (reported.Reply reply) → IsReplyTo window log proxy sent reply
   each_reply proxy sent later are reply among =
-      let found = All-contains (IsOf ps proxy) (answers window log proxy) (told.Reply reply)
+      let found = All-contains (IsOf ps proxy) (answers window log proxy) (reported.Reply reply)
       (of_proxy (IsOf ps) proxy (run window log).answered (knows_run window log).replies) among in
       let index = found.0 in
       let entry = found.1 in
@@ -199,7 +199,7 @@ module _ (window : ℤ) (log : List Step) (chains : RunsAreChains) where
       record {
         reply = entry.reply;
         is_received =
-            subst (λ p. Contains (answers window log p) (told.Reply entry.reply)) is.of_proxy
+            subst (λ p. Contains (answers window log p) (reported.Reply entry.reply)) is.of_proxy
             (each_answered is.index entry is.committed.batch);
         at_version = (judged is.index entry is.committed.batch).version ∙ is.at_version;
         verdict = is.committed.verdict;

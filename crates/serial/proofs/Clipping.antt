@@ -142,14 +142,14 @@ writer_held (u ∷ ts) (e ∷ es) (suc j) key (suc l) t below there verdict h =
     (writer_held ts es j key l t (omega (arith, below)) there verdict h)
 
 -- the transactions before an index that is past the last are all
-committed-whole : (n : ℕ) (ts : List Txn) (es : List Entry) → length ts ≤ n
+committed-entire : (n : ℕ) (ts : List Txn) (es : List Entry) → length ts ≤ n
     → committed ts es ≡ committed (take n ts) (take n es)
-committed-whole zero [] es h = refl
-committed-whole (suc n) [] es h = refl
-committed-whole zero (t ∷ ts) es h = let no : ⊥ = omega (arith, h) in absurd no
-committed-whole (suc n) (t ∷ ts) [] h = refl
-committed-whole (suc n) (t ∷ ts) (e ∷ es) h =
-    ap (λ ranges. counted e.verdict t.writes ++ ranges) (committed-whole n ts es (omega (arith, h)))
+committed-entire zero [] es h = refl
+committed-entire (suc n) [] es h = refl
+committed-entire zero (t ∷ ts) es h = let no : ⊥ = omega (arith, h) in absurd no
+committed-entire (suc n) (t ∷ ts) [] h = refl
+committed-entire (suc n) (t ∷ ts) (e ∷ es) h =
+    ap (λ ranges. counted e.verdict t.writes ++ ranges) (committed-entire n ts es (omega (arith, h)))
 
 -- a test, or both another one and it, is the test
 either_of : (a b : Bool) → (b || (a && b)) ≡ b
@@ -198,11 +198,11 @@ module _ (shard : Shard) (key : List ℕ) (bytes : IsBytes key) (has : has_key s
       let long = AllZip-long (IsTxnClip shard) p.batch.txns c.batch.txns clip.txns in
       let in_all = λ (ranges : List Range). in_ranges ranges key in
       let written = written_by_clips p.batch.txns c.batch.txns p.reply.entries c.reply.entries n clip.txns says
-      (sym (ap in_all (committed-whole n p.batch.txns p.reply.entries (omega arith)))
+      (sym (ap in_all (committed-entire n p.batch.txns p.reply.entries (omega arith)))
       ∙ and_left (in_ranges ranges key) is_high both) in
       above_at_version snapshot c.batch.version key clips
       ∙ and_both (in_ranges clips key) (not (int_le c.batch.version snapshot))
-      (ap in_all (committed-whole n c.batch.txns c.reply.entries (omega (arith, long))) ∙ written)
+      (ap in_all (committed-entire n c.batch.txns c.reply.entries (omega (arith, long))) ∙ written)
       (ap (λ version. not (int_le version snapshot)) clip.version ∙ and_right (in_ranges ranges key) is_high both)
 
   -- and so it is with the writes of many batches

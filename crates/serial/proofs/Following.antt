@@ -153,9 +153,9 @@ module _ (ps : List Processed) (rise : VersionsRise ps) (snapshot : ℤ) (key : 
       ∙ none_of_both _ _ (none_above k q c.batch low k (omega arith))
       (none_above_at snapshot q.batch.version key (earlier q.batch q.reply l) low) in
       let txn_low = none_above_at snapshot q.batch.version key u.writes low in
-      let whole = sym (append-nil (writes (take i ps))) ∙ split.1 in (
+      let entire = sym (append-nil (writes (take i ps))) ∙ split.1 in (
         holding key (up_to snapshot split.0),
-        ap (λ ws. holding key (up_to snapshot ws)) whole
+        ap (λ ws. holding key (up_to snapshot ws)) entire
             ∙ ap (holding key) (filter-append is_low first (txn ++ split.0)
             ∙ ap (λ ws. up_to snapshot first ++ ws) (filter-append is_low txn split.0))
             ∙ holding-parts key (up_to snapshot first) (up_to snapshot txn) (up_to snapshot split.0)

@@ -11,7 +11,7 @@ pub mod Places
 pub mod Taking
 pub mod Answering
 pub mod Following
-pub mod Whole
+pub mod EntireChain
 pub mod OneShard
 pub mod Clipping
 pub mod ByShards

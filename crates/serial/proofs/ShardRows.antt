@@ -21,7 +21,7 @@ use Rattle.serial.specs.Commits.{holds}
 use Rattle.serial.specs.Shards.{Shard, has_key, shards, SameInShard, IsTxnClip, IsBatchClip, SaysCommitted, AreByShards}
 use Rattle.serial.specs.Stores.{in_ranges}
 use Rattle.serial.specs.RowLists.{with_verdicts}
-use Rattle.serial.specs.ShardRows.{at_m, below_m, from_m, whole, whole_below, whole_above, fewer_below, mn, ShardRows}
+use Rattle.serial.specs.ShardRows.{at_m, below_m, from_m, entire, entire_below, entire_above, fewer_below, mn, ShardRows}
 use Rattle.serial.proofs.ByShards.{none_before_empty}
 
 -- what holds of two holds of all of them
@@ -131,7 +131,7 @@ module _ (limits : Limits) where
     high_below h = outside below_m range (nothing limits) holds_none (high_apart h)
 
   -- the resolver below m processes the batches clipped to its shard
-  below_clips : AllZip (IsClipOf below_m) (run WINDOW (whole limits)).processed (run WINDOW (whole_below limits)).processed
+  below_clips : AllZip (IsClipOf below_m) (run WINDOW (entire limits)).processed (run WINDOW (entire_below limits)).processed
   below_clips =
       let xy_clip = one_range below_m (xy limits) (nothing limits) (high_below (xy limits) refl) in
       let ab_clip = one_range below_m (ab limits) (ab limits) (low_below (ab limits) refl) in
@@ -151,7 +151,7 @@ module _ (limits : Limits) where
       )
 
   -- or those without the ranges that miss its shard
-  fewer_clips : AllZip (IsClipOf below_m) (run WINDOW (whole limits)).processed (run WINDOW (fewer_below limits)).processed
+  fewer_clips : AllZip (IsClipOf below_m) (run WINDOW (entire limits)).processed (run WINDOW (fewer_below limits)).processed
   fewer_clips =
       let no_xy = omitted below_m (xy limits) [] (high_apart (xy limits) refl) in
       let ab_clip = one_range below_m (ab limits) (ab limits) (low_below (ab limits) refl) in
@@ -171,7 +171,7 @@ module _ (limits : Limits) where
       )
 
   -- and the one from m on those of its shard
-  above_clips : AllZip (IsClipOf from_m) (run WINDOW (whole limits)).processed (run WINDOW (whole_above limits)).processed
+  above_clips : AllZip (IsClipOf from_m) (run WINDOW (entire limits)).processed (run WINDOW (entire_above limits)).processed
   above_clips =
       let xy_clip = one_range from_m (xy limits) (xy limits) (high_above (xy limits) refl) in
       let ab_clip = one_range from_m (ab limits) (nothing limits) (low_above (ab limits) refl) in
@@ -229,7 +229,7 @@ module _ (limits : Limits) where
       (first : SaysCommitted 1 0 low × SaysCommitted 1 0 high) (fourth : SaysCommitted 4 0 low × SaysCommitted 4 0 high) where
     -- both shards have committed the first transaction and the last one, so the proxy may commit or reject the last
     both_say : (last : Verdict) (i j : ℕ)
-        → SaysCommitted i j (with_verdicts (Committed ∷ Committed ∷ Conflict ∷ Conflict ∷ last ∷ []) (run WINDOW (whole limits)).processed)
+        → SaysCommitted i j (with_verdicts (Committed ∷ Committed ∷ Conflict ∷ Conflict ∷ last ∷ []) (run WINDOW (entire limits)).processed)
         → All (SaysCommitted i j) (low ∷ high ∷ [])
     both_say last zero j h = absurd (none_committed j h)
     both_say last (suc zero) zero h = all_two (SaysCommitted 1 0) _ _ first.0 first.1
@@ -258,16 +258,16 @@ module _ (limits : Limits) where
 
     -- by verdicts on the four
     by_shards : (low : List Step) (last : Verdict)
-        → AllZip (IsClipOf below_m) (run WINDOW (whole limits)).processed (run WINDOW low).processed
+        → AllZip (IsClipOf below_m) (run WINDOW (entire limits)).processed (run WINDOW low).processed
         → SaysCommitted 1 0 (run WINDOW low).processed → SaysCommitted 4 0 (run WINDOW low).processed
-        → AreByShards WINDOW at_m ((run WINDOW low).processed ∷ (run WINDOW (whole_above limits)).processed ∷ [])
-        (with_verdicts (Committed ∷ Committed ∷ Conflict ∷ Conflict ∷ last ∷ []) (run WINDOW (whole limits)).processed)
+        → AreByShards WINDOW at_m ((run WINDOW low).processed ∷ (run WINDOW (entire_above limits)).processed ∷ [])
+        (with_verdicts (Committed ∷ Committed ∷ Conflict ∷ Conflict ∷ last ∷ []) (run WINDOW (entire limits)).processed)
     by_shards low last is_low first fourth =
         let verdicts = Committed ∷ Committed ∷ Conflict ∷ Conflict ∷ last ∷ [] in
-        by_two low (whole_above limits) (with_verdicts verdicts (run WINDOW (whole limits)).processed)
-        (clips_stay below_m verdicts (run WINDOW (whole limits)).processed (run WINDOW low).processed is_low)
-        (clips_stay from_m verdicts (run WINDOW (whole limits)).processed (run WINDOW (whole_above limits)).processed above_clips)
-        (both_say (run WINDOW low).processed (run WINDOW (whole_above limits)).processed (first, refl) (fourth, refl) last)
+        by_two low (entire_above limits) (with_verdicts verdicts (run WINDOW (entire limits)).processed)
+        (clips_stay below_m verdicts (run WINDOW (entire limits)).processed (run WINDOW low).processed is_low)
+        (clips_stay from_m verdicts (run WINDOW (entire limits)).processed (run WINDOW (entire_above limits)).processed above_clips)
+        (both_say (run WINDOW low).processed (run WINDOW (entire_above limits)).processed (first, refl) (fourth, refl) last)
 
     a_byte : (range : Range) → IsBytes range.begin
     a_byte range = range.begin_is_key.bytes
@@ -277,8 +277,8 @@ module _ (limits : Limits) where
       shards_clip = refl;
       shards_reject = refl;
       shards_commit = refl;
-      shards_together = by_shards (whole_below limits) Committed below_clips refl refl;
-      proxy_rejects = by_shards (whole_below limits) Conflict below_clips refl refl;
+      shards_together = by_shards (entire_below limits) Committed below_clips refl refl;
+      proxy_rejects = by_shards (entire_below limits) Conflict below_clips refl refl;
       proxy_rejects_committed = (all_two (SaysCommitted 4 0) _ _ refl refl, not_committed);
       clip_omits = record {
         snapshot = refl;
@@ -290,7 +290,7 @@ module _ (limits : Limits) where
       clip_keeps_split_point = λ h. let no = h.reads (letter 109) (a_byte (mn limits)) refl in cc;
       clip_keeps_snapshot = λ h. let no = h.snapshot in cc;
       omitting_together = by_shards (fewer_below limits) Committed fewer_clips refl refl;
-      uncut_together = by_two (whole limits) (whole limits) (run WINDOW (whole limits)).processed
-          (uncut below_m (run WINDOW (whole limits)).processed) (uncut from_m (run WINDOW (whole limits)).processed)
+      uncut_together = by_two (entire limits) (entire limits) (run WINDOW (entire limits)).processed
+          (uncut below_m (run WINDOW (entire limits)).processed) (uncut from_m (run WINDOW (entire limits)).processed)
           (λ i j says. all_two (SaysCommitted i j) _ _ says says);
     }

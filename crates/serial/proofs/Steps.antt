@@ -105,13 +105,13 @@ run_txns-suc first plan k (t ∷ ts) (e ∷ es) (suc j) s =
     (run_txns first plan (k + 1) (take j ts) (take j es) next)) at
 
 -- running as many transactions as there are is running all
-pub run_txns-whole : (first : Store) (plan : ℕ → Plan) (k : ℕ) (ts : List Txn) (es : List Entry)
+pub run_txns-entire : (first : Store) (plan : ℕ → Plan) (k : ℕ) (ts : List Txn) (es : List Entry)
     (s : Stores)
     → run_txns first plan k ts es s ≡ run_txns first plan k (take (length ts) ts) (take (length ts) es) s
-run_txns-whole first plan k [] es s = refl
-run_txns-whole first plan k (t ∷ ts) [] s = refl
-run_txns-whole first plan k (t ∷ ts) (e ∷ es) s =
-    run_txns-whole first plan (k + 1) ts es (run_txn first t e.verdict (plan k) s)
+run_txns-entire first plan k [] es s = refl
+run_txns-entire first plan k (t ∷ ts) [] s = refl
+run_txns-entire first plan k (t ∷ ts) (e ∷ es) s =
+    run_txns-entire first plan (k + 1) ts es (run_txn first t e.verdict (plan k) s)
 
 -- running one more batch is running those before it, and then the one
 pub run_batches-suc : (first : Store) (plans : Plans) (k : ℕ) (ps : List Processed) (i : ℕ) (s : Stores)

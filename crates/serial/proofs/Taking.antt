@@ -48,7 +48,7 @@ use Rattle.std.proofs.lemmas.List.Elements.{
 use Rattle.keyspace.specs.declared.batch.Batch.{Batch}
 use Rattle.keyspace.specs.declared.reply.Reply.{Reply}
 use Rattle.keyspace.specs.declared.answer.Answer.{Answer}
-use Rattle.keyspace.specs.declared.answer.Answer.TheVariants as told
+use Rattle.keyspace.specs.declared.answer.Answer.TheVariants as reported
 use Rattle.keyspace.specs.Processed.{Processed, version_of}
 use Rattle.keyspace.specs.Writes.{writes}
 use Rattle.keyspace.specs.Judge.{judge}
@@ -109,14 +109,14 @@ IsReplyOf ps proxy reply =
 
 -- so it is, if the answer to the proxy is a reply
 abbrev pub IsOf : List Processed → ℕ → Answer → Type 0
-IsOf ps proxy (told.Reply reply) = IsReplyOf ps proxy reply
-IsOf ps proxy (told.Never version) = Unit {0}
-IsOf ps proxy (told.Held version) = Unit {0}
+IsOf ps proxy (reported.Reply reply) = IsReplyOf ps proxy reply
+IsOf ps proxy (reported.Never version) = Unit {0}
+IsOf ps proxy (reported.Held version) = Unit {0}
 
 is_of_more : (ps more : List Processed) (proxy : ℕ) (a : Answer) → IsOf ps proxy a → IsOf (ps ++ more) proxy a
-is_of_more ps more proxy (told.Reply reply) h = (h.0, h.1, at_front ps more h.0 h.1 h.2, h.3, h.4)
-is_of_more ps more proxy (told.Never version) h = tt
-is_of_more ps more proxy (told.Held version) h = tt
+is_of_more ps more proxy (reported.Reply reply) h = (h.0, h.1, at_front ps more h.0 h.1 h.2, h.3, h.4)
+is_of_more ps more proxy (reported.Never version) h = tt
+is_of_more ps more proxy (reported.Held version) h = tt
 
 -- a reply that is kept for a proxy is that of an entry of the proxy
 kept_is_of : (ps : List Processed) (proxy : ℕ) (version : ℤ) (reply : Reply) → kept ps proxy version ≡ Some reply
@@ -153,7 +153,7 @@ pub record Knows (Taken : ℕ → ℕ → Batch → Type 0) (s : State) : Type 0
   pub replies : All (λ (a : ℕ × Answer). IsOf s.processed a.0 a.1) s.answered
   pub answered :
       (k : ℕ) (e : Processed) → slice_get s.processed k ≡ Some e
-      → Contains s.answered (e.proxy, told.Reply e.reply)
+      → Contains s.answered (e.proxy, reported.Reply e.reply)
 
 -- what is known by one reading of `Taken` is known by another one that follows from it
 knows_by : (Taken Other : ℕ → ℕ → Batch → Type 0) → ((n p : ℕ) (b : Batch) → Taken n p b → Other n p b) → (s : State)
@@ -180,7 +180,7 @@ module _ (Taken : ℕ → ℕ → Batch → Type 0)
     held = k.held;
     replies = All-push (AnswerOf s.processed) s.answered (p, a) k.replies is;
     answered = λ i e at.
-        Contains-append_left s.answered ((p, a) ∷ []) (e.proxy, told.Reply e.reply) (k.answered i e at);
+        Contains-append_left s.answered ((p, a) ∷ []) (e.proxy, reported.Reply e.reply) (k.answered i e at);
   }
 
   knows_hold : (p : ℕ) (b : Batch) (s : State) → Taken (length s.processed) p b → Knows Taken s
@@ -207,17 +207,17 @@ module _ (Taken : ℕ → ℕ → Batch → Type 0)
         ];
         held = All-weaker (HeldAt (length s.processed)) (HeldAt (length ps))
             (λ h held. later (length s.processed) (length ps) h.0 h.1 grown held) s.held k.held;
-        replies = All-push (AnswerOf ps) s.answered (p, told.Reply reply)
+        replies = All-push (AnswerOf ps) s.answered (p, reported.Reply reply)
             (All-weaker (AnswerOf s.processed) (AnswerOf ps) (λ a is. is_of_more s.processed (new ∷ []) a.0 a.1 is)
             s.answered k.replies)
             (length s.processed, new, at_end s.processed new [], refl, refl);
         answered = λ i e at. elim (front_or_end s.processed new i e at) [
           | inl before ↦
-              Contains-append_left s.answered ((p, told.Reply reply) ∷ []) (e.proxy, told.Reply e.reply)
+              Contains-append_left s.answered ((p, reported.Reply reply) ∷ []) (e.proxy, reported.Reply e.reply)
               (k.answered i e before)
           | inr here ↦
-              subst (λ (x : Processed). Contains (s.answered ++ (p, told.Reply reply) ∷ []) (x.proxy, told.Reply x.reply))
-              here.1 (Contains-push s.answered (p, told.Reply reply))
+              subst (λ (x : Processed). Contains (s.answered ++ (p, reported.Reply reply) ∷ []) (x.proxy, reported.Reply x.reply))
+              here.1 (Contains-push s.answered (p, reported.Reply reply))
         ];
       }
 
@@ -235,11 +235,11 @@ module _ (Taken : ℕ → ℕ → Batch → Type 0)
             ]
       ]
 
-  knows_leave_then : (go_on : State → State) (window : ℤ) → ((s : State) → Knows Taken s → Knows Taken (go_on s))
+  knows_leave_then : (continue_with : State → State) (window : ℤ) → ((s : State) → Knows Taken s → Knows Taken (continue_with s))
       → (s : State) (l : Option (Held × List Held)) → next_due (version_of s.processed) s.held ≡ l → Knows Taken s
-      → Knows Taken (leave_then go_on window s l)
-  knows_leave_then go_on window goes_on s None due k = k
-  knows_leave_then go_on window goes_on s (Some l) due k =
+      → Knows Taken (leave_then continue_with window s l)
+  knows_leave_then continue_with window continues s None due k = k
+  knows_leave_then continue_with window continues s (Some l) due k =
       let leaves = next_due_leaves.some (version_of s.processed) s.held l.0 l.1 due in
       let Here : Held → Type 0 = HeldAt (length s.processed) in
       let parts = all_without Here leaves.before l.0 leaves.after (subst (All Here) leaves.held_is k.held) in
@@ -250,7 +250,7 @@ module _ (Taken : ℕ → ℕ → Batch → Type 0)
         replies = k.replies;
         answered = k.answered;
       } in
-      goes_on _ (knows_admit window l.0.0 l.0.1 without parts.0 known)
+      continues _ (knows_admit window l.0.0 l.0.1 without parts.0 known)
 
   knows_leave : (turns : ℕ) (window : ℤ) (s : State) → Knows Taken s → Knows Taken (leave turns window s)
   knows_leave zero window s k = k
@@ -265,14 +265,14 @@ module _ (Taken : ℕ → ℕ → Batch → Type 0)
 
   knows_finish : (window : ℤ) (s : State) → Knows Taken s → Knows Taken (step window Finish s)
   knows_finish window s k =
-      let told_held : Held → ℕ × Answer = λ (h : Held). (h.0, told.Held h.1.version) in
+      let reported_held : Held → ℕ × Answer = λ (h : Held). (h.0, reported.Held h.1.version) in
       record {
         processed = k.processed;
         held = All-nil (HeldAt (length s.processed));
-        replies = All-append (AnswerOf s.processed) s.answered (map told_held s.held) k.replies
-            (All-map (AnswerOf s.processed) told_held s.held (λ i d inside. tt));
+        replies = All-append (AnswerOf s.processed) s.answered (map reported_held s.held) k.replies
+            (All-map (AnswerOf s.processed) reported_held s.held (λ i d inside. tt));
         answered = λ i e at.
-            Contains-append_left s.answered (map told_held s.held) (e.proxy, told.Reply e.reply) (k.answered i e at);
+            Contains-append_left s.answered (map reported_held s.held) (e.proxy, reported.Reply e.reply) (k.answered i e at);
       }
 
 -- The log takes the batch from the proxy when at most so many batches were processed.

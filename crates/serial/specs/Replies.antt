@@ -67,7 +67,7 @@ pub record ReportsCommitted (received : List Answer) (version : ℤ) (j : ℕ) :
 
 -- What holds of every log of the reference resolver, and of the batches that a proxy has sent: those that the log takes from it, and
 -- perhaps later ones.
-pub record AnswersTellVerdicts : Type 0 where
+pub record AnswersReportVerdicts : Type 0 where
   -- each reply is that of one processed batch, which the proxy has sent
   pub replies :
       (window : ℤ) (log : List Step) (proxy : ℕ) (sent later : List Batch) → sent ≡ part log proxy ++ later

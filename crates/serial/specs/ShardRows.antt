@@ -68,24 +68,24 @@ from_m = record { from = letter 109; to = None }
 module _ (limits : Limits) where
   -- A blind write W[x,y), and then three that read: the first R[x,y)@50 W[c,d), the second R[c,d)@150 W[b,c), the third
   -- R[b,c)@250 W[a,b).
-  abbrev pub whole : List Step
-  whole =
+  abbrev pub entire : List Step
+  entire =
       four limits (txn limits 0 false [] (xy limits ∷ []) refl)
       (txn limits 50 false (xy limits ∷ []) (cd limits ∷ []) refl)
       (txn limits 150 false (cd limits ∷ []) (bc limits ∷ []) refl)
       (txn limits 250 false (bc limits ∷ []) (ab limits ∷ []) refl)
 
   -- the same clipped to the keys below m
-  abbrev pub whole_below : List Step
-  whole_below =
+  abbrev pub entire_below : List Step
+  entire_below =
       four limits (txn limits 0 false [] (nothing limits ∷ []) refl)
       (txn limits 50 false (nothing limits ∷ []) (cd limits ∷ []) refl)
       (txn limits 150 false (cd limits ∷ []) (bc limits ∷ []) refl)
       (txn limits 250 false (bc limits ∷ []) (ab limits ∷ []) refl)
 
   -- and to the keys from m on
-  abbrev pub whole_above : List Step
-  whole_above =
+  abbrev pub entire_above : List Step
+  entire_above =
       four limits (txn limits 0 false [] (xy limits ∷ []) refl)
       (txn limits 50 false (xy limits ∷ []) (nothing limits ∷ []) refl)
       (txn limits 150 false (nothing limits ∷ []) (nothing limits ∷ []) refl)
@@ -110,22 +110,22 @@ module _ (limits : Limits) where
   -- what is resolved after that many steps
   abbrev pub resolved : ℕ → Resolved
   resolved steps = record {
-    one = verdicts_of (take steps whole);
-    below = verdicts_of (take steps whole_below);
-    above = verdicts_of (take steps whole_above);
+    one = verdicts_of (take steps entire);
+    below = verdicts_of (take steps entire_below);
+    above = verdicts_of (take steps entire_above);
   }
 
   -- what the resolvers of both shards have processed
   abbrev pub each_shard : List (List Processed)
-  each_shard = (run WINDOW whole_below).processed ∷ (run WINDOW whole_above).processed ∷ []
+  each_shard = (run WINDOW entire_below).processed ∷ (run WINDOW entire_above).processed ∷ []
 
   -- the batches as they were sent, with the verdicts of both shards together
   abbrev pub of_both : List Processed
-  of_both = with_verdicts (Committed ∷ Committed ∷ Conflict ∷ Conflict ∷ Committed ∷ []) (run WINDOW whole).processed
+  of_both = with_verdicts (Committed ∷ Committed ∷ Conflict ∷ Conflict ∷ Committed ∷ []) (run WINDOW entire).processed
 
   -- the same, but the proxy has rejected the last transaction
   abbrev pub with_rejection : List Processed
-  with_rejection = with_verdicts (Committed ∷ Committed ∷ Conflict ∷ Conflict ∷ Conflict ∷ []) (run WINDOW whole).processed
+  with_rejection = with_verdicts (Committed ∷ Committed ∷ Conflict ∷ Conflict ∷ Conflict ∷ []) (run WINDOW entire).processed
 
   pub record ShardRows : Type 0 where
     -- The clipped ranges hold, of the six keys, those of their range that lie in the shard. The ranges are [x,y), [c,d), [b,c),
@@ -162,7 +162,7 @@ module _ (limits : Limits) where
     pub clip_keeps_snapshot : ¬ IsTxnClip below_m (reads_then_cd 0 (cd limits ∷ []) refl) (reads_then_cd 1 (cd limits ∷ []) refl)
     -- so the laws of shards speak of shards whose batches omit what misses them
     pub omitting_together : AreByShards WINDOW at_m
-        ((run WINDOW fewer_below).processed ∷ (run WINDOW (whole_above)).processed ∷ []) of_both
+        ((run WINDOW fewer_below).processed ∷ (run WINDOW (entire_above)).processed ∷ []) of_both
     -- and of shards that get the batches uncut
     pub uncut_together : AreByShards WINDOW at_m
-        ((run WINDOW whole).processed ∷ (run WINDOW whole).processed ∷ []) (run WINDOW whole).processed
+        ((run WINDOW entire).processed ∷ (run WINDOW entire).processed ∷ []) (run WINDOW entire).processed

@@ -8,7 +8,7 @@ ghost use Rattle.serial.specs.Commits.{Current};
 ghost use Rattle.serial.specs.Serial.{EachIsIsolated, Serializable, InvariantsHold};
 ghost use Rattle.serial.specs.Serial.{EffectsAreSerializable, SnapshotsArePlaces, RealTime};
 ghost use Rattle.serial.specs.Serial.{IsSerializable, ChainsAreSerializable};
-ghost use Rattle.serial.specs.Replies.{AnswersTellVerdicts};
+ghost use Rattle.serial.specs.Replies.{AnswersReportVerdicts};
 ghost use Rattle.serial.specs.Shards.{OneShardEach, AreByShards};
 ghost use Rattle.serial.specs.Rows.{WorkedRows};
 
@@ -61,8 +61,8 @@ pub fn chains_are_serializable()
 
 /// Each reply is that of one processed batch, which its proxy has sent, and the transactions that
 /// replies report as committed are the committed ones.
-pub fn answers_tell_verdicts()
-    ensures tell { AnswersTellVerdicts }
+pub fn answers_report_verdicts()
+    ensures known_verdicts { AnswersReportVerdicts }
 {
     keyspace::laws::runs_are_chains();
 }

@@ -20,7 +20,7 @@ use Rattle.serial.proofs.Clipping.{CommittedAt, partner, written_by_clips, clips
 use Rattle.serial.proofs.Holding.{written_above, current_from_tests, low_from_current, none_from_current}
 use Rattle.serial.proofs.Reading.{chain_current}
 use Rattle.serial.proofs.Versions.{VersionsRise, version_up_to}
-use Rattle.serial.proofs.Whole.{serializable}
+use Rattle.serial.proofs.EntireChain.{serializable}
 use Rattle.serial.proofs.callers.Reading.{none_before_empty, some_shard, some_at}
 use Rattle.shards.specs.Laws.{IsAmong, IsOfChain, AreCombinedAmongOthers}
 use Rattle.shards.proofs.Among.{place_among, rises_among, above_among}

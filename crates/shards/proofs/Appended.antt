@@ -8,14 +8,14 @@ use Rattle.keys.specs.declared.range.Range.{Range}
 use Rattle.keys.proofs.callers.Lists.{some_at}
 use Rattle.keyspace.specs.declared.span.Span.{Span}
 use Rattle.keyspace.specs.Fields.{RangeFields, range_fields}
-use Rattle.keyspace.specs.Tables.{bytes_at, range_told, LiesWithin}
+use Rattle.keyspace.specs.Tables.{bytes_at, range_of_span, LiesWithin}
 use Rattle.keyspace.specs.Putting.{ArePut}
 use Rattle.keyspace.proofs.callers.Putting.{slice_range-append, put_then}
 use Rattle.serial.specs.Shards.{Shard}
 use Rattle.shards.specs.Clips.{goes_to}
 use Rattle.keys.specs.Key.{is_before}
 use Rattle.shards.specs.Built.{LiesAt, HasBounds, end_or_empty, clip_fields, clips_of}
-use Rattle.shards.specs.Reach.{ends_below, is_reached, IsTold}
+use Rattle.shards.specs.Reach.{ends_below, is_reached, IsReported}
 use Rattle.shards.specs.declared.reach.Reach.{Reach}
 use Rattle.shards.specs.declared.shard_tables.KeyAt.{KeyAt}
 use Rattle.shards.specs.declared.shard_tables.Bounds.{Bounds}
@@ -48,7 +48,7 @@ lies_if false buffer at key lies = tt
 
 -- The clip of a range, if what is told of its reach decides which of its keys are the ends of the shard.
 pub clip_put : (shard : Shard) (m : ℕ) (range : Range) (reach : Reach) (bounds : Bounds) (begin end : Option KeyAt)
-    (buffer new_buffer : List ℕ) (spans new_spans : List Span) → HasBounds shard m buffer bounds → IsTold shard m range reach
+    (buffer new_buffer : List ℕ) (spans new_spans : List Span) → HasBounds shard m buffer bounds → IsReported shard m range reach
     → is_reached reach m ≡ true → begin ≡ cond (nat_lt reach.first bounds.shard) (Some bounds.from) None
     → end ≡ cond (nat_lt bounds.shard reach.last) (Some bounds.to) None
     → ((from to : List ℕ) → IfSome begin (λ at. LiesAt buffer at from) → IfSome end (λ at. LiesAt buffer at to)
@@ -57,11 +57,11 @@ pub clip_put : (shard : Shard) (m : ℕ) (range : Range) (reach : Reach) (bounds
       end = cond (is_some end) to range.end;
     } ∷ []) new_buffer new_spans)
     → ArePut buffer spans (clip_fields shard range ∷ []) new_buffer new_spans
-clip_put shard m range reach bounds begin end buffer new_buffer spans new_spans has told reached is_begin is_end put =
+clip_put shard m range reach bounds begin end buffer new_buffer spans new_spans has reported reached is_begin is_end put =
     let first : nat_lt reach.first bounds.shard ≡ is_before range.begin shard.from =
-    ap (nat_lt reach.first) has.number ∙ sym told.begins in
+    ap (nat_lt reach.first) has.number ∙ sym reported.begins in
     let last : nat_lt bounds.shard reach.last ≡ ends_below shard.to range.end =
-    ap (λ (n : ℕ). nat_lt n reach.last) has.number ∙ sym (told.ends reached) in
+    ap (λ (n : ℕ). nat_lt n reach.last) has.number ∙ sym (reported.ends reached) in
     let begins : is_some begin ≡ is_before range.begin shard.from =
     ap (λ (at : Option KeyAt). is_some at) is_begin ∙ some_if (nat_lt reach.first bounds.shard) bounds.from ∙ first in
     let ends : is_some end ≡ ends_below shard.to range.end =
@@ -78,31 +78,31 @@ clip_put shard m range reach bounds begin end buffer new_buffer spans new_spans 
 
 -- the span of a range whose keys lie in the buffer is appended
 pub span_put : (buffer : List ℕ) (spans : List Span) (range : RangeFields) (span : Span) (new_spans : List Span)
-    → new_spans ≡ spans ++ span ∷ [] → LiesWithin (length buffer) span → range_told buffer span ≡ range
+    → new_spans ≡ spans ++ span ∷ [] → LiesWithin (length buffer) span → range_of_span buffer span ≡ range
     → ArePut buffer spans (range ∷ []) buffer new_spans
-span_put buffer spans range span new_spans is within told = record {
+span_put buffer spans range span new_spans is within reported = record {
   bytes = [];
   added = span ∷ [];
   buffer_is = sym (append-nil buffer);
   spans_are = is;
-  told = ap (λ fields. fields ∷ []) told;
+  reported = ap (λ fields. fields ∷ []) reported;
   within = All-cons (LiesWithin (length buffer)) span [] within (All-nil (LiesWithin (length buffer)));
 }
 
 -- spans that tell ranges tell each of them
-pub told_each : (buffer : List ℕ) (spans : List Span) (ranges : List Range) (i : ℕ) (span : Span) (range : Range)
-    → map (range_told buffer) spans ≡ map range_fields ranges → slice_get spans i ≡ Some span → slice_get ranges i ≡ Some range
-    → range_told buffer span ≡ range_fields range
-told_each buffer [] ranges i span range told at there = absurd cc
-told_each buffer (first ∷ spans) [] i span range told at there = absurd cc
-told_each buffer (first ∷ spans) (own ∷ ranges) zero span range told at there =
+pub reported_each : (buffer : List ℕ) (spans : List Span) (ranges : List Range) (i : ℕ) (span : Span) (range : Range)
+    → map (range_of_span buffer) spans ≡ map range_fields ranges → slice_get spans i ≡ Some span → slice_get ranges i ≡ Some range
+    → range_of_span buffer span ≡ range_fields range
+reported_each buffer [] ranges i span range reported at there = absurd cc
+reported_each buffer (first ∷ spans) [] i span range reported at there = absurd cc
+reported_each buffer (first ∷ spans) (own ∷ ranges) zero span range reported at there =
     let same : first ≡ span = cc in
     let same_range : own ≡ range = cc in
-    let fields : range_told buffer first ≡ range_fields own = cc in
-    subst₂ (λ s r. range_told buffer s ≡ range_fields r) same same_range fields
-told_each buffer (first ∷ spans) (own ∷ ranges) (suc i) span range told at there =
-    let others : map (range_told buffer) spans ≡ map range_fields ranges = cc in
-    told_each buffer spans ranges i span range others at there
+    let fields : range_of_span buffer first ≡ range_fields own = cc in
+    subst₂ (λ s r. range_of_span buffer s ≡ range_fields r) same same_range fields
+reported_each buffer (first ∷ spans) (own ∷ ranges) (suc i) span range reported at there =
+    let others : map (range_of_span buffer) spans ≡ map range_fields ranges = cc in
+    reported_each buffer spans ranges i span range others at there
 
 module _ (shard : Shard) (ranges : List Range) (i : ℕ) (range : Range) (inside : i < length ranges) (is : range ≡ get_or ranges i range) where
   -- the clips of one range more
@@ -131,15 +131,15 @@ module _ (shard : Shard) (ranges : List Range) (i : ℕ) (range : Range) (inside
 
 -- the range of a span, if spans tell ranges
 pub range_at : (buffer : List ℕ) (spans : List Span) (ranges : List Range) (i : ℕ) (none : Span)
-    → map (range_told buffer) spans ≡ map range_fields ranges → i < length spans
-    → (range : Range) × (slice_get ranges i ≡ Some range) × (range_told buffer (get_or spans i none) ≡ range_fields range)
-range_at buffer spans ranges i none told inside =
+    → map (range_of_span buffer) spans ≡ map range_fields ranges → i < length spans
+    → (range : Range) × (slice_get ranges i ≡ Some range) × (range_of_span buffer (get_or spans i none) ≡ range_fields range)
+range_at buffer spans ranges i none reported inside =
     let within : i < length ranges =
-    omega (arith, inside, ap length told, length-map spans (range_told buffer), length-map ranges range_fields) in
+    omega (arith, inside, ap length reported, length-map spans (range_of_span buffer), length-map ranges range_fields) in
     let range = some_at ranges i within in (
       range.0,
       range.1,
-      told_each buffer spans ranges i (get_or spans i none) range.0 told (slice_get-get_or spans i none inside) range.1,
+      reported_each buffer spans ranges i (get_or spans i none) range.0 reported (slice_get-get_or spans i none inside) range.1,
     )
 
 -- The clip of one range more is appended, if the range goes to the shard.

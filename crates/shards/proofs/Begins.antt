@@ -26,8 +26,8 @@ begins_short [] = All-nil IsShort
 begins_short (b ∷ sample) = All-append IsShort (begins_in b) (begins_of sample) (begins_in_short b) (begins_short sample)
 
 -- what holds of the keys holds behind each reference
-pub all_behind : (P : List ℕ → Type 0) (refs : List (Bor (List ℕ))) → All P (keys_of refs) → All (λ key. P key.now) refs
-all_behind P refs all k d inside =
+pub all_after : (P : List ℕ → Type 0) (refs : List (Bor (List ℕ))) → All P (keys_of refs) → All (λ key. P key.now) refs
+all_after P refs all k d inside =
     let within : k < length (keys_of refs) = omega (arith, inside, length-map refs (λ (key : Bor (List ℕ)). key.now)) in
     subst P (get_or-map (λ (key : Bor (List ℕ)). key.now) refs k d d.now inside) (all k d.now within)
 

@@ -9,7 +9,7 @@ use Rattle.keyspace.specs.declared.txn.Txn.{Txn}
 use Rattle.keyspace.specs.declared.span.Span.{Span}
 use Rattle.keyspace.specs.declared.row.Row.{Row}
 use Rattle.keyspace.specs.Fields.{TxnLimits}
-use Rattle.keyspace.specs.Tables.{LiesWithin, txns_told, AreTables}
+use Rattle.keyspace.specs.Tables.{LiesWithin, txns_of_tables, AreTables}
 use Rattle.keyspace.specs.Putting.{ArePut}
 use Rattle.keyspace.specs.BatchRanges.{ranges_in}
 use Rattle.keyspace.proofs.callers.Putting.{txn_put}
@@ -18,7 +18,7 @@ use Rattle.shards.specs.Clips.{goes_to, read_indices}
 use Rattle.shards.specs.Built.{IsProper, HasBounds, IsBuilt, clips_of, clip_txn}
 use Rattle.shards.specs.declared.shard_tables.ShardTables.{ShardTables}
 use Rattle.shards.specs.ReadIndices.{parts_from, AreEnds, AreIndices}
-use Rattle.shards.specs.Reach.{shard_at, IsTold, IsReach}
+use Rattle.shards.specs.Reach.{shard_at, IsReported, IsReach}
 use Rattle.shards.specs.declared.reach.Reach.{Reach}
 use Rattle.shards.proofs.ClipLists.{clip_limits}
 use Rattle.shards.proofs.IndexLists.{indices_appended, part_appended, places_below}
@@ -36,7 +36,7 @@ built_none shard m tables proper bounds no_spans no_rows no_indices no_ends = re
     rows_fit = refl;
     holds = All-nil TxnLimits;
   });
-  told = rw no_rows refl;
+  reported = rw no_rows refl;
   indices = rw (no_indices, no_ends) (record { ends_fit = refl; below = All-nil (λ index. index < 1024) });
   reads = rw no_ends refl;
 }
@@ -62,25 +62,25 @@ pub ranges_next : (txns : List Txn) (i : ℕ) (t : Txn) → slice_get txns i ≡
 ranges_next txns i t at = ap ranges_in (drop_next txns i t at)
 
 -- what is known of all shards is known of one
-pub told_of_shard : (points : List (List ℕ)) (m : ℕ) → m ≤ length points → (ranges : List Range) (reaches : List Reach)
-    → AllZip (IsReach points) ranges reaches → AllZip (IsTold (shard_at points m) m) ranges reaches
-told_of_shard points m within ranges reaches zipped =
-    zip_weaker (IsReach points) (IsTold (shard_at points m) m) (λ range reach is. is.each m within) ranges reaches zipped
+pub reported_of_shard : (points : List (List ℕ)) (m : ℕ) → m ≤ length points → (ranges : List Range) (reaches : List Reach)
+    → AllZip (IsReach points) ranges reaches → AllZip (IsReported (shard_at points m) m) ranges reaches
+reported_of_shard points m within ranges reaches zipped =
+    zip_weaker (IsReach points) (IsReported (shard_at points m) m) (λ range reach is. is.each m within) ranges reaches zipped
 
 module _ (shard : Shard) (proper : IsProper shard) (txns : List Txn) (t : Txn) where
   -- the tables with the clip of a transaction more
   pub clip_put : (buffer buffer₁ buffer₂ : List ℕ) (spans spans₁ spans₂ : List Span) (rows : List Row) (row : Row)
-      → AreTables buffer spans rows → txns_told buffer spans rows ≡ map (clip_txn shard) txns
+      → AreTables buffer spans rows → txns_of_tables buffer spans rows ≡ map (clip_txn shard) txns
       → ArePut buffer spans (clips_of shard t.reads) buffer₁ spans₁ → ArePut buffer₁ spans₁ (clips_of shard t.writes) buffer₂ spans₂
       → row.snapshot ≡ t.snapshot → row.marked ≡ t.marked
       → row.writes ≡ length (clips_of shard t.writes) → row.end ≡ length spans₂
       → AreTables buffer₂ spans₂ (rows ++ row ∷ [])
-      × (txns_told buffer₂ spans₂ (rows ++ row ∷ []) ≡ map (clip_txn shard) (txns ++ t ∷ []))
-  clip_put buffer buffer₁ buffer₂ spans spans₁ spans₂ rows row fit told first second snapshot marked writes end =
+      × (txns_of_tables buffer₂ spans₂ (rows ++ row ∷ []) ≡ map (clip_txn shard) (txns ++ t ∷ []))
+  clip_put buffer buffer₁ buffer₂ spans spans₁ spans₂ rows row fit reported first second snapshot marked writes end =
       let both = txn_put buffer buffer₁ buffer₂ spans spans₁ spans₂ rows row (clip_txn shard t) fit (clip_limits shard proper t)
       first second snapshot marked writes end in (
         both.0,
-        both.1 ∙ ap (λ clips. clips ++ clip_txn shard t ∷ []) told ∙ sym (map-append (clip_txn shard) txns (t ∷ [])),
+        both.1 ∙ ap (λ clips. clips ++ clip_txn shard t ∷ []) reported ∙ sym (map-append (clip_txn shard) txns (t ∷ [])),
       )
 
   -- and the indices of its read ranges
@@ -105,12 +105,12 @@ built_put shard m txns t old new buffer₁ spans₁ row built reads writes bound
     let more = read_indices shard t in
     let below : All (λ index. index < 1024) more = places_below 0 (goes_to shard) t.reads 1024 (omega (arith, t.few_reads)) in
     let tables = clip_put shard built.proper txns t old.buffer.items buffer₁ new.buffer.items old.spans.items spans₁ new.spans.items
-    old.rows.items row built.fit built.told reads writes snapshot marked writes_are end in
+    old.rows.items row built.fit built.reported reads writes snapshot marked writes_are end in
     record {
       proper = built.proper;
       bounds = bounds;
       fit = subst (AreTables new.buffer.items new.spans.items) (sym rows) tables.0;
-      told = ap (txns_told new.buffer.items new.spans.items) rows ∙ tables.1;
+      reported = ap (txns_of_tables new.buffer.items new.spans.items) rows ∙ tables.1;
       indices = subst₂ AreIndices (sym indices) (sym ends) (indices_appended old.indices.items more old.ends.items built.indices below);
       reads = ap₂ (parts_from 0) indices ends
           ∙ indices_put shard built.proper txns t old.indices.items old.ends.items built.indices.ends_fit built.reads;

@@ -5,7 +5,7 @@ use Rattle.keyspace.specs.declared.txn.Txn.{Txn}
 use Rattle.keyspace.specs.declared.span.Span.{Span}
 use Rattle.keyspace.specs.declared.row.Row.{Row}
 use Rattle.keyspace.specs.Fields.{txn_fields}
-use Rattle.keyspace.specs.Tables.{txn_told, txns_from}
+use Rattle.keyspace.specs.Tables.{txn_of_row, txns_from}
 use Rattle.keyspace.proofs.callers.Rows.{rows_rise}
 use Rattle.shards.specs.Built.{AreLeft}
 use Rattle.shards.proofs.BuiltTables.{drop_next}
@@ -27,26 +27,26 @@ first_dropped (y ∷ xs) (suc i) x rest is =
 module _ (buffer : List ℕ) (spans : List Span) where
   -- the transaction of the next row, and the rows after it
   next_kept : (from : ℕ) (row : Row) (rows : List Row) (t : Txn) (txns : List Txn) → AreLeft buffer spans from (row ∷ rows) (t ∷ txns)
-      → (txn_told buffer spans from row ≡ txn_fields t) × AreLeft buffer spans row.end rows txns
+      → (txn_of_row buffer spans from row ≡ txn_fields t) × AreLeft buffer spans row.end rows txns
       × (from + row.writes ≤ row.end) × (row.end ≤ length spans)
   next_kept from row rows t txns left =
-      let both : txn_told buffer spans from row ∷ txns_from buffer spans row.end rows ≡ txn_fields t ∷ map txn_fields txns =
-      left.told in
-      let first : txn_told buffer spans from row ≡ txn_fields t = cc in
+      let both : txn_of_row buffer spans from row ∷ txns_from buffer spans row.end rows ≡ txn_fields t ∷ map txn_fields txns =
+      left.reported in
+      let first : txn_of_row buffer spans from row ≡ txn_fields t = cc in
       let others : txns_from buffer spans row.end rows ≡ map txn_fields txns = cc in (
         first,
-        record { told = others; fit = left.fit.1 },
+        record { reported = others; fit = left.fit.1 },
         left.fit.0,
         rows_rise row.end rows (length spans) left.fit.1,
       )
 
   next_of : (from : ℕ) (rows : List Row) (txns : List Txn) (i : ℕ) (row : Row) (left : List Txn) → drop i txns ≡ left
       → AreLeft buffer spans from (row ∷ drop (i + 1) rows) left
-      → (t : Txn) × (slice_get txns i ≡ Some t) × (txn_told buffer spans from row ≡ txn_fields t)
+      → (t : Txn) × (slice_get txns i ≡ Some t) × (txn_of_row buffer spans from row ≡ txn_fields t)
       × AreLeft buffer spans row.end (drop (i + 1) rows) (drop (i + 1) txns)
       × (from + row.writes ≤ row.end) × (row.end ≤ length spans)
   next_of from rows txns i row [] is left =
-      let none : txn_told buffer spans from row ∷ txns_from buffer spans row.end (drop (i + 1) rows) ≡ [] = left.told in
+      let none : txn_of_row buffer spans from row ∷ txns_from buffer spans row.end (drop (i + 1) rows) ≡ [] = left.reported in
       absurd cc
   next_of from rows txns i row (t ∷ rest) is left =
       let parts = first_dropped txns i t rest is in
@@ -62,7 +62,7 @@ module _ (buffer : List ℕ) (spans : List Span) where
   -- the same by the index of the row
   pub next_row : (from : ℕ) (rows : List Row) (txns : List Txn) (i : ℕ) (row : Row) → slice_get rows i ≡ Some row
       → AreLeft buffer spans from (drop i rows) (drop i txns)
-      → (t : Txn) × (slice_get txns i ≡ Some t) × (txn_told buffer spans from row ≡ txn_fields t)
+      → (t : Txn) × (slice_get txns i ≡ Some t) × (txn_of_row buffer spans from row ≡ txn_fields t)
       × AreLeft buffer spans row.end (drop (i + 1) rows) (drop (i + 1) txns)
       × (from + row.writes ≤ row.end) × (row.end ≤ length spans)
   next_row from rows txns i row at left =

@@ -59,8 +59,8 @@ module _ (points : List (List ℕ)) (key : List ℕ) (count : ℕ) (first : AreF
   before_shard zero within = none_before_empty key ∙ sym (none_below_zero count)
   before_shard (suc m) within =
       let point = get_or points m [] in
-      let told = first.pass m point (slice_get-get_or points m [] (omega (arith, within))) in
-      not_not (is_before key point) (nat_lt m count) told ∙ not_below_suc m count
+      let reported = first.pass m point (slice_get-get_or points m [] (omega (arith, within))) in
+      not_not (is_before key point) (nat_lt m count) reported ∙ not_below_suc m count
 
   -- shard m ends after the key exactly if the shard of the key doesn't come after it
   pub shard_after : (m : ℕ) → m ≤ length points → ends_above (slice_get points m) key ≡ nat_le count m

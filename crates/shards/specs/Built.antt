@@ -21,7 +21,7 @@ use Rattle.keyspace.specs.declared.txn.Txn.{Txn}
 use Rattle.keyspace.specs.declared.span.Span.{Span}
 use Rattle.keyspace.specs.declared.row.Row.{Row}
 use Rattle.keyspace.specs.Fields.{RangeFields, TxnFields, txn_fields}
-use Rattle.keyspace.specs.Tables.{bytes_at, txns_from, txns_told, AreRows, AreTables}
+use Rattle.keyspace.specs.Tables.{bytes_at, txns_from, txns_of_tables, AreRows, AreTables}
 use Rattle.serial.specs.Shards.{Shard, ends_above}
 use Rattle.shards.specs.Clips.{goes_to, read_indices}
 use Rattle.shards.specs.Reach.{ends_below}
@@ -76,11 +76,11 @@ pub record IsBuilt (shard : Shard) (m : ℕ) (txns : List Txn) (tables : ShardTa
   pub proper : IsProper shard
   pub bounds : HasBounds shard m tables.buffer.items tables.bounds
   pub fit : AreTables tables.buffer.items tables.spans.items tables.rows.items
-  pub told : txns_told tables.buffer.items tables.spans.items tables.rows.items ≡ map (clip_txn shard) txns
+  pub reported : txns_of_tables tables.buffer.items tables.spans.items tables.rows.items ≡ map (clip_txn shard) txns
   pub indices : AreIndices tables.indices.items tables.ends.items
   pub reads : parts_from 0 tables.indices.items tables.ends.items ≡ map (read_indices shard) txns
 
 -- From an index of the spans on, the rows are those of these transactions.
 pub record AreLeft (buffer : List ℕ) (spans : List Span) (from : ℕ) (rows : List Row) (txns : List Txn) : Type 0 where
-  pub told : txns_from buffer spans from rows ≡ map txn_fields txns
+  pub reported : txns_from buffer spans from rows ≡ map txn_fields txns
   pub fit : AreRows from rows (length spans)

@@ -43,7 +43,7 @@ abbrev pub is_reached : Reach → ℕ → Bool
 is_reached reach m = nat_le reach.first m && nat_le m reach.last
 
 -- whether the range goes to shard m, begins before it, and ends after it
-pub record IsTold (shard : Shard) (m : ℕ) (range : Range) (reach : Reach) : Type 0 where
+pub record IsReported (shard : Shard) (m : ℕ) (range : Range) (reach : Reach) : Type 0 where
   pub goes : goes_to shard range ≡ is_reached reach m
   pub begins : is_before range.begin shard.from ≡ nat_lt reach.first m
   pub ends : IsTrue (is_reached reach m) → ends_below shard.to range.end ≡ nat_lt m reach.last
@@ -51,4 +51,4 @@ pub record IsTold (shard : Shard) (m : ℕ) (range : Range) (reach : Reach) : Ty
 -- the range goes to the shards from the first one to the last
 pub record IsReach (points : List (List ℕ)) (range : Range) (reach : Reach) : Type 0 where
   pub within : reach.last ≤ length points
-  pub each : (m : ℕ) → m ≤ length points → IsTold (shard_at points m) m range reach
+  pub each : (m : ℕ) → m ≤ length points → IsReported (shard_at points m) m range reach

@@ -3,7 +3,7 @@
 ghost use Rattle.std.specs.Prelude.{◌≡◌, ◌<◌, ◌≤◌, List, length, map, slice_get};
 ghost use Rattle.std.specs.Prelude.{IfOk, IsSomeAnd};
 ghost use Rattle.keyspace.specs.Fields.{txn_fields};
-ghost use Rattle.keyspace.specs.Tables.{txns_told, AreTables};
+ghost use Rattle.keyspace.specs.Tables.{txns_of_tables, AreTables};
 ghost use Rattle.keyspace.specs.declared.batch.TheConstants.{MAX_TXNS};
 ghost use Rattle.keyspace.specs.declared.txn.Txn.{Txn};
 ghost use Rattle.serial.specs.Shards.{shards};
@@ -52,10 +52,10 @@ fn clip_tables(
     requires within { shard < length (shards points.now) }
     requires tables { AreTables own.buffer.items own.spans.items own.rows.items }
     requires txns { (txns : List Txn)
-        × (txns_told own.buffer.items own.spans.items own.rows.items ≡ map txn_fields txns)
+        × (txns_of_tables own.buffer.items own.spans.items own.rows.items ≡ map txn_fields txns)
         × (length txns ≤ MAX_TXNS) }
     ensures built { IfOk result (λ tables. (txns : List Txn)
-        → txns_told own.buffer.items own.spans.items own.rows.items ≡ map txn_fields txns
+        → txns_of_tables own.buffer.items own.spans.items own.rows.items ≡ map txn_fields txns
         → length txns ≤ MAX_TXNS
         → IsBuilt (shard_at points.now shard) shard txns tables) }
 {

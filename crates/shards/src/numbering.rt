@@ -6,7 +6,7 @@ ghost use Rattle.keyspace.specs.BatchRanges.{ranges_in};
 ghost use Rattle.serial.specs.Shards.{Shard, shards};
 ghost use Rattle.shards.specs.Clips.{read_indices};
 ghost use Rattle.shards.specs.Numbered.{AreNumbered};
-ghost use Rattle.shards.specs.Reach.{IsTold};
+ghost use Rattle.shards.specs.Reach.{IsReported};
 
 use crate::reach::{Reach, reaches_of};
 use crate::read_indices::ReadIndices;
@@ -41,10 +41,10 @@ fn number_by(
     shard: usize,
     reaches: &[Reach],
 ) -> Result<ReadIndices, AllocError>
-    requires told { (owner : Shard)
-        × AllZip (IsTold owner shard) (ranges_in batch.now.txns) reaches.now }
+    requires reported { (owner : Shard)
+        × AllZip (IsReported owner shard) (ranges_in batch.now.txns) reaches.now }
     ensures numbered { IfOk result (λ reads. (owner : Shard)
-        → AllZip (IsTold owner shard) (ranges_in batch.now.txns) reaches.now
+        → AllZip (IsReported owner shard) (ranges_in batch.now.txns) reaches.now
         → AreNumbered owner batch.now reads) }
 {
     let mut indices = Vec::new(alloc);
@@ -68,10 +68,10 @@ fn put_numbers(
     txn: &TxnRef<'_>,
     reaches: &[Reach],
 ) -> Result<(), AllocError>
-    requires told { (owner : Shard)
-        × AllZip (IsTold owner shard) (txn.now.reads ++ txn.now.writes) reaches.now }
+    requires reported { (owner : Shard)
+        × AllZip (IsReported owner shard) (txn.now.reads ++ txn.now.writes) reaches.now }
     ensures put { OnOk result ((owner : Shard)
-        → AllZip (IsTold owner shard) (txn.now.reads ++ txn.now.writes) reaches.now
+        → AllZip (IsReported owner shard) (txn.now.reads ++ txn.now.writes) reaches.now
         → (indices.new.items ≡ indices.old.items ++ read_indices owner txn.now)
         × (ends.new.items ≡ ends.old.items
         ++ length (indices.old.items ++ read_indices owner txn.now) ∷ [])) }

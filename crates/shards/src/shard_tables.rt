@@ -12,12 +12,12 @@ ghost use Rattle.keyspace.specs.declared.txn.Txn.{Txn};
 ghost use Rattle.keyspace.specs.Fields.{range_fields, txn_fields};
 ghost use Rattle.keyspace.specs.Judge.{places_from};
 ghost use Rattle.keyspace.specs.Putting.{ArePut};
-ghost use Rattle.keyspace.specs.Tables.{bytes_at, range_told, txn_told, LiesWithin};
+ghost use Rattle.keyspace.specs.Tables.{bytes_at, range_of_span, txn_of_row, LiesWithin};
 ghost use Rattle.serial.specs.Shards.{Shard, shards};
 ghost use Rattle.shards.specs.Built.{AreLeft, LiesAt, HasBounds, IsBuilt, clip_fields, clips_of};
 ghost use Rattle.shards.specs.Clips.{goes_to, read_indices, IsClipped, IsTxnClip};
 ghost use Rattle.shards.specs.Cut.{shard_of_ends, IsCut};
-ghost use Rattle.shards.specs.Reach.{shard_at, IsTold};
+ghost use Rattle.shards.specs.Reach.{shard_at, IsReported};
 
 use crate::clipped::Clipped;
 use crate::reach::Reach;
@@ -93,11 +93,11 @@ impl ShardTables {
         requires built { (shard : Shard) × (m : ℕ) × (txns : List Txn)
             × IsBuilt shard m txns self.old
             × (length txns < MAX_TXNS)
-            × AllZip (IsTold shard m) (txn.now.reads ++ txn.now.writes) reaches.now }
+            × AllZip (IsReported shard m) (txn.now.reads ++ txn.now.writes) reaches.now }
         ensures built { OnOk result ((shard : Shard) (m : ℕ) (txns : List Txn)
             → IsBuilt shard m txns self.old
             → length txns < MAX_TXNS
-            → AllZip (IsTold shard m) (txn.now.reads ++ txn.now.writes) reaches.now
+            → AllZip (IsReported shard m) (txn.now.reads ++ txn.now.writes) reaches.now
             → IsBuilt shard m (txns ++ txn.now ∷ []) self.new) }
     {
         let (reads, writes) = reaches.split_at(txn.reads.len());
@@ -143,11 +143,11 @@ impl ShardTables {
         requires built { (m : ℕ) × (txns : List Txn) × (t : Txn)
             × IsBuilt (shard_of_ends shard.now) m txns self.old
             × (length txns < MAX_TXNS)
-            × (txn_told self.old.buffer.items spans.now from row.now ≡ txn_fields t) }
+            × (txn_of_row self.old.buffer.items spans.now from row.now ≡ txn_fields t) }
         ensures built { OnOk result ((m : ℕ) (txns : List Txn) (t : Txn)
             → IsBuilt (shard_of_ends shard.now) m txns self.old
             → length txns < MAX_TXNS
-            → txn_told self.old.buffer.items spans.now from row.now ≡ txn_fields t
+            → txn_of_row self.old.buffer.items spans.now from row.now ≡ txn_fields t
             → IsBuilt (shard_of_ends shard.now) m (txns ++ t ∷ []) self.new) }
         ensures buffer { self.new.buffer ≡ self.old.buffer }
     {
@@ -274,10 +274,10 @@ impl Bounds {
         ensures clip { (shard : Shard) (m : ℕ) (buffer : List ℕ) (range : Range)
             → HasBounds shard m buffer self.now
             → LiesWithin (length buffer) span.now
-            → range_told buffer span.now ≡ range_fields range
+            → range_of_span buffer span.now ≡ range_fields range
             → IsCut shard range cut
             → LiesWithin (length buffer) result
-            × (range_told buffer result ≡ clip_fields shard range) }
+            × (range_of_span buffer result ≡ clip_fields shard range) }
     {
         let own_begin = KeyAt {
             begin: span.begin,
@@ -319,12 +319,12 @@ fn keep_reads(
     requires few { length spans.now ≤ MAX_RANGES }
     ensures kept { OnOk result ((m : ℕ) (ranges : List Range)
         → HasBounds (shard_of_ends shard.now) m buffer.now bounds.now
-        → map (range_told buffer.now) spans.now ≡ map range_fields ranges
+        → map (range_of_span buffer.now) spans.now ≡ map range_fields ranges
         → ArePut buffer.now kept.old.items (clips_of (shard_of_ends shard.now) ranges)
         buffer.now kept.new.items) }
     ensures indices { OnOk result ((m : ℕ) (ranges : List Range)
         → HasBounds (shard_of_ends shard.now) m buffer.now bounds.now
-        → map (range_told buffer.now) spans.now ≡ map range_fields ranges
+        → map (range_of_span buffer.now) spans.now ≡ map range_fields ranges
         → indices.new.items ≡ indices.old.items
         ++ places_from 0 (goes_to (shard_of_ends shard.now)) ranges) }
 {
@@ -349,7 +349,7 @@ fn keep_writes(
     requires lie { All (LiesWithin (length buffer.now)) spans.now }
     ensures kept { OnOk result ((m : ℕ) (ranges : List Range)
         → HasBounds (shard_of_ends shard.now) m buffer.now bounds.now
-        → map (range_told buffer.now) spans.now ≡ map range_fields ranges
+        → map (range_of_span buffer.now) spans.now ≡ map range_fields ranges
         → ArePut buffer.now kept.old.items (clips_of (shard_of_ends shard.now) ranges)
         buffer.now kept.new.items) }
 {
@@ -371,7 +371,7 @@ fn keep_clip(
     requires lies { LiesWithin (length buffer.now) span.now }
     ensures kept { IfOk result (λ goes. (m : ℕ) (range : Range)
         → HasBounds (shard_of_ends shard.now) m buffer.now bounds.now
-        → range_told buffer.now span.now ≡ range_fields range
+        → range_of_span buffer.now span.now ≡ range_fields range
         → (goes ≡ goes_to (shard_of_ends shard.now) range)
         × ArePut buffer.now kept.old.items
         (if goes then clip_fields (shard_of_ends shard.now) range ∷ [] else []) buffer.now
@@ -407,7 +407,7 @@ fn put_clips(
     requires count { length reaches.now ≡ length ranges.now }
     ensures put { OnOk result ((shard : Shard) (m : ℕ)
         → HasBounds shard m buffer.old.items bounds.now
-        → AllZip (IsTold shard m) ranges.now reaches.now
+        → AllZip (IsReported shard m) ranges.now reaches.now
         → ArePut buffer.old.items spans.old.items (clips_of shard ranges.now) buffer.new.items
         spans.new.items) }
 {
@@ -494,7 +494,7 @@ pub(crate) fn put_indices(
 ) -> Result<(), AllocError>
     requires few { length reaches.now ≤ MAX_RANGES }
     ensures put { OnOk result ((owner : Shard) (ranges : List Range)
-        → AllZip (IsTold owner shard) ranges reaches.now
+        → AllZip (IsReported owner shard) ranges reaches.now
         → indices.new.items ≡ indices.old.items ++ places_from 0 (goes_to owner) ranges) }
 {
     for (index, reach) in reaches.iter().enumerate() {

@@ -15,7 +15,7 @@ use Rattle.stepmap.specs.contracts.key_bound.KeyBoundBound.TheImpl.{ghosts}
 use Rattle.stepmap.specs.declared.key_bound.KeyBound.{KeyBound}
 use Rattle.stepmap.proofs.Partitioning.{stored_partitioned}
 use Rattle.stepmap.proofs.LastFound.{some_is_below}
-use Rattle.stepmap.proofs.LastAndInside.{above_told}
+use Rattle.stepmap.proofs.LastAndInside.{above_answered}
 
 -- what the tree is asked between two bounds
 abbrev pub BoundQuestion : Type 0
@@ -30,12 +30,12 @@ abbrev pub is_below : KeyBound → ℕ → Bool
 is_below bound = slot_is_below bound.keys.now bound.up_to bound.key.now
 
 -- an item is above the number, among those that are looked at between two bounds
-abbrev pub IsToldAbove : Items → (ℕ → Bool) → (ℕ → Bool) → ℤ → Bool → Type 0
-IsToldAbove tree from to s above = IsTrue above ↔ Any (λ (x : Item). s <ℤ x.version) (from_last from (Some to) tree.items)
+abbrev pub IsAnsweredAbove : Items → (ℕ → Bool) → (ℕ → Bool) → ℤ → Bool → Type 0
+IsAnsweredAbove tree from to s above = IsTrue above ↔ Any (λ (x : Item). s <ℤ x.version) (from_last from (Some to) tree.items)
 
 -- the tree answers the question so
-abbrev pub Told : Items → BoundQuestion → Bool → Type 0
-Told tree q above = IsToldAbove tree (is_below q.from) (is_below q.to) q.version above
+abbrev pub Answered : Items → BoundQuestion → Bool → Type 0
+Answered tree q above = IsAnsweredAbove tree (is_below q.from) (is_below q.to) q.version above
 
 -- what is said of the query at a place gives more of it
 pub query_gives : {A : Type 0} (o : Option A) (P R : A → Type 0) → ((a : A) → P a → R a) → IsSomeAnd o P → IsSomeAnd o R
@@ -61,13 +61,13 @@ module _ (keys : Arena (Unit {0})) (tree : Items) (indexed : AreIndexed keys tre
   some_pass key bound at = rw (at.arena, at.side) (some_is_below keys tree indexed.stored bound.key.now)
 
   -- its answer is that of the function
-  pub told_above : AreBoundaries (boundaries_of keys tree.items) → (a : Range × ℤ) (q : BoundQuestion) (above : Bool)
-      → Asks keys a q → Told tree q above → IsTrue above ↔ Exceeds (boundaries_of keys tree.items) a
-  told_above are a q above asks told =
+  pub answered_above : AreBoundaries (boundaries_of keys tree.items) → (a : Range × ℤ) (q : BoundQuestion) (above : Bool)
+      → Asks keys a q → Answered tree q above → IsTrue above ↔ Exceeds (boundaries_of keys tree.items) a
+  answered_above are a q above asks answered =
       let begin = asks.0.begin in
       let end = asks.0.end in
       let range = a.0 in
-      let by_ends : IsToldAbove tree (slot_is_below keys true range.begin) (slot_is_below keys false range.end) a.1 above =
-      rw (begin.arena, begin.side, begin.target, end.arena, end.side, end.target, asks.1) at told in
-      let found = above_told keys tree indexed.stored range asks.0.filled are a.1 in
+      let by_ends : IsAnsweredAbove tree (slot_is_below keys true range.begin) (slot_is_below keys false range.end) a.1 above =
+      rw (begin.arena, begin.side, begin.target, end.arena, end.side, end.target, asks.1) at answered in
+      let found = above_answered keys tree indexed.stored range asks.0.filled are a.1 in
       (λ h. found.0 (by_ends.0 h), λ e. by_ends.1 (found.1 e))

@@ -90,8 +90,8 @@ module _ (range : Range) (filled : ¬ IsEmpty range) (bs : List Boundary) where
     abbrev pub left : List Boundary
     left = front ++ (kept ++ rest)
 
-    whole : bs ≡ (front ++ kept) ++ (out ++ rest)
-    whole =
+    entire : bs ≡ (front ++ kept) ++ (out ++ rest)
+    entire =
         let r = rising_in_order bs order in
         three_parts p q nested bs (parted_below range.begin bs r) (parted_below range.end bs r)
         ∙ ap (λ l. front ++ (l ++ rest)) is ∙ ap (λ l. front ++ l) (append_assoc kept out rest)
@@ -102,7 +102,7 @@ module _ (range : Range) (filled : ¬ IsEmpty range) (bs : List Boundary) where
 
     left_has : (P : Boundary → Type 0) → All P bs → All P left
     left_has P all =
-        let a = subst (All P) whole all in
+        let a = subst (All P) entire all in
         subst (All P) left_is
         (All-append P (front ++ kept) rest (All-front P (front ++ kept) (out ++ rest) a)
         (All-back P out rest (All-back P (front ++ kept) (out ++ rest) a)))
@@ -111,7 +111,7 @@ module _ (range : Range) (filled : ¬ IsEmpty range) (bs : List Boundary) where
     fewer_left some =
         omega (
           arith,
-          ap length whole,
+          ap length entire,
           length-append (front ++ kept) (out ++ rest),
           length-append out rest,
           ap length left_is,
@@ -125,7 +125,7 @@ module _ (range : Range) (filled : ¬ IsEmpty range) (bs : List Boundary) where
 
     pub left_in_order : front ++ kept ≢ [] → AreInOrder left
     left_in_order some =
-        subst AreInOrder left_is (in_order_without (front ++ kept) out rest some (subst AreInOrder whole order))
+        subst AreInOrder left_is (in_order_without (front ++ kept) out rest some (subst AreInOrder entire order))
 
     pub left_boundaries : front ++ kept ≢ [] → AreBoundaries bs → AreBoundaries left
     left_boundaries some h = record {

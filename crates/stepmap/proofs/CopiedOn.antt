@@ -6,16 +6,16 @@ use Rattle.std.proofs.lemmas.List.Elements.{All-head, All-tail, All-cons, All-ni
 use Rattle.keys.specs.Key.{IsBytes, IsKey, is_before, IsBefore, IsAtMost}
 use Rattle.keys.specs.Range.{IsEmpty}
 use Rattle.keys.specs.declared.range.Range.{Range}
-use Rattle.keys.proofs.callers.KeyHeads.{after_by_first, before_behind_first}
+use Rattle.keys.proofs.callers.KeyHeads.{after_by_first, before_after_first}
 use Rattle.keys.proofs.callers.Booleans.{not_both_ways}
 use Rattle.keys.proofs.callers.KeyOrder.{before_trans, before_at_most_same, not_before_itself, not_before_if}
 use Rattle.arena.specs.Arena.{Arena}
-use Rattle.tree.specs.Path.{behind as items_behind}
+use Rattle.tree.specs.Path.{following as items_after}
 use Rattle.tree.specs.Tree.{Items}
 use Rattle.tree.proofs.callers.Partitions.{All-back}
 use Rattle.stepmap.specs.Boundary.{Boundary, AreBoundaries, AreInOrder, RiseFrom, value_from, value_at, last_version, below, from_on}
 use Rattle.keys.specs.declared.key.TheConstants.{MAX_KEY_LENGTH}
-use Rattle.stepmap.specs.Copying.{behind, greatest_of_length, IsCopiedTo}
+use Rattle.stepmap.specs.Copying.{following, greatest_of_length, IsCopiedTo}
 use Rattle.stepmap.specs.KeyBound.{is_below_at, slot_is_below}
 use Rattle.stepmap.specs.Stored.{boundaries_of, first_key, IsStored}
 use Rattle.stepmap.specs.Writing.{closed_at, written}
@@ -38,7 +38,7 @@ not_after (suc count) (byte ∷ key) bytes short =
       | inr most ↦
           let is : byte ≡ 255 = omega (arith, All-head (λ b. b < 256) byte key bytes, most) in
           subst (λ b. is_before (255 ∷ replicate count 255) (b ∷ key) ≡ false) (sym is)
-          (before_behind_first 255 (replicate count 255) key ∙ others)
+          (before_after_first 255 (replicate count 255) key ∙ others)
     ]
 
 -- where no boundary is after a key, its value is the last version
@@ -87,8 +87,8 @@ module _ (xs : List Boundary) (b : Boundary) (ys : List Boundary) (rising : Risi
       All-append none xs (b ∷ []) (none_after b.key xs (before_middle xs b ys rising))
       (All-cons none b [] (not_before_itself b.key) (All-nil none))
 
-  pub behind_middle : behind b.key (xs ++ b ∷ ys) ≡ ys
-  behind_middle =
+  pub following_middle : following b.key (xs ++ b ∷ ys) ≡ ys
+  following_middle =
       let p = λ (x : Boundary). is_before b.key x.key in
       ap (filter p) (sym (append_assoc xs (b ∷ []) ys))
       ∙ filter-append p (xs ++ b ∷ []) ys
@@ -191,23 +191,23 @@ module _ (bs : List Boundary) (are : AreBoundaries bs) where
     count : length copy ≡ length h.before + 1
     count = ap length h.copied ∙ length-append h.before _
 
-    whole_count : length bs ≡ length h.before + suc (length h.later)
-    whole_count = ap length h.are ∙ length-append h.before _
+    entire_count : length bs ≡ length h.before + suc (length h.later)
+    entire_count = ap length h.are ∙ length-append h.before _
 
     -- the value at the key, and the boundaries after it
     pub version_here : value_at bs key ≡ h.version
     unfolding here
     version_here = ap (λ xs. value_at xs key) h.are ∙ value_middle h.before here h.later rising
 
-    pub behind_here : behind key bs ≡ h.later
+    pub after_here : following key bs ≡ h.later
     unfolding here
-    behind_here = ap (behind key) h.are ∙ behind_middle h.before here h.later rising
+    after_here = ap (following key) h.are ∙ following_middle h.before here h.later rising
 
     -- where as many are copied as there are, all are
     pub all_copied : length bs ≤ length copy → copy ≡ bs
     unfolding here
-    all_copied whole =
-        let none : h.later ≡ [] = none_if_short h.later (omega (arith, count, whole_count, whole)) in
+    all_copied entire =
+        let none : h.later ≡ [] = none_if_short h.later (omega (arith, count, entire_count, entire)) in
         let ends : bs ≡ h.before ++ here ∷ [] = h.are ∙ ap (λ ys. h.before ++ here ∷ ys) none in
         let last : last_version (negsuc 0) bs ≡ h.version =
         ap (last_version (negsuc 0)) ends ∙ last_version_of (negsuc 0) h.before here in
@@ -223,13 +223,13 @@ module _ (bs : List Boundary) (are : AreBoundaries bs) where
       pub rest : List Boundary
       pub later_is : h.later ≡ record { key = next; version = version } ∷ rest
 
-    pub has_next : length copy < length bs → (next : List ℕ) → next ≡ first_key (behind key bs) → IsNext next
+    pub has_next : length copy < length bs → (next : List ℕ) → next ≡ first_key (following key bs) → IsNext next
     has_next more next is = some h.later refl
       where
         some : (ys : List Boundary) → h.later ≡ ys → IsNext next
-        some [] none = absurd (omega (arith, more, count, whole_count, ap length none))
+        some [] none = absurd (omega (arith, more, count, entire_count, ap length none))
         some (y ∷ ys) e =
-            let same : next ≡ y.key = is ∙ ap first_key (behind_here ∙ e) in
+            let same : next ≡ y.key = is ∙ ap first_key (after_here ∙ e) in
             record {
               version = y.version;
               rest = ys;
@@ -292,8 +292,8 @@ module _ (bs : List Boundary) (are : AreBoundaries bs) where
 
         pub copied_longer : (new : List Boundary) → new ≡ written range version copy → length new ≡ length copy + 1
         copied_longer new e =
-            let whole = ap length (e ∙ written_next) ∙ length-append h.before _ in
-            omega (arith, whole, count)
+            let entire = ap length (e ∙ written_next) ∙ length-append h.before _ in
+            omega (arith, entire, count)
 
         pub copied_boundaries : (new : List Boundary) → new ≡ written range version copy → AreBoundaries new
         copied_boundaries new e =
@@ -302,9 +302,9 @@ module _ (bs : List Boundary) (are : AreBoundaries bs) where
             (written_boundaries range filled version copy (subst (λ v. negsuc 0 ≤ℤ v) (sym is) least) copy_are)
 
 -- the items behind the bound up to a key are those of the boundaries after the key
-pub behind_stored : {H : Type 0} (keys : Arena H) (tree : Items) → IsStored keys tree → (key : List ℕ)
-    → boundaries_of keys (items_behind (slot_is_below keys true key) tree.items) ≡ behind key (boundaries_of keys tree.items)
-behind_stored keys tree s key =
-    (stored_partitioned keys tree s true key).behind
+pub after_stored : {H : Type 0} (keys : Arena H) (tree : Items) → IsStored keys tree → (key : List ℕ)
+    → boundaries_of keys (items_after (slot_is_below keys true key) tree.items) ≡ following key (boundaries_of keys tree.items)
+after_stored keys tree s key =
+    (stored_partitioned keys tree s true key).following
     ∙ filter_agree (λ b. not (is_below_at true key b.key)) (λ b. is_before key b.key)
     (λ b. sym (not_not (is_before key b.key))) (boundaries_of keys tree.items)

@@ -41,10 +41,10 @@ back_grows : (t : Bool) (b : Boundary) (xs ys zs : List Boundary) → length ys 
 back_grows true b xs ys zs h = omega arith
 back_grows false b xs ys zs h = h
 
-whole_grows : (t : Bool) (b : Boundary) (xs ys zs : List Boundary) → length ys + length zs ≤ length xs
+entire_grows : (t : Bool) (b : Boundary) (xs ys zs : List Boundary) → length ys + length zs ≤ length xs
     → length ys + length zs ≤ length (cond t (b ∷ xs) xs)
-whole_grows true b xs ys zs h = omega arith
-whole_grows false b xs ys zs h = h
+entire_grows true b xs ys zs h = omega arith
+entire_grows false b xs ys zs h = h
 
 at_most_one : (t : Bool) (b : Boundary) (xs : List Boundary) → length (cond t (b ∷ xs) xs) ≤ length xs + 1
 at_most_one true b xs = omega arith
@@ -63,7 +63,7 @@ parts_count q c d l (b ∷ bs) =
       | inl t ↦ let u : is_before b.key d ≡ true = before_trans b.key c d t l in
           rw (t, u) (front_grows (q b) b xs ys zs ih)
       | inr f ↦ elim (true_or_false (is_before b.key d)) [
-        | inl u ↦ rw (f, u) (whole_grows (q b) b xs ys zs ih)
+        | inl u ↦ rw (f, u) (entire_grows (q b) b xs ys zs ih)
         | inr g ↦ rw (f, g) (back_grows (q b) b xs ys zs ih)
       ]
     ]

@@ -42,11 +42,11 @@ not_elsewhere key b h e =
     not_both_ways (is_elsewhere b.key b) (subst (λ k. is_elsewhere k b ≡ true) e h)
     (rw (not_before_itself b.key) refl)
 
-filter_whole : (p : Boundary → Bool) (bs : List Boundary) → All (λ b. p b ≡ true) bs → filter p bs ≡ bs
-filter_whole p [] a = refl
-filter_whole p (b ∷ bs) a =
+filter_entire : (p : Boundary → Bool) (bs : List Boundary) → All (λ b. p b ≡ true) bs → filter p bs ≡ bs
+filter_entire p [] a = refl
+filter_entire p (b ∷ bs) a =
     rw (All-head (λ b. p b ≡ true) b bs a)
-    (ap (λ xs. b ∷ xs) (filter_whole p bs (All-tail (λ b. p b ≡ true) b bs a)))
+    (ap (λ xs. b ∷ xs) (filter_entire p bs (All-tail (λ b. p b ≡ true) b bs a)))
 
 -- as keys rise, at most one boundary is at the key
 one_there : (key : List ℕ) (bs : List Boundary) → Rising bs
@@ -62,8 +62,8 @@ one_there key (b ∷ bs) r =
           All-weaker (λ c. IsBefore b.key c.key) (λ c. is_elsewhere key c ≡ true)
           (λ c l. or_right (is_before c.key key) (is_before key c.key)
           (subst (λ k. is_before k c.key ≡ true) e l)) bs (rise_above b.key bs r) in
-          let whole = filter_whole (is_elsewhere key) bs after in
-          rw (f, whole) (omega arith)
+          let entire = filter_entire (is_elsewhere key) bs after in
+          rw (f, entire) (omega arith)
     ]
 
 int_le_if : (a b : ℤ) → a ≤ℤ b → int_le a b ≡ true

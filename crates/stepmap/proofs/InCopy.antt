@@ -6,7 +6,7 @@ use Rattle.stepmap.specs.Boundary.{Boundary, AreBoundaries}
 use Rattle.stepmap.specs.StepMap.{Steps}
 use Rattle.stepmap.specs.Stored.{Stored}
 use Rattle.stepmap.specs.Kept.{steps_of, IsKept}
-use Rattle.stepmap.proofs.FilterTelling.{tells_alike}
+use Rattle.stepmap.proofs.FilterBounds.{determines_equal}
 
 module _ (stored later : Stored) (f : FilterState) (edge : ℤ) (ready : List (ℕ × ℕ)) (cursor : List ℕ) (round : Option ℤ)
     (limit : ℕ) (none : ready ≡ []) (same : later.boundaries ≡ stored.boundaries) where
@@ -20,7 +20,7 @@ module _ (stored later : Stored) (f : FilterState) (edge : ℤ) (ready : List (�
   pub kept_in_copy : (cursor_room : ℕ) → IsKept (steps_of stored edge ready cursor round limit) stored f cursor cursor_room
       → length later.boundaries ≤ later.room → IsKept (steps_of later edge [] cursor round limit) later f cursor cursor_room
   kept_in_copy cursor_room h within = record {
-    tells = tells_alike f (steps_of stored edge ready cursor round limit) (steps_of later edge [] cursor round limit) h.tells f
+    determines = determines_equal f (steps_of stored edge ready cursor round limit) (steps_of later edge [] cursor round limit) h.determines f
         refl same (λ key. refl);
     steps = record {
       boundaries = subst AreBoundaries (sym same) h.steps.boundaries;

@@ -4,7 +4,7 @@ use Rattle.std.specs.Prelude.{IfSome}
 use Rattle.std.specs.List.{All, Contains}
 use Rattle.std.proofs.lemmas.List.Elements.{All-contains, All-map, All-head, All-tail, All-cons, All-nil, All-weaker}
 use Rattle.arena.specs.Arena.{Arena, Records, key_at}
-use Rattle.tree.specs.Heads.{KeyBytes, KeyHeads, AreHeads, AllAreHeads, IsKnown, Begins, head_at, head_behind}
+use Rattle.tree.specs.Heads.{KeyBytes, KeyHeads, AreHeads, AllAreHeads, IsKnown, Begins, head_at, head_after}
 use Rattle.tree.specs.Item.{Item}
 use Rattle.tree.specs.Tree.{Items, tree_heads, KnowItems}
 use Rattle.tree.proofs.callers.Heads.{all_known, headed_kept}
@@ -21,29 +21,29 @@ heads_left a b prefix_len [] stay known = refl
 heads_left a b prefix_len (key ∷ keys) stay known =
     let k = All-head (IsKnown a) key keys known in
     let same = All-head (Stays a b) key keys stay k.text k.known in
-    ap₂ (λ x xs. x ∷ xs) (ap (λ o. head_behind prefix_len (unwrap_or o [])) (k.known ∙ sym same))
+    ap₂ (λ x xs. x ∷ xs) (ap (λ o. head_after prefix_len (unwrap_or o [])) (k.known ∙ sym same))
     (heads_left a b prefix_len keys (All-tail (Stays a b) key keys stay) (All-tail (IsKnown a) key keys known))
 
-begins_left : (a b : KeyBytes) (beginning keys : List ℕ) → All (Stays a b) keys → All (Begins a beginning) keys
-    → All (Begins b beginning) keys
-begins_left a b beginning [] stay begins = All-nil (Begins b beginning)
-begins_left a b beginning (key ∷ keys) stay begins =
-    let x = All-head (Begins a beginning) key keys begins in
-    All-cons (Begins b beginning) key keys
+begins_left : (a b : KeyBytes) (prefix keys : List ℕ) → All (Stays a b) keys → All (Begins a prefix) keys
+    → All (Begins b prefix) keys
+begins_left a b prefix [] stay begins = All-nil (Begins b prefix)
+begins_left a b prefix (key ∷ keys) stay begins =
+    let x = All-head (Begins a prefix) key keys begins in
+    All-cons (Begins b prefix) key keys
     (record {
       text = x.text;
       known = All-head (Stays a b) key keys stay x.text x.known;
       are_bytes = x.are_bytes;
       begins = x.begins;
     })
-    (begins_left a b beginning keys (All-tail (Stays a b) key keys stay) (All-tail (Begins a beginning) key keys begins))
+    (begins_left a b prefix keys (All-tail (Stays a b) key keys stay) (All-tail (Begins a prefix) key keys begins))
 
 key_heads_left : (a b : KeyBytes) (key_heads : KeyHeads) → All (Stays a b) key_heads.keys → AreHeads a key_heads → AreHeads b key_heads
 key_heads_left a b key_heads stay h =
     record {
-      beginning = h.beginning;
+      prefix = h.prefix;
       prefix_len = h.prefix_len;
-      begins = begins_left a b h.beginning key_heads.keys stay h.begins;
+      begins = begins_left a b h.prefix key_heads.keys stay h.begins;
       heads = h.heads ∙ heads_left a b key_heads.prefix_len key_heads.keys stay (all_known a key_heads h);
     }
 

@@ -86,8 +86,8 @@ module _ {H : Type 0} (keys : Arena H) (tree : Items) (stored : IsStored keys tr
     abbrev AboveSomewhere : Type 0
     AboveSomewhere = (key : List ℕ) × IsBytes key × Holds range key × (s <ℤ value_at bs key)
 
-    told : Any IsAbove (from_last p (Some q) tree.items) → AboveSomewhere
-    told a = elim (Any-cases IsAbove last_up_to.0 inner (subst (Any IsAbove) found_are a)) [
+    answered : Any IsAbove (from_last p (Some q) tree.items) → AboveSomewhere
+    answered a = elim (Any-cases IsAbove last_up_to.0 inner (subst (Any IsAbove) found_are a)) [
       | inl first ↦ above_by_begin range filled bs are last_up_to.0.version at_begin s first
       | inr later ↦ above_by_inside range filled bs are last_up_to.0.version at_begin s
           (subst (Any Above) (between_inside keys tree stored range.begin range.end)
@@ -106,8 +106,8 @@ module _ {H : Type 0} (keys : Arena H) (tree : Items) (stored : IsStored keys tr
         ])
 
     -- the function is above the number in the range exactly where one of them is
-    pub above_told : Any IsAbove (from_last p (Some q) tree.items) ↔ AboveSomewhere
-    above_told = (told, λ a. found a.0 a.2 a.3)
+    pub above_answered : Any IsAbove (from_last p (Some q) tree.items) ↔ AboveSomewhere
+    above_answered = (answered, λ a. found a.0 a.2 a.3)
 
   -- the greatest version of them is the greatest value in the range
   module _ (are : AreBoundaries bs) (r : ℤ) (greatest : IsGreatest (λ x. x.version) r (from_last p (Some q) tree.items)) where
@@ -125,5 +125,5 @@ module _ {H : Type 0} (keys : Arena H) (tree : Items) (stored : IsStored keys tr
         let s : ℤ = r -ℤ pos 1 in
         let near = Any-weaker (λ (x : Item). x.version ≡ r) (λ x. s <ℤ x.version) (λ x is. omega (arith, ints, is))
         (from_last p (Some q) tree.items) greatest.reached in
-        let above = told are s near in
+        let above = answered are s near in
         (above.0, above.1, above.2, omega (arith, ints, above.3, range_bound above.0 above.2))

@@ -11,25 +11,25 @@ use Rattle.keys.specs.Range.{IsEmpty}
 use Rattle.keys.specs.declared.range.Range.{Range}
 use Rattle.keys.proofs.callers.Lists.{part_more}
 use Rattle.stepmap.specs.Covers.{IsAbove}
-use Rattle.stepmap.specs.Filtering.{left_of, with_told, AreMarked}
+use Rattle.stepmap.specs.Filtering.{left_of, with_answers, AreMarked}
 use Rattle.stepmap.specs.StepMap.{Steps}
 use Rattle.stepmap.proofs.InTurn.{AllZip-append, AllZip-second, AllZip-through}
 
 module _ (Above : Range × ℤ → Type 0) where
   -- answers that are right of those that are left, and no of the others, are right of all
-  pub told_of_all : (queries : List (Range × ℤ)) (marks told : List Bool)
+  pub answered_of_all : (queries : List (Range × ℤ)) (marks answered : List Bool)
       → AllZip (λ q mark. ¬ IsTrue mark → ¬ Above q) queries marks
-      → AllZip (λ q above. IsTrue above ↔ Above q) (left_of queries marks) told
-      → AllZip (λ q above. IsTrue above ↔ Above q) queries (with_told marks told)
-  told_of_all [] [] told others left = tt
-  told_of_all [] (mark ∷ marks) told others left = absurd others
-  told_of_all (q ∷ queries) [] told others left = absurd others
-  told_of_all (q ∷ queries) (false ∷ marks) told others left =
+      → AllZip (λ q above. IsTrue above ↔ Above q) (left_of queries marks) answered
+      → AllZip (λ q above. IsTrue above ↔ Above q) queries (with_answers marks answered)
+  answered_of_all [] [] answered others left = tt
+  answered_of_all [] (mark ∷ marks) answered others left = absurd others
+  answered_of_all (q ∷ queries) [] answered others left = absurd others
+  answered_of_all (q ∷ queries) (false ∷ marks) answered others left =
       let no : ¬ Above q = others.0 (λ e. cc) in
-      ((λ e. cc, λ above. absurd (no above)), told_of_all queries marks told others.1 left)
-  told_of_all (q ∷ queries) (true ∷ marks) [] others left = absurd left
-  told_of_all (q ∷ queries) (true ∷ marks) (above ∷ told) others left =
-      (left.0, told_of_all queries marks told others.1 left.1)
+      ((λ e. cc, λ above. absurd (no above)), answered_of_all queries marks answered others.1 left)
+  answered_of_all (q ∷ queries) (true ∷ marks) [] others left = absurd left
+  answered_of_all (q ∷ queries) (true ∷ marks) (above ∷ answered) others left =
+      (left.0, answered_of_all queries marks answered others.1 left.1)
 
 -- as many are left as are marked
 pub length-left_of : (queries : List (Range × ℤ)) (marks : List Bool) → length marks ≤ length queries
@@ -108,42 +108,42 @@ module _ (m : Steps) (queries : List (Range × ℤ)) (from : ℕ) where
         (λ q place at. subst (λ o. IsSomeAnd o (λ q. ¬ IsEmpty q.0)) (sym at.0) at.1) (left_of part marks) places are.left
 
     -- answers that are right of the queries at the places are right of those that are left
-    module _ (told : List Bool)
-        (right : AllZip (λ place above. IsSomeAnd (slice_get queries place) (λ q. IsTrue above ↔ IsAbove m q.0 q.1)) places told)
+    module _ (answered : List Bool)
+        (right : AllZip (λ place above. IsSomeAnd (slice_get queries place) (λ q. IsTrue above ↔ IsAbove m q.0 q.1)) places answered)
       where
-        told_left : AllZip (λ q above. IsTrue above ↔ IsAbove m q.0 q.1) (left_of part marks) told
-        told_left = AllZip-through (λ (q : Range × ℤ) place. (slice_get queries place ≡ Some q) × (¬ IsEmpty q.0))
+        answered_left : AllZip (λ q above. IsTrue above ↔ IsAbove m q.0 q.1) (left_of part marks) answered
+        answered_left = AllZip-through (λ (q : Range × ℤ) place. (slice_get queries place ≡ Some q) × (¬ IsEmpty q.0))
             (λ place above. IsSomeAnd (slice_get queries place) (λ q. IsTrue above ↔ IsAbove m q.0 q.1))
             (λ q above. IsTrue above ↔ IsAbove m q.0 q.1)
             (λ q place above at it. subst (λ o. IsSomeAnd o (λ q. IsTrue above ↔ IsAbove m q.0 q.1)) at.0 it)
-            (left_of part marks) places told are.left right
+            (left_of part marks) places answered are.left right
 
         -- as many are told as are marked
-        pub told_many : count_by (λ mark. mark) marks ≤ length told
-        told_many = omega (
+        pub answered_many : count_by (λ mark. mark) marks ≤ length answered
+        answered_many = omega (
           arith,
           length-left_of part marks (omega (arith, long)),
-          AllZip-long _ (left_of part marks) told told_left,
+          AllZip-long _ (left_of part marks) answered answered_left,
         )
 
-        told_part : AllZip (λ q above. IsTrue above ↔ IsAbove m q.0 q.1) part (with_told marks told)
-        told_part = told_of_all (λ q. IsAbove m q.0 q.1) part marks told are.others told_left
+        answered_part : AllZip (λ q above. IsTrue above ↔ IsAbove m q.0 q.1) part (with_answers marks answered)
+        answered_part = answered_of_all (λ q. IsAbove m q.0 q.1) part marks answered are.others answered_left
 
         -- one answer a mark
-        pub length-told : length (with_told marks told) ≡ length marks
-        length-told = omega (arith, AllZip-long _ part (with_told marks told) told_part, long)
+        pub length-answered : length (with_answers marks answered) ≡ length marks
+        length-answered = omega (arith, AllZip-long _ part (with_answers marks answered) answered_part, long)
 
         -- behind answers that are right, they are right
-        pub told_behind : (answers : List Bool) → length answers ≡ from
+        pub answered_after : (answers : List Bool) → length answers ≡ from
             → AllZip (λ q above. IsTrue above ↔ IsAbove m q.0 q.1) (take from queries) answers
             → AllZip (λ q above. IsTrue above ↔ IsAbove m q.0 q.1)
-            (take (length (answers ++ with_told marks told)) queries) (answers ++ with_told marks told)
-        told_behind answers is before =
-            let count : length (answers ++ with_told marks told) ≡ from + length marks =
-            omega (arith, length-append answers (with_told marks told), length-told) in
-            subst (λ qs. AllZip (λ q above. IsTrue above ↔ IsAbove m q.0 q.1) qs (answers ++ with_told marks told))
+            (take (length (answers ++ with_answers marks answered)) queries) (answers ++ with_answers marks answered)
+        answered_after answers is before =
+            let count : length (answers ++ with_answers marks answered) ≡ from + length marks =
+            omega (arith, length-append answers (with_answers marks answered), length-answered) in
+            subst (λ qs. AllZip (λ q above. IsTrue above ↔ IsAbove m q.0 q.1) qs (answers ++ with_answers marks answered))
             (sym (ap (λ n. take n queries) count ∙ take-add from (length marks) queries))
-            (AllZip-append _ (take from queries) part answers (with_told marks told) before told_part)
+            (AllZip-append _ (take from queries) part answers (with_answers marks answered) before answered_part)
 
 -- what is put back in place of all
 pub put_back : (n : ℕ) (new old : List Bool) → n ≡ length old → length new ≡ length old

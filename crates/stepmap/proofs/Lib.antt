@@ -21,8 +21,8 @@ pub mod Changes
 pub mod Rounds
 pub mod FewBoundaries
 pub mod Preparing
-pub mod RoomTold
-pub mod Telling
+pub mod RoomAnswered
+pub mod Determining
 pub mod UnitedWrites
 pub mod WritingInTurn
 pub mod Passing
@@ -50,5 +50,5 @@ pub mod InCopy
 pub mod NextReady
 pub mod NoneReady
 pub mod SingleKeys
-pub mod FilterTelling
+pub mod FilterBounds
 pub mod LeftOpen

@@ -31,12 +31,12 @@ wanted_next (p ∷ ps) next size e =
     sum_pair (λ n. cond (size_of n == size) 1 0) p.0 p.1 (each_length ps)
     ∙ ap (λ (q : ℕ × ℕ). wanted_of (q.0 ∷ q.1 ∷ []) size + wanted_of (each_length ps) size) is
 
-part_fits : (whole next others spare : ℕ) → whole ≡ next + others → whole ≤ spare → next ≤ spare
-part_fits whole next others spare e le = omega (arith, e, le)
+part_fits : (entire next others spare : ℕ) → entire ≡ next + others → entire ≤ spare → next ≤ spare
+part_fits entire next others spare e le = omega (arith, e, le)
 
-rest_fits : (whole next others spare left : ℕ) → whole ≡ next + others → whole ≤ spare → spare ≤ left + next
+rest_fits : (entire next others spare left : ℕ) → entire ≡ next + others → entire ≤ spare → spare ≤ left + next
     → others ≤ left
-rest_fits whole next others spare left e le used = omega (arith, e, le, used)
+rest_fits entire next others spare left e le used = omega (arith, e, le, used)
 
 -- the next range's keys fit
 pub next_fits : (ready : List (ℕ × ℕ)) (next : ℕ × ℕ) (size spare : ℕ) → slice_get ready 0 ≡ Some next

@@ -5,7 +5,7 @@ use Rattle.filter.specs.Filter.{FilterState, bound}
 use Rattle.stepmap.specs.Boundary.{AreBoundaries}
 use Rattle.stepmap.specs.Stored.{Stored}
 use Rattle.stepmap.specs.Kept.{steps_of, IsKept}
-use Rattle.stepmap.proofs.FilterTelling.{tells_alike}
+use Rattle.stepmap.proofs.FilterBounds.{determines_equal}
 
 -- the memory that there is does for the boundaries themselves, also where more was taken, and for the filter
 pub kept_with_none_ready : (stored later : Stored) (f g : FilterState) (edge : ℤ) (ready : List (ℕ × ℕ)) (cursor : List ℕ)
@@ -13,9 +13,9 @@ pub kept_with_none_ready : (stored later : Stored) (f g : FilterState) (edge : �
     → IsKept (steps_of stored edge ready cursor round limit) stored f cursor cursor_room
     → later.boundaries ≡ stored.boundaries → stored.room ≤ later.room → ((key : List ℕ) → bound g key ≡ bound f key)
     → IsKept (steps_of later edge [] cursor round limit) later g cursor cursor_room
-kept_with_none_ready stored later f g edge ready cursor round limit cursor_room h same more alike = record {
-  tells = tells_alike f (steps_of stored edge ready cursor round limit) (steps_of later edge [] cursor round limit) h.tells g
-      refl same alike;
+kept_with_none_ready stored later f g edge ready cursor round limit cursor_room h same more equal = record {
+  determines = determines_equal f (steps_of stored edge ready cursor round limit) (steps_of later edge [] cursor round limit) h.determines g
+      refl same equal;
   steps = record {
     boundaries = subst AreBoundaries (sym same) h.steps.boundaries;
     round = h.steps.round;

@@ -8,12 +8,12 @@ use Rattle.arena.specs.Arena.{Arena, wanted_of, IsLive, key_at}
 use Rattle.keys.specs.Key.{IsBefore}
 use Rattle.keys.specs.Range.{IsEmpty}
 use Rattle.keys.specs.declared.range.Range.{Range}
-use Rattle.tree.specs.declared.overwrite.Written.{Written}
-use Rattle.tree.specs.declared.overwrite.Written.TheVariants.{Partly, Whole}
+use Rattle.tree.specs.declared.overwrite.OverwriteResult.{OverwriteResult}
+use Rattle.tree.specs.declared.overwrite.OverwriteResult.TheVariants.{Partly, Entirely}
 use Rattle.tree.specs.Heads.{AllAreHeads}
 use Rattle.tree.specs.Item.{Item}
-use Rattle.tree.specs.Overwrite.{Overwrites, OverwritesWhole, OverwritesPart}
-use Rattle.tree.specs.Path.{items_below, behind, between}
+use Rattle.tree.specs.Overwrite.{Overwrites, OverwritesEntire, OverwritesPart}
+use Rattle.tree.specs.Path.{items_below, following, between}
 use Rattle.tree.specs.Tree.{Items, IsLast, ended_by, tree_heads, KnowItems}
 use Rattle.stepmap.specs.Boundary.{Boundary, AreBoundaries, AreInOrder, below, from_on, value_at}
 use Rattle.stepmap.specs.KeyBound.{slot_is_below}
@@ -22,7 +22,7 @@ use Rattle.stepmap.specs.Writing.{closed_at, written_to}
 use Rattle.stepmap.proofs.Between.{nested}
 use Rattle.stepmap.proofs.Clearing.{inside, two_parts, three_parts, left, fewer_left, left_in_order, left_boundaries, left_written}
 use Rattle.stepmap.proofs.Closing.{standing_at, none_at, some_at, some_below, closed_there, closed_gap, up_to_below}
-use Rattle.stepmap.proofs.Exchanged.{partitioned_still, passing_are, behind_are, between_are, out_live, out_distinct, around_placed, now_stored, now_headed}
+use Rattle.stepmap.proofs.Exchanged.{partitioned_still, passing_are, after_are, between_are, out_live, out_distinct, around_placed, now_stored, now_headed}
 use Rattle.stepmap.proofs.LastAndInside.{last_of}
 use Rattle.stepmap.proofs.LastFound.{value_of_last}
 use Rattle.stepmap.proofs.Order.{rising_in_order}
@@ -71,8 +71,8 @@ abbrev pub unless_ended : Bool → ℕ → Option ℕ
 unless_ended ended end = if ended then None else Some end
 
 -- a last element of the rest of a list is its last one
-last_behind : {X : Type 0} (x : X) (xs ys : List X) → IsLast x ys → IsLast x (xs ++ ys)
-last_behind x xs ys last = (xs ++ last.0, ap (λ zs. xs ++ zs) last.1 ∙ sym (append_assoc xs last.0 (x ∷ [])))
+last_after : {X : Type 0} (x : X) (xs ys : List X) → IsLast x ys → IsLast x (xs ++ ys)
+last_after x xs ys last = (xs ++ last.0, ap (λ zs. xs ++ zs) last.1 ∙ sym (append_assoc xs last.0 (x ∷ [])))
 
 -- both keys are placed
 module _ {H : Type 0} (old : Arena H) (tree : Items) (stored : IsStored old tree) (range : Range)
@@ -100,7 +100,7 @@ module _ {H : Type 0} (old : Arena H) (tree : Items) (stored : IsStored old tree
   middle = between (Some from) (Some to) tree.items
 
   abbrev rest : List Item
-  rest = behind to tree.items
+  rest = following to tree.items
 
   ordered : IsBefore range.begin range.end
   ordered = begins_before_end range filled
@@ -127,7 +127,7 @@ module _ {H : Type 0} (old : Arena H) (tree : Items) (stored : IsStored old tree
   middle_are = between_are old tree stored ready all placed false false range.begin range.end
 
   rest_are : boundaries_of old rest ≡ from_on range.end bs
-  rest_are = behind_are old tree stored ready all placed false range.end
+  rest_are = after_are old tree stored ready all placed false range.end
 
   -- some item comes before the range's end
   pub some_before : items_below to tree.items ≢ []
@@ -157,8 +157,8 @@ module _ {H : Type 0} (old : Arena H) (tree : Items) (stored : IsStored old tree
     kept : List Item
     parts : AreParted tree.items kept run
 
-  whole_partitioned : (run : List Item) → run ≡ middle → AreParted tree.items (front ++ rest) run
-  whole_partitioned run is =
+  entire_partitioned : (run : List Item) → run ≡ middle → AreParted tree.items (front ++ rest) run
+  entire_partitioned run is =
       subst (λ ms. AreParted tree.items (front ++ rest) ms) (sym is)
       (subst (λ items. AreParted items (front ++ rest) middle) (sym items_are) (middle_goes front middle rest))
 
@@ -172,14 +172,14 @@ module _ {H : Type 0} (old : Arena H) (tree : Items) (stored : IsStored old tree
       subst (λ items. AreParted items ((front ++ kept) ++ rest) run) (sym (part_is kept run is))
       (middle_goes (front ++ kept) run rest)
 
-  module _ (first : Item) (given : Option ℤ) (written : Written) (run : List Item) (next : Items)
+  module _ (first : Item) (given : Option ℤ) (written : OverwriteResult) (run : List Item) (next : Items)
       (h : Overwrites from to past first end given written run tree.items next.items) where
     run_partitioned : GoesOut run
     run_partitioned = by_written written h
       where
-        by_written : (written : Written) → Overwrites from to past first end given written run tree.items next.items
+        by_written : (written : OverwriteResult) → Overwrites from to past first end given written run tree.items next.items
             → GoesOut run
-        by_written (Whole ended) h = record { kept = front ++ rest; parts = whole_partitioned run h.run_is }
+        by_written (Entirely ended) h = record { kept = front ++ rest; parts = entire_partitioned run h.run_is }
         by_written (Partly last) h = record { kept = (front ++ h.kept) ++ rest; parts = part_partitioned h.kept run h.run_is }
 
     pub run_was_live : All (λ x. IsLive old x.key) run
@@ -197,12 +197,12 @@ module _ {H : Type 0} (old : Arena H) (tree : Items) (stored : IsStored old tree
   -- the range is written over
   module _ (given : Option ℤ) (value : w ≡ unwrap_or given (value_at bs range.end)) (ended : Bool) (run : List Item)
       (next : Items)
-      (h : OverwritesWhole from to past (item_at (at_begin range v w slot)) end given ended run tree.items next.items) where
+      (h : OverwritesEntire from to past (item_at (at_begin range v w slot)) end given ended run tree.items next.items) where
     abbrev ps : List Placed
     ps = both range v w slot (unless_ended ended end)
 
-    ended_told : IsEndedBy range v w slot (unless_ended ended end) bs
-    ended_told = by_test ended h.ended_is
+    ended_answered : IsEndedBy range v w slot (unless_ended ended end) bs
+    ended_answered = by_test ended h.ended_is
       where
         xs : List Item
         xs = between (Some to) (Some past) tree.items
@@ -227,7 +227,7 @@ module _ {H : Type 0} (old : Arena H) (tree : Items) (stored : IsStored old tree
     next_are =
         let last = last_of (items_below to tree.items) some_before in
         h.written last.0 last.1
-        ∙ ap (λ xs. front ++ (item_at (at_begin range v w slot) ∷ xs ++ rest)) (second_is ended ended_told last.0 last.1)
+        ∙ ap (λ xs. front ++ (item_at (at_begin range v w slot) ∷ xs ++ rest)) (second_is ended ended_answered last.0 last.1)
       where
         second_is : (t : Bool) → IsEndedBy range v w slot (unless_ended t end) bs
             → (last : Item) → IsLast last (items_below to tree.items)
@@ -239,27 +239,27 @@ module _ {H : Type 0} (old : Arena H) (tree : Items) (stored : IsStored old tree
             (ap (unwrap_or given) (value_before last is gap) ∙ sym value)
 
     module _ (final : Arena H) (put : ArePlaced old final (slots_of run) ps) where
-      whole_parts : AreParted tree.items (front ++ rest) run
-      whole_parts = whole_partitioned run h.run_is
+      entire_parts : AreParted tree.items (front ++ rest) run
+      entire_parts = entire_partitioned run h.run_is
 
-      pub whole_boundaries : boundaries_of final next.items ≡ written_to range v w bs
-      whole_boundaries =
+      pub entire_boundaries : boundaries_of final next.items ≡ written_to range v w bs
+      entire_boundaries =
           ap (boundaries_of final) next_are
-          ∙ around_placed old tree stored (front ++ rest) run whole_parts final ps put front rest refl
+          ∙ around_placed old tree stored (front ++ rest) run entire_parts final ps put front rest refl
           ∙ ap₂ (λ xs ys. xs ++ (map boundary_at ps ++ ys)) front_are rest_are
-          ∙ written_at_once range v w slot bs stored.in_order (unless_ended ended end) ended_told
+          ∙ written_at_once range v w slot bs stored.in_order (unless_ended ended end) ended_answered
 
-      pub whole_indexed : KnowItems next → AllAreHeads (key_at ready) (tree_heads next) → AreIndexed final next
-      whole_indexed know headed =
+      pub entire_indexed : KnowItems next → AllAreHeads (key_at ready) (tree_heads next) → AreIndexed final next
+      entire_indexed know headed =
           let made : AreParted next.items (front ++ rest) (map item_at ps) =
           subst (λ items. AreParted items (front ++ rest) (map item_at ps)) (sym next_are)
           (middle_goes front (map item_at ps) rest) in
           record {
             stored =
-                now_stored old tree stored (front ++ rest) run whole_parts final ps put next made
-                (subst AreInOrder (sym whole_boundaries) (written_in_order range filled v w bs stored.in_order));
+                now_stored old tree stored (front ++ rest) run entire_parts final ps put next made
+                (subst AreInOrder (sym entire_boundaries) (written_in_order range filled v w bs stored.in_order));
             headed =
-                now_headed old tree stored (front ++ rest) run whole_parts final ps put next made ready all placed
+                now_headed old tree stored (front ++ rest) run entire_parts final ps put next made ready all placed
                 (with_key ended) know headed;
           }
         where
@@ -296,7 +296,7 @@ module _ {H : Type 0} (old : Arena H) (tree : Items) (stored : IsStored old tree
         let x = last_of run h.some in
         h.last_is x.0 x.1
         ∙ value_before x.0 (subst (IsLast x.0) (sym (before_end ∙ ap (λ ms. front ++ ms) h.run_is))
-        (last_behind x.0 front (h.kept ++ run) (last_behind x.0 h.kept run x.1))) gap
+        (last_after x.0 front (h.kept ++ run) (last_after x.0 h.kept run x.1))) gap
 
     module _ (final : Arena H) (none : ArePlaced old final (slots_of run) []) where
       part_parts : AreParted tree.items ((front ++ h.kept) ++ rest) run

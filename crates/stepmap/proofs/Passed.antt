@@ -4,9 +4,9 @@ use Rattle.std.specs.Prelude.{ℤ, IsSome, MatchOption}
 use Rattle.std.proofs.lemmas.Bool.{ne_eqb}
 use Rattle.std.proofs.lemmas.List.Elements.{All-head, All-tail, All-cons, All-nil, filter_agree}
 use Rattle.arena.specs.Arena.{Arena}
-use Rattle.tree.specs.declared.entry.Entry.{Entry}
+use Rattle.tree.specs.declared.entry.NodeEntry.{NodeEntry}
 use Rattle.tree.specs.Item.{Item, item_of}
-use Rattle.tree.specs.Path.{IsPartitioned, items_below, behind, first_key as first_slot}
+use Rattle.tree.specs.Path.{IsPartitioned, items_below, following, first_key as first_slot}
 use Rattle.tree.specs.Tree.{Items, IsLast}
 use Rattle.keys.specs.Key.{is_before}
 use Rattle.keys.proofs.callers.Booleans.{true_or_false}
@@ -73,7 +73,7 @@ module _ {H : Type 0} (keys : Arena H) where
     pub partitioned : IsPartitioned (λ x. slot_is_below keys up_to key x.key) items
     pub passed : boundaries_of keys (items_below (slot_is_below keys up_to key) items)
         ≡ passed_to cursor (boundaries_of keys items)
-    pub left : boundaries_of keys (behind (slot_is_below keys up_to key) items)
+    pub left : boundaries_of keys (following (slot_is_below keys up_to key) items)
         ≡ left_from cursor (boundaries_of keys items)
     pub some : items_below (slot_is_below keys up_to key) items ≢ []
 
@@ -90,14 +90,14 @@ module _ {H : Type 0} (keys : Arena H) where
       record {
         partitioned = c.partitioned;
         passed = passed;
-        left = c.behind
+        left = c.following
             ∙ filter_agree (λ b. not (is_below_at up_to key b.key)) (is_left cursor)
             (λ b. ap not (at b) ∙ sym (not_not (is_left cursor b))) bs;
         some = λ none. some_passed cursor bs s.in_order (sym passed ∙ ap (boundaries_of keys) none);
       }
 
   -- there is a last one that passes
-  pub is_some : (o : Option Entry) (items : List Item) → items ≢ []
+  pub is_some : (o : Option NodeEntry) (items : List Item) → items ≢ []
       → MatchOption o (items ≡ []) (λ e. IsLast (item_of e) items) → IsSome o
   is_some None items some m = absurd (some m)
   is_some (Some e) items some m = refl

@@ -61,10 +61,10 @@ none_at [] filled e = refl
 none_at (b ∷ bs) filled e = absurd (All-head (λ b. b.key ≢ []) b bs filled e)
 
 -- where it isn't, the round goes on there
-goes_on : (edge : ℤ) (bs : List Boundary) (cursor : List ℕ) → cursor ≡ first_key bs → cursor ≢ []
+continues : (edge : ℤ) (bs : List Boundary) (cursor : List ℕ) → cursor ≡ first_key bs → cursor ≢ []
     → (round_at edge bs ≡ Some (record { cursor = cursor; edge = edge })) × (0 < length bs)
-goes_on edge [] cursor e later = absurd (later e)
-goes_on edge (b ∷ bs) cursor e later =
+continues edge [] cursor e later = absurd (later e)
+continues edge (b ∷ bs) cursor e later =
     (ap (λ (k : List ℕ). Some (record { cursor = k; edge = edge })) (sym e), omega arith)
 
 module _ (m : Steps) (count : ℕ) (new : List Boundary) (cursor : List ℕ)
@@ -108,7 +108,7 @@ module _ (m : Steps) (count : ℕ) (new : List Boundary) (cursor : List ℕ)
   unfolding unseen
   stopped_map later =
       swept_to (Some (record { cursor = cursor; edge = round_edge m.edge m.round }))
-      (goes_on (round_edge m.edge m.round) unseen cursor h.cursor later).0
+      (continues (round_edge m.edge m.round) unseen cursor h.cursor later).0
 
   pub stopped_rest : cursor ≢ [] → count < rest m
   unfolding unseen
@@ -116,7 +116,7 @@ module _ (m : Steps) (count : ℕ) (new : List Boundary) (cursor : List ℕ)
       omega (
         arith,
         length-drop count (left_from (cursor_of m.round) m.boundaries),
-        (goes_on (round_edge m.edge m.round) unseen cursor h.cursor later).1,
+        (continues (round_edge m.edge m.round) unseen cursor h.cursor later).1,
       )
 
 -- what a test tells whether there is no byte

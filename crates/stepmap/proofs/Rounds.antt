@@ -60,8 +60,8 @@ front_steps m h = record { boundaries = h.boundaries; round = tt; within = h.wit
 pub front_rooted : (m : Steps) (ws : List Write) → Rooted m ws → Rooted (at_front m) ws
 front_rooted m ws r = record { each = r.each; passed = tt }
 
-pub whole_round : (m : Steps) → AreSteps m → after_sweep (length m.boundaries) (at_front m) ≡ after_round m
-whole_round m h =
+pub entire_round : (m : Steps) → AreSteps m → after_sweep (length m.boundaries) (at_front m) ≡ after_round m
+entire_round m h =
     let o = h.boundaries.in_order in
     let left = left_from [] m.boundaries in
     let n = length m.boundaries in
@@ -75,7 +75,7 @@ whole_round m h =
 
 pub round_keeps : (m : Steps) → AreSteps m → SweepKeeps (length m.boundaries) (at_front m) (after_round m)
 round_keeps m h =
-    sweep_keeps (length m.boundaries) (at_front m) (front_steps m h) (after_round m) (sym (whole_round m h))
+    sweep_keeps (length m.boundaries) (at_front m) (front_steps m h) (after_round m) (sym (entire_round m h))
 
 pub round_ends : (m : Steps) → AreSteps m → (ws : List Write) → Rooted m ws
     → Ends (after_round m).boundaries ws m.edge

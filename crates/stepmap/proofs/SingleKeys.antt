@@ -18,8 +18,8 @@ before_by_first x y a b less =
     ap (λ o. is_lt (ordering_then o (slice_cmp nat_cmp a b))) (sym (nat_cmp_is x y Less less))
 
 -- behind equal first bytes the others decide
-before_behind_first : (x : ℕ) (a b : List ℕ) → is_before (x ∷ a) (x ∷ b) ≡ is_before a b
-before_behind_first x a b =
+before_after_first : (x : ℕ) (a b : List ℕ) → is_before (x ∷ a) (x ∷ b) ≡ is_before a b
+before_after_first x a b =
     ap (λ o. is_lt (ordering_then o (slice_cmp nat_cmp a b))) (sym (nat_cmp_is x x Equal refl))
 
 not_both_before : (a b : List ℕ) → IsBefore a b → IsBefore b a → ⊥
@@ -36,7 +36,7 @@ squeezed [] (y ∷ key) at_most before =
     elim (cases_order y 0) [
       | inl e ↦ absurd
           (none_before_empty key
-          (sym (before_behind_first 0 key []) ∙ subst (λ z. IsBefore (z ∷ key) (0 ∷ [])) e before))
+          (sym (before_after_first 0 key []) ∙ subst (λ z. IsBefore (z ∷ key) (0 ∷ [])) e before))
       | inr apart ↦ elim apart [
         | inl below ↦ absurd (omega arith)
         | inr above ↦ absurd (not_both_before (y ∷ key) (0 ∷ []) before (before_by_first 0 y [] key above))
@@ -50,7 +50,7 @@ squeezed (x ∷ a) (y ∷ key) at_most before =
           let before : IsBefore (y ∷ key) (y ∷ a ++ 0 ∷ []) =
           subst (λ z. IsBefore (y ∷ key) (z ∷ a ++ 0 ∷ [])) e before in
           ap (λ rest. y ∷ rest)
-          (squeezed a key (rw before_behind_first at at_most) (rw before_behind_first at before))
+          (squeezed a key (rw before_after_first at at_most) (rw before_after_first at before))
           ∙ ap (λ z. z ∷ a) (sym e)
       | inr apart ↦ elim apart [
         | inl below ↦ absurd

@@ -53,17 +53,17 @@ module _ (edge : ℤ) (cursor : List ℕ) (old : List Boundary) where
         record { n = 0; sum = omega arith; within = omega arith; is = parted_left cursor old (rising_in_order old o); last = b; next = k }
 
     -- where the sweep goes on
-    pub record GoesOn (n : ℕ) (at : List ℕ) : Type 0 where
+    pub record Continues (n : ℕ) (at : List ℕ) : Type 0 where
       pub first : Boundary
       pub others : List Boundary
       pub unseen_are : unseen edge cursor n old ≡ first ∷ others
       pub stands : Stands edge cursor n old first others
       pub at_first : at ≡ first.key
 
-    goes_on : (n : ℕ) (at : List ℕ) → at ≢ [] → at ≡ first_key (unseen edge cursor n old) → GoesOn n at
-    goes_on n at later next = of_unseen (unseen edge cursor n old) refl
+    continues : (n : ℕ) (at : List ℕ) → at ≢ [] → at ≡ first_key (unseen edge cursor n old) → Continues n at
+    continues n at later next = of_unseen (unseen edge cursor n old) refl
       where
-        of_unseen : (us : List Boundary) → unseen edge cursor n old ≡ us → GoesOn n at
+        of_unseen : (us : List Boundary) → unseen edge cursor n old ≡ us → Continues n at
         of_unseen [] e = absurd (later (next ∙ ap first_key e))
         of_unseen (b ∷ bs) e = record {
           first = b;
@@ -79,7 +79,7 @@ module _ (edge : ℤ) (cursor : List ℕ) (old : List Boundary) where
 
       pub first_there : at ≢ [] → Any (λ b. b.key ≡ at) now
       first_there later =
-          let g = goes_on s.n at later s.next in
+          let g = continues s.n at later s.next in
           let front = passed_to cursor old ++ unexpired edge (last_passed edge cursor s.n old) (looked edge cursor s.n old) in
           subst (Any (λ b. b.key ≡ at)) (sym (s.is ∙ g.stands.is))
           (Any-right (λ b. b.key ≡ at) front (g.first ∷ g.others)
@@ -88,7 +88,7 @@ module _ (edge : ℤ) (cursor : List ℕ) (old : List Boundary) where
       -- what a run looks at is the part that is left
       pub left_here : at ≢ [] → left_from at now ≡ unseen edge cursor s.n old
       left_here later =
-          let g = goes_on s.n at later s.next in
+          let g = continues s.n at later s.next in
           let front = passed_to cursor old ++ unexpired edge (last_passed edge cursor s.n old) (looked edge cursor s.n old) in
           ap (left_from at) (s.is ∙ g.stands.is) ∙ ap (λ k. left_from k (front ++ g.first ∷ g.others)) g.at_first
           ∙ left_middle g.first front g.others g.stands.before g.stands.after g.stands.filled ∙ sym g.unseen_are
@@ -96,7 +96,7 @@ module _ (edge : ℤ) (cursor : List ℕ) (old : List Boundary) where
       pub passed_here : at ≢ [] → passed_to at now
           ≡ passed_to cursor old ++ unexpired edge (last_passed edge cursor s.n old) (looked edge cursor s.n old)
       passed_here later =
-          let g = goes_on s.n at later s.next in
+          let g = continues s.n at later s.next in
           let front = passed_to cursor old ++ unexpired edge (last_passed edge cursor s.n old) (looked edge cursor s.n old) in
           ap (passed_to at) (s.is ∙ g.stands.is) ∙ ap (λ k. passed_to k (front ++ g.first ∷ g.others)) g.at_first
           ∙ passed_middle g.first front g.others g.stands.before g.stands.after g.stands.filled

@@ -13,7 +13,7 @@ use Rattle.keys.proofs.callers.KeyOrder.{not_before_if}
 use Rattle.tree.specs.declared.expiring.Removal.{Removal}
 use Rattle.tree.specs.Heads.{AllAreHeads}
 use Rattle.tree.specs.Item.{Item}
-use Rattle.tree.specs.Path.{IsPartitioned, items_below, behind}
+use Rattle.tree.specs.Path.{IsPartitioned, items_below, following}
 use Rattle.tree.specs.Expire.{RemovesExpired}
 use Rattle.tree.specs.Tree.{Items, unexpired as unexpired_items, tree_heads, KnowItems}
 use Rattle.tree.proofs.callers.Partitions.{All-back}
@@ -118,7 +118,7 @@ module _ {H : Type 0} (keys : Arena H) where
       -- the last item below the bound is that boundary's
       module _ (front : List Item) (first : Item) (passing_are : items_below p tree.items ≡ front ++ first ∷ []) where
         abbrev rest : List Item
-        rest = behind p tree.items
+        rest = following p tree.items
 
         items_are : tree.items ≡ front ++ first ∷ rest
         items_are = key_is_partitioned ∙ ap (λ xs. xs ++ rest) passing_are ∙ append_assoc front (first ∷ []) rest
@@ -205,10 +205,10 @@ module _ {H : Type 0} (keys : Arena H) where
         pub next_has : (P : ℕ → Type 0) → All (λ x. P x.key) tree.items → IfSome unexpired_by.next P
         next_has P all =
             let Has = λ (x : Item). P x.key in
-            let behind_has = All-back Has h.front (h.first ∷ behind p tree.items)
+            let after_has = All-back Has h.front (h.first ∷ following p tree.items)
             (subst (All Has) (items_are h.front h.first h.front_is) all) in
             subst (λ o. IfSome o P) (sym h.next_is)
-            (first_has keys P h.rest (All-back Has h.looked h.rest (subst (All Has) h.looked_is behind_has)))
+            (first_has keys P h.rest (All-back Has h.looked h.rest (subst (All Has) h.looked_is after_has)))
 
         pub next_bytes : unwrap_or (option_map (bytes_at keys) unexpired_by.next) []
             ≡ first_boundary (drop n (left_from key bs))

@@ -80,7 +80,7 @@ module _ (united ranges : List Range) (u : Unites united ranges) where
       (λ b f n. end_there ws version edge b.key (f n)) bs ends
 
 -- writes of united ranges tell what writes of the ranges would
-pub record UnitedTell (united ranges : List Range) : Type 0 where
+pub record UnitedDetermine (united ranges : List Range) : Type 0 where
   pub covers :
       (m : Steps) (ws : List Write) (version : ℤ) → MapCovers m (ws ++ at_version version united) →
       MapCovers m (ws ++ at_version version ranges)
@@ -92,8 +92,8 @@ pub record UnitedTell (united ranges : List Range) : Type 0 where
       → Ends bs (ws ++ at_version version united) edge →
       Ends bs (ws ++ at_version version ranges) edge
 
-pub uniting_tells : (united ranges : List Range) → Unites united ranges → UnitedTell united ranges
-uniting_tells united ranges u = record {
+pub uniting_determines : (united ranges : List Range) → Unites united ranges → UnitedDetermine united ranges
+uniting_determines united ranges u = record {
   covers = λ m ws version covers key bytes s le.
       let P : Write → Type 0 = λ w. Holds w.range key × (s <ℤ w.version) in
       let c = covers key bytes s le in

@@ -17,7 +17,7 @@ use Rattle.stepmap.specs.Rooted.{Ends, Rooted}
 use Rattle.stepmap.specs.Uniting.{Unites}
 use Rattle.stepmap.specs.Laws.{IsWriting, MayBeNext, IsWritten, ApartWriteInTurn}
 use Rattle.stepmap.proofs.Changes.{write_keeps}
-use Rattle.stepmap.proofs.UnitedWrites.{uniting_tells}
+use Rattle.stepmap.proofs.UnitedWrites.{uniting_determines}
 
 -- what is left from an element on, and what comes before the next
 at_next : (rs : List Range) (k : ℕ) (r : Range) → slice_get rs k ≡ Some r → drop k rs ≡ r ∷ drop (suc k) rs
@@ -139,12 +139,12 @@ module _ (united : List Range) (version : ℤ) (apart : AreApart united) where
       → IsWriting united version (length united) before now → Unites united ranges
       → IsWritten ranges version before now
   all_written ranges before now w u =
-      let tell = uniting_tells united ranges u in
+      let determine = uniting_determines united ranges u in
       record {
-        covers = λ ws covers. tell.covers now ws version
+        covers = λ ws covers. determine.covers now ws version
             (subst (MapCovers now) (all_writes ws) (w.covers ws covers));
-        rooted = λ ws r. tell.rooted now ws version (subst (Rooted now) (all_writes ws) (w.rooted ws r));
-        ends = λ ws edge le ends. tell.ends now.boundaries ws version edge
+        rooted = λ ws r. determine.rooted now ws version (subst (Rooted now) (all_writes ws) (w.rooted ws r));
+        ends = λ ws edge le ends. determine.ends now.boundaries ws version edge
             (subst (λ vs. Ends now.boundaries vs edge) (all_writes ws) (w.ends ws edge le ends));
       }
 
@@ -153,5 +153,5 @@ apart_write_in_turn united version apart = record {
   start = starts united version apart;
   next = next_one united version apart;
   step = one_more united version apart;
-  whole = all_written united version apart;
+  entire = all_written united version apart;
 }

@@ -10,8 +10,8 @@ use Rattle.stepmap.specs.Covers.{IsAbove}
 use Rattle.stepmap.specs.StepMap.{Steps}
 
 -- where the function is above a number at or above the edge, so is the bound of the key
-abbrev pub FilterTells : FilterState → Steps → Type 0
-FilterTells f m =
+abbrev pub BoundsSteps : FilterState → Steps → Type 0
+BoundsSteps f m =
     (key : List ℕ) → IsBytes key → (s : ℤ) → m.edge ≤ℤ s → s <ℤ value_at m.boundaries key → s <ℤ bound f key
 
 -- a bound of the range: if this is a single key, the function isn't above any number from the bound and the edge on
@@ -26,11 +26,11 @@ left_of (q ∷ queries) [] = []
 left_of (q ∷ queries) (mark ∷ marks) = if mark then q ∷ left_of queries marks else left_of queries marks
 
 -- the answers instead of the marks, in order
-abbrev pub with_told : List Bool → List Bool → List Bool
-with_told [] told = []
-with_told (false ∷ marks) told = false ∷ with_told marks told
-with_told (true ∷ marks) [] = true ∷ with_told marks []
-with_told (true ∷ marks) (above ∷ told) = above ∷ with_told marks told
+abbrev pub with_answers : List Bool → List Bool → List Bool
+with_answers [] answered = []
+with_answers (false ∷ marks) answered = false ∷ with_answers marks answered
+with_answers (true ∷ marks) [] = true ∷ with_answers marks []
+with_answers (true ∷ marks) (above ∷ answered) = above ∷ with_answers marks answered
 
 -- The queries from this index on are marked, as many as there are marks. The function isn't above the version of one that
 -- isn't. The others are at these places, and their ranges aren't empty.

@@ -6,7 +6,7 @@ use Rattle.keys.specs.declared.key.TheConstants.{MAX_KEY_LENGTH}
 use Rattle.stepmap.specs.StepMap.{Round, Steps, AreSteps}
 use Rattle.stepmap.specs.Stored.{Stored, spare_in, each_length}
 use Rattle.stepmap.specs.Sweeping.{cursor_of}
-use Rattle.stepmap.specs.Filtering.{FilterTells}
+use Rattle.stepmap.specs.Filtering.{BoundsSteps}
 
 -- the round under way, of the cursor and the edge that are kept
 abbrev pub round_of : List ℕ → Option ℤ → Option Round
@@ -26,7 +26,7 @@ steps_of stored edge ready cursor round limit = record {
 -- there is room for what is to come, and the filter tells
 pub record IsKept (m : Steps) (stored : Stored) (beside : FilterState) (cursor : List ℕ) (cursor_room : ℕ) : Type 0 where
   pub steps : AreSteps m
-  pub tells : FilterTells beside m
+  pub determines : BoundsSteps beside m
   -- for two boundaries of each range that may be written
   pub boundaries : length m.boundaries + 2 * length m.ready ≤ stored.room
   pub keys : HasRoomFor (spare_in stored) (each_length m.ready)

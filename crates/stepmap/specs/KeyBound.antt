@@ -20,9 +20,9 @@ not_if false h = refl
 
 in_order : (up_to : Bool) (key text : List ℕ) → IsBelowInOrder text key (is_below_at up_to key text)
 in_order true key text =
-    record { before = λ h. before_at_most_same text key h; behind = λ h. ap not h }
+    record { before = λ h. before_at_most_same text key h; following = λ h. ap not h }
 in_order false key text =
-    record { before = λ h. h; behind = λ h. not_if (is_before text key) (before_at_most_same key text h) }
+    record { before = λ h. h; following = λ h. not_if (is_before text key) (before_at_most_same key text h) }
 
 -- whether the key of a slot comes before the bound goes by its bytes
 pub is_below_in_order : {H : Type 0} (keys : Arena H) (up_to : Bool) (key : List ℕ) (slot : ℕ) (text : List ℕ)

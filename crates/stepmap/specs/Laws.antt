@@ -34,14 +34,14 @@ use Rattle.stepmap.specs.Uniting.{Unites}
 
 -- where the map covers the writes, and the number is at or above the edge, the function is above it at some key of
 -- the range exactly if some write above it meets the range
-abbrev pub TellsHits : Type 0
-TellsHits =
+abbrev pub DeterminesHits : Type 0
+DeterminesHits =
     (m : Steps) (ws : List Write) (range : Range) (s : ℤ) → MapCovers m ws → m.edge ≤ℤ s →
     IsAbove m range s ↔ Any (λ w. Meets range w.range × (s <ℤ w.version)) ws
 
 -- the greatest value in a range is above a number exactly if the function is, at some key of the range
-abbrev pub GreatestTells : Type 0
-GreatestTells =
+abbrev pub GreatestDetermines : Type 0
+GreatestDetermines =
     (m : Steps) (range : Range) (greatest s : ℤ) →
     ((key : List ℕ) → Holds range key → value_at m.boundaries key ≤ℤ greatest) →
     (key : List ℕ) × IsBytes key × Holds range key × (value_at m.boundaries key ≡ greatest) →
@@ -114,7 +114,7 @@ pub record WritesInTurn (united : List Range) (version : ℤ) : Type 0 where
       slice_get united done ≡ Some range → later ≡ after_write range version now →
       IsWriting united version (done + 1) before later
   -- where all are, so are those ranges that they unite
-  pub whole :
+  pub entire :
       (ranges : List Range) (before now : Steps) → IsWriting united version (length united) before now →
       Unites united ranges → IsWritten ranges version before now
 

@@ -25,7 +25,7 @@ use keys::{HashedRange, Range};
 use std::alloc::{AllocError, Global};
 use std::array;
 use std::marker::Model;
-use tree::{Entry, Overwrite, SIDE, Tree, Written, item};
+use tree::{NodeEntry, Overwrite, OverwriteResult, SIDE, Tree, item};
 
 // The boundaries of a step function, in the order of their keys, the empty key first. Contracts see
 // them, and for how many more there is memory.
@@ -37,7 +37,7 @@ pub struct Boundaries<const N: usize> {
     pub tree: Tree<N>,
     // The tree puts the entries that it removes here: empty between calls. It is a field since a
     // new one for each write would be cleared each time.
-    pub taken: ArrayVec<Entry, N>,
+    pub taken: ArrayVec<NodeEntry, N>,
     ghost none_taken: { taken.items ≡ [] },
 }
 
@@ -254,13 +254,13 @@ impl<const N: usize> Boundaries<N> {
         let written = self.tree.overwrite(&new, &mut self.taken);
         release_run(&mut self.keys, &mut self.taken);
         match written {
-            Written::Whole { ended } => {
+            OverwriteResult::Entirely { ended } => {
                 if ended {
                     self.keys.release(end_key);
                 }
                 None
             }
-            Written::Partly { last } => {
+            OverwriteResult::Partly { last } => {
                 self.keys.release(begin_key);
                 self.keys.release(end_key);
                 Some(at_end.unwrap_or(last))

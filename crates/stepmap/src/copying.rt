@@ -5,7 +5,7 @@ ghost use Rattle.std.specs.Prelude.{IfOk, OnOk};
 ghost use Rattle.keys.specs.Key.{IsKey};
 ghost use Rattle.keys.specs.declared.key.TheConstants.{MAX_KEY_LENGTH};
 ghost use Rattle.stepmap.specs.Boundary.{AreBoundaries, last_version, value_at};
-ghost use Rattle.stepmap.specs.Copying.{behind, greatest_of_length, IsCopiedTo};
+ghost use Rattle.stepmap.specs.Copying.{following, greatest_of_length, IsCopiedTo};
 ghost use Rattle.stepmap.specs.Stored.{first_key};
 ghost use Rattle.stepmap.specs.declared.step_map.TheConstants.{MAX_LIMIT};
 
@@ -86,7 +86,7 @@ impl<const N: usize> Boundaries<N> {
         ensures any_from { OnOk result (MAX_KEY_LENGTH ≤ vec_capacity from.new) }
         ensures any_to { OnOk result (MAX_KEY_LENGTH ≤ vec_capacity to.new) }
     {
-        let version = self.look_behind(from, to);
+        let version = self.look_past(from, to);
         copy.reserve(&[KeyLengths::of(RangeRef::new(from, to))])?;
         copy.write(&HashedRange::of(RangeRef::new(from, to)), version);
         mem::swap(from, to);
@@ -95,11 +95,11 @@ impl<const N: usize> Boundaries<N> {
 
     // Returns the version at the key, and moves `next` to the key of the first boundary after it,
     // or empties it if there is none.
-    fn look_behind(&self, key: &[u8], next: &mut Vec<u8>) -> i64
+    fn look_past(&self, key: &[u8], next: &mut Vec<u8>) -> i64
         requires keys { All (λ b. IsKey b.key) self.now.boundaries }
         requires any_key { MAX_KEY_LENGTH ≤ vec_capacity next.old }
         ensures version { result ≡ value_at self.now.boundaries key.now }
-        ensures next { next.new.items ≡ first_key (behind key.now self.now.boundaries) }
+        ensures next { next.new.items ≡ first_key (following key.now self.now.boundaries) }
         ensures capacity { MAX_KEY_LENGTH ≤ vec_capacity next.new }
     {
         let bound = KeyBound {

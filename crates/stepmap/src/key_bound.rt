@@ -6,7 +6,7 @@ ghost use Rattle.stepmap.specs.Stored.{bytes_at};
 ghost use Rattle.stepmap.specs.KeyBound.{slot_is_below, is_below_in_order};
 
 use arena::{Arena, Slot};
-use keys::{common_prefix_len, head_behind};
+use keys::{common_prefix_len, head_after};
 use std::cmp::Ordering;
 use tree::Bound;
 
@@ -39,11 +39,11 @@ impl<'a> Bound for KeyBound<'a> {
     }
 
     fn head(&self, prefix_len: usize) -> u32 {
-        first_four(head_behind(self.key, prefix_len))
+        first_four(head_after(self.key, prefix_len))
     }
 
     fn head_of(&self, slot: Slot, prefix_len: usize) -> u32 {
-        first_four(head_behind(bytes_of(self.keys, slot), prefix_len))
+        first_four(head_after(bytes_of(self.keys, slot), prefix_len))
     }
 
     fn is_empty(&self, slot: Slot) -> bool {

@@ -1,15 +1,15 @@
 //! Laws of step maps and lists of writes, each the contract of a function that does nothing. The
 //! layer above cites these, and needs no lemmas about boundaries.
 
-ghost use Rattle.stepmap.specs.Laws.{TellsHits, GreatestTells};
+ghost use Rattle.stepmap.specs.Laws.{DeterminesHits, GreatestDetermines};
 ghost use Rattle.stepmap.specs.Laws.{FewBoundaries, CountedAlong};
 ghost use Rattle.stepmap.specs.Laws.{ApartWriteInTurn, UpToLater};
 
 /// The function exceeds a number in a range exactly if a write above that number overlaps the
 /// range.
 pub fn hits()
-    ensures exceeds { TellsHits }
-    ensures greatest { GreatestTells }
+    ensures exceeds { DeterminesHits }
+    ensures greatest { GreatestDetermines }
 {}
 
 /// There are at most two boundaries for each live write, and one. Ranges written at or above the

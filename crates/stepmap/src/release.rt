@@ -8,10 +8,10 @@ ghost use Rattle.tree.specs.Item.{item_of};
 
 use arena::Arena;
 use arrayvec::ArrayVec;
-use tree::Entry;
+use tree::NodeEntry;
 
 // Releases the keys of entries that were taken out of a tree, and leaves none.
-pub fn release_run<const N: usize>(keys: &mut Arena<()>, taken: &mut ArrayVec<Entry, N>)
+pub fn release_run<const N: usize>(keys: &mut Arena<()>, taken: &mut ArrayVec<NodeEntry, N>)
     requires live { All (λ x. IsLive keys.old x.key) (map item_of taken.old.items) }
     requires distinct { IsDistinct nat_eq (map (λ x. x.key) (map item_of taken.old.items)) }
     ensures none { taken.new.items ≡ [] }
@@ -26,7 +26,7 @@ pub fn release_run<const N: usize>(keys: &mut Arena<()>, taken: &mut ArrayVec<En
 }
 
 // Releases the keys of entries that were taken out of a tree.
-fn release(keys: &mut Arena<()>, entries: &[Entry])
+fn release(keys: &mut Arena<()>, entries: &[NodeEntry])
     requires live { All (λ e. IsLive keys.old e.key) entries.now }
     requires distinct { IsDistinct nat_eq (map (λ e. e.key) entries.now) }
     ensures others { (slot : ℕ) → ¬ Contains (map (λ e. e.key) entries.now) slot

@@ -40,7 +40,7 @@ impl<const N: usize> Boundaries<N> {
         ensures spare { (size : ℕ) → spare_in self.old size ≤ spare_in self.new size }
         ensures room { self.new.room ≡ self.old.room }
     {
-        let mut before = self.go_on(cursor);
+        let mut before = self.resume(cursor);
         let mut left = count;
         while left > 0 && !cursor.is_empty() {
             let looked = self.remove_expired(cursor, left, edge, before);
@@ -60,7 +60,7 @@ impl<const N: usize> Boundaries<N> {
 
     // Moves the cursor to the first boundary that is left, or empties it if there is none. Returns
     // the version of the one before.
-    pub fn go_on(&self, cursor: &mut Vec<u8>) -> i64
+    pub fn resume(&self, cursor: &mut Vec<u8>) -> i64
         requires keys { All (λ b. IsKey b.key) self.now.boundaries }
         requires any_key { MAX_KEY_LENGTH ≤ vec_capacity cursor.old }
         ensures version { result ≡ last_version (negsuc 0)

@@ -8,19 +8,19 @@ use std::test::Fail;
 
 // The two ends of a lane.
 #[derive(Drop)]
-struct Ends {
+struct LaneEnds {
     port: Port<u32>,
     intake: Intake<u32>,
     ghost same_lane: { SameLane port intake },
 }
 
-impl Ends {
+impl LaneEnds {
     fn new(alloc: Global, capacity: usize) -> Result<Self, LaneError>
         requires some { 0 < capacity }
         requires limit { capacity ≤ MAX_CAPACITY }
     {
         let (port, intake) = lane(alloc, capacity)?;
-        Ok(Ends { port, intake })
+        Ok(LaneEnds { port, intake })
     }
 
     // Makes the call and returns its answer.
@@ -59,7 +59,7 @@ fn answers(alloc: Global, capacity: usize, calls: &str) -> Result<String, Fail>
     requires some { 0 < capacity }
     requires limit { capacity ≤ MAX_CAPACITY }
 {
-    let mut ends = Ends::new(alloc, capacity)?;
+    let mut ends = LaneEnds::new(alloc, capacity)?;
     let mut answers = String::new(alloc);
     for call in calls.split_whitespace() {
         answers.push_str(ends.call(alloc, call)?.as_str())?;

@@ -1,6 +1,6 @@
 //! The worked rows of the step map, and a growth that is refused.
 
-use crate::written::{Written, shows};
+use crate::written::{WrittenModel, shows};
 use keyspace::Range;
 use std::alloc::Global;
 use std::process::Abort;
@@ -12,7 +12,7 @@ use test_values::range;
 fn put(
     rt: &impl Abort,
     alloc: Global,
-    written: &mut Written,
+    written: &mut WrittenModel,
     (begin, end): (&str, &str),
     version: i64,
     before: &str,
@@ -24,8 +24,8 @@ fn put(
 }
 
 // [a,d) written at 100, then [b,c) at 200.
-fn two_writes(rt: &impl Abort, alloc: Global) -> Result<Written, StepError> {
-    let mut written = Written::new(alloc, MAX_LIMIT)?;
+fn two_writes(rt: &impl Abort, alloc: Global) -> Result<WrittenModel, StepError> {
+    let mut written = WrittenModel::new(alloc, MAX_LIMIT)?;
     let before = "=-1 a=-1 d=-1";
     put(rt, alloc, &mut written, ("a", "d"), 100, before)?;
     let before = "=-1 a=100 b=100 c=100 d=-1";
@@ -88,14 +88,14 @@ fn paced_sweep_after_write(rt: HostRuntime) -> Result<(), Fail> {
 }
 
 // Returns whether the limit refuses the range, and leaves the boundaries of [a,b).
-fn is_full(written: &mut Written, range: &Range) -> bool {
+fn is_full(written: &mut WrittenModel, range: &Range) -> bool {
     written.prepare(range) == Err(StepError::Full) && has(written.map(), 3, "a=100")
 }
 
 // Prepares for the range once the edge is raised. Before, the limit refuses it.
 fn prepare_after_raise(
     rt: &impl Abort,
-    written: &mut Written,
+    written: &mut WrittenModel,
     range: &Range,
 ) -> Result<(), StepError> {
     assert!(rt; is_full(written, range));
@@ -104,14 +104,18 @@ fn prepare_after_raise(
 }
 
 // Writes [a,b), and prepares for [c,d).
-fn write_and_prepare(rt: &impl Abort, alloc: Global, written: &mut Written) -> Result<(), Fail> {
+fn write_and_prepare(
+    rt: &impl Abort,
+    alloc: Global,
+    written: &mut WrittenModel,
+) -> Result<(), Fail> {
     put(rt, alloc, written, ("a", "b"), 100, "")?;
     Ok(prepare_after_raise(rt, written, &range(alloc, b"c", b"d")?)?)
 }
 
 #[test]
 fn limit_three_step_map(rt: HostRuntime) -> Result<(), Fail> {
-    let mut written = Written::new(rt.alloc(), 3)?;
+    let mut written = WrittenModel::new(rt.alloc(), 3)?;
     write_and_prepare(&rt, rt.alloc(), &mut written)?;
     assert!(rt; has(written.map(), 1, ""));
     Ok(())

@@ -11,7 +11,7 @@ use stepmap::{KeyLengths, MAX_LIMIT, StepError, StepMap, SweepEnd};
 
 /// A step map, with its edge, and the version that was written last: none in the map is above it.
 #[derive(Drop)]
-pub struct Written {
+pub struct WrittenModel {
     map: StepMap,
     edge: i64,
     version: i64,
@@ -19,14 +19,14 @@ pub struct Written {
     ghost newest: { AreUpTo version map.boundaries },
 }
 
-impl Written {
+impl WrittenModel {
     /// Makes the function that is -1 everywhere.
     pub fn new(alloc: Global, limit: usize) -> Result<Self, StepError>
         requires least { 1 ≤ limit }
         requires most { limit ≤ MAX_LIMIT }
     {
         let map = StepMap::new(alloc, limit)?;
-        Ok(Written {
+        Ok(WrittenModel {
             map,
             edge: 0,
             version: -1,

@@ -1,7 +1,7 @@
 -- Whether a version is above another, of items and of the entries for them.
 use Rattle.std.proofs.Common.{◌≡◌, Bool, true, List, map, IsTrue, ◌↔◌, All, Any, int_le, arith, ℤ, ◌<ℤ◌, ◌≤ℤ◌, w64, SFits, to_z, of_z}
 use Rattle.std.proofs.lemmas.Int.{ints, to_z-of_z}
-use Rattle.tree.proofs.Words.{Entry, Item, item_of}
+use Rattle.tree.proofs.Words.{NodeEntry, Item, item_of}
 use Rattle.tree.proofs.GreatestParts.{Bounds}
 use Rattle.keys.proofs.callers.SomeElement.{Any-map, Any-unmap}
 
@@ -21,8 +21,8 @@ module _ (v : ℤ) where
   not_above w items bound le a = let lt : v <ℤ a.1.version = a.4 in omega (arith, ints, le, rw a.3 at (bound a.0 a.1 a.2), lt)
 
   -- what the code answers of entries, where these are the items
-  pub leaf_above : (b : Bool) (whole : List Item) (es : List Entry) → whole ≡ map item_of es
-      → (IsTrue b ↔ Any (λ e. v <ℤ e.version) es) → (IsTrue b ↔ IsAbove whole)
-  leaf_above b whole es e h =
+  pub leaf_above : (b : Bool) (entire : List Item) (es : List NodeEntry) → entire ≡ map item_of es
+      → (IsTrue b ↔ Any (λ e. v <ℤ e.version) es) → (IsTrue b ↔ IsAbove entire)
+  leaf_above b entire es e h =
       let P = λ (x : Item). v <ℤ x.version in
       rw e ((λ t. Any-map item_of P es (h.0 t)), (λ a. h.1 (Any-unmap item_of P es a)))

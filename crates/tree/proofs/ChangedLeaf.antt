@@ -2,11 +2,11 @@
 use Rattle.std.proofs.Common.{◌≡◌, ℕ, ◌∙◌, Bool, List, [], ◌∷◌, Option, None, Some, refl, arith}
 use Rattle.std.proofs.lemmas.Option.{IfSome_then}
 use Rattle.arena.specs.Arena.{Arena, IsLive, header_at, with_header}
-use Rattle.tree.specs.declared.entry.Entry.{Entry}
+use Rattle.tree.specs.declared.entry.NodeEntry.{NodeEntry}
 use Rattle.tree.specs.declared.node.Node.{Node}
-use Rattle.tree.specs.declared.walk.Outcome.{Outcome}
+use Rattle.tree.specs.declared.walk.LeafOutcome.{LeafOutcome}
 use Rattle.tree.specs.declared.walk.RaisedLeaf.{RaisedLeaf}
-use Rattle.tree.specs.declared.walk.Outcome.TheVariants.{Same, Raised, Changed}
+use Rattle.tree.specs.declared.walk.LeafOutcome.TheVariants.{Same, Raised, Changed}
 use Rattle.tree.specs.Finding.{CanFind, CanStep}
 use Rattle.tree.specs.Heads.{KeyBytes, AllAreHeads, AreHeads}
 use Rattle.tree.specs.Node.{key_heads_of, all_heads_of}
@@ -57,7 +57,7 @@ put_stored {N} {bytes} old slot node live keyless all headed =
     }
 
 -- A leaf that is stored, and its right neighbour if it is split.
-pub leaf_stored : {N : ℕ} {bytes : KeyBytes} {old new : Arena (Node N)} {slot : ℕ} (outcome : Outcome) → CanChange old 0 slot
+pub leaf_stored : {N : ℕ} {bytes : KeyBytes} {old new : Arena (Node N)} {slot : ℕ} (outcome : LeafOutcome) → CanChange old 0 slot
     → IsStored bytes old new slot (added_by outcome) → (outcome ≡ Same → new ≡ old)
     → ((leaf : RaisedLeaf) → outcome ≡ Raised leaf → IsRaisedAt old new 0 slot leaf) → IsChanged bytes old new 0 slot outcome
 leaf_stored {N} {bytes} {old} {new} {slot} outcome can stored same raised = record {
@@ -76,7 +76,7 @@ leaf_stored {N} {bytes} {old} {new} {slot} outcome can stored same raised = reco
 
 -- A leaf that is changed where it lies, where nothing is told of its first key.
 pub leaf_changed : {N : ℕ} {bytes : KeyBytes} {is_below : ℕ → Bool} {target : List ℕ} {Wants : List Item → Type 0}
-    {nodes : Arena (Node N)} {slot : ℕ} {common_prefix_len : Option ℕ} {taken : List Entry} (node : Node N)
+    {nodes : Arena (Node N)} {slot : ℕ} {common_prefix_len : Option ℕ} {taken : List NodeEntry} (node : Node N)
     → CanChangeLeaf bytes is_below target Wants nodes 0 slot common_prefix_len taken → AreHeads bytes (key_heads_of node)
     → IsChanged bytes nodes (with_header nodes slot node) 0 slot Changed
 leaf_changed node can headed =
@@ -86,7 +86,7 @@ leaf_changed node can headed =
 
 -- In a leaf that may be changed, and that was read, the bound can be sought.
 pub leaf_can_step : {N : ℕ} {bytes : KeyBytes} {is_below : ℕ → Bool} {target : List ℕ} {Wants : List Item → Type 0}
-    {nodes : Arena (Node N)} {slot : ℕ} {common_prefix_len : Option ℕ} {taken : List Entry} {leaf : Node N}
+    {nodes : Arena (Node N)} {slot : ℕ} {common_prefix_len : Option ℕ} {taken : List NodeEntry} {leaf : Node N}
     → CanChangeLeaf bytes is_below target Wants nodes 0 slot common_prefix_len taken → header_at nodes slot ≡ Some leaf
     → CanStep bytes is_below target leaf common_prefix_len
 leaf_can_step {N} {bytes} {is_below} {target} {Wants} {nodes} {slot} {common_prefix_len} {taken} {leaf} can header =
@@ -102,12 +102,12 @@ leaf_can_step {N} {bytes} {is_below} {target} {Wants} {nodes} {slot} {common_pre
 
 -- So can another bound, of keys that have the same bytes, that goes through items of which the leaf's are a part.
 pub leaf_can_find : {N : ℕ} {bytes : KeyBytes} {is_below : ℕ → Bool} {leaf : Node N} (nodes : Arena (Node N)) (slot : ℕ)
-    → CanFind bytes is_below leaf → (near : KeyBytes) (other : ℕ → Bool) → ((key : ℕ) → near key ≡ bytes key)
-    → header_at nodes slot ≡ Some leaf → IsPartOfPartitioned other (items_in nodes 0 slot) → CanFind near other leaf
-leaf_can_find {N} {bytes} {is_below} {leaf} nodes slot can near other same header part =
+    → CanFind bytes is_below leaf → (hint : KeyBytes) (other : ℕ → Bool) → ((key : ℕ) → hint key ≡ bytes key)
+    → header_at nodes slot ≡ Some leaf → IsPartOfPartitioned other (items_in nodes 0 slot) → CanFind hint other leaf
+leaf_can_find {N} {bytes} {is_below} {leaf} nodes slot can hint other same header part =
     let partitioned = entries_of_partitioned other _ (part_partitioned other (items_in nodes 0 slot) part) in
     record {
-      headed = key_heads_kept bytes near (λ key text is. same key ∙ is) (key_heads_of leaf) can.headed;
+      headed = key_heads_kept bytes hint (λ key text is. same key ∙ is) (key_heads_of leaf) can.headed;
       partitioned = rw (entries_from_header nodes slot leaf header) at partitioned;
       some = can.some;
     }

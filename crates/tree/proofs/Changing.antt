@@ -97,9 +97,9 @@ module _ {N : ℕ} where
   moves_agree a b xs ys zs h live few s some = h.others s (omega (arith, few s)) (live s some)
 
   -- Where only this slot is touched, no other gets key bytes.
-  keyless_but : (a b : Arena (Node N)) (slot : ℕ) → IsKeyless a → ((s : ℕ) → s ≢ slot → record_at b s ≡ record_at a s)
+  keyless_except : (a b : Arena (Node N)) (slot : ℕ) → IsKeyless a → ((s : ℕ) → s ≢ slot → record_at b s ≡ record_at a s)
       → IfSome (key_at b slot) (λ key. key ≡ []) → IsKeyless b
-  keyless_but a b slot keyless others here s = elim (eqb_tells s slot) [
+  keyless_except a b slot keyless others here s = elim (eqb_tells s slot) [
     | inl same ↦ rw same.1 here
     | inr other ↦ rw (others s other.1) (keyless s)
   ]
@@ -124,7 +124,7 @@ module _ {N : ℕ} where
           others = λ s none alive. record_kept s (apart s slot none);
           live = omega arith;
           spare = omega arith;
-          keyless = keyless_but a (with_header a slot node) slot keyless record_kept
+          keyless = keyless_except a (with_header a slot node) slot keyless record_kept
               (rw record_put (no_key (key_at a slot) (keyless slot)));
         }
 
@@ -144,7 +144,7 @@ module _ {N : ℕ} where
         others = λ s none alive. others s (λ same. absurd (cc (ap is_some free)));
         live = omega arith;
         spare = omega arith;
-        keyless = keyless_but a b slot keyless others (rw here refl);
+        keyless = keyless_except a b slot keyless others (rw here refl);
       }
 
   -- a record is released
@@ -164,5 +164,5 @@ module _ {N : ℕ} where
         others = λ s none alive. others s (apart s slot none);
         live = omega arith;
         spare = omega arith;
-        keyless = keyless_but a b slot keyless others (rw here tt);
+        keyless = keyless_except a b slot keyless others (rw here tt);
       }

@@ -4,7 +4,7 @@ use Rattle.std.proofs.lemmas.List.{length-map}
 use Rattle.std.proofs.Math.Nat.{mul-le-mul_left, pow-le-pow_right, two-pow-succ}
 use Rattle.std.proofs.lemmas.Bool.{cases_lt}
 use Rattle.std.proofs.lemmas.List.Elements.{All-head, All-tail}
-use Rattle.tree.proofs.Words.{Arena, spare_of, Entry, Node, item_of, AreChildren, items_of, slots_of, entries_at, items_in, slots_in, IsSubtree, IsTree, least_of}
+use Rattle.tree.proofs.Words.{Arena, spare_of, NodeEntry, Node, item_of, AreChildren, items_of, slots_of, entries_at, items_in, slots_in, IsSubtree, IsTree, least_of}
 use Rattle.tree.proofs.Frames.{IsRight}
 use Rattle.tree.proofs.LeafChange.{root_some}
 
@@ -12,7 +12,7 @@ module _ {N : ℕ} (nodes : Arena (Node N)) (least : ℕ) where
   -- where each child has so many items for each node, and so many more
   fill_each : (k j height : ℕ) → ((slot : ℕ) → IsSubtree nodes least height slot → least ≤ length (entries_at nodes slot)
       → k * length (slots_in nodes height slot) + j ≤ length (items_in nodes height slot))
-      → (es : List Entry) → AreChildren nodes least height es
+      → (es : List NodeEntry) → AreChildren nodes least height es
       → k * length (slots_of nodes height es) + j * length es ≤ length (items_of nodes height es)
   fill_each k j height each [] all = omega arith
   fill_each k j height each (e ∷ es) all =

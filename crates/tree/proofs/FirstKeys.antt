@@ -3,25 +3,25 @@ use Rattle.std.proofs.Common.{◌≡◌, ℕ, zero, suc, ◌-◌, ◌≤◌, Boo
 use Rattle.std.proofs.lemmas.Int.{ints}
 use Rattle.std.proofs.lemmas.List.Concat.{flat_map_single}
 use Rattle.std.proofs.lemmas.List.Elements.{All-cons, All-nil, All-head}
-use Rattle.tree.proofs.Words.{Arena, header_at, Entry, Node, KeyBytes, IsCommonPrefix, IsCommonPrefixAt, Item, Tells, item_of, entries_of, index_in, entries_at, items_in, IsChild, IsSubtree}
+use Rattle.tree.proofs.Words.{Arena, header_at, NodeEntry, Node, KeyBytes, IsCommonPrefix, IsCommonPrefixAt, Item, Describes, item_of, entries_of, index_in, entries_at, items_in, IsChild, IsSubtree}
 use Rattle.tree.proofs.Found.{IsFound, entries_read}
 use Rattle.keys.proofs.callers.SomeElement.{Any-first}
 
 -- The first of some entries has the first key of the items below them.
-pub first_tells : (under : Entry → List Item) (es : List Entry) (e : Entry) → slice_get es 0 ≡ Some e
-    → All (λ e. Tells e (under e)) es → (x : Item) (xs : List Item) → flat_map under es ≡ x ∷ xs → e.key ≡ x.key
-first_tells under [] e is tell x xs same = absurd (cc)
-first_tells under (d ∷ es) e is tell x xs same =
-    let t = All-head (λ e. Tells e (under e)) d es tell in
+pub first_describes : (under : NodeEntry → List Item) (es : List NodeEntry) (e : NodeEntry) → slice_get es 0 ≡ Some e
+    → All (λ e. Describes e (under e)) es → (x : Item) (xs : List Item) → flat_map under es ≡ x ∷ xs → e.key ≡ x.key
+first_describes under [] e is describe x xs same = absurd (cc)
+first_describes under (d ∷ es) e is describe x xs same =
+    let t = All-head (λ e. Describes e (under e)) d es describe in
     cc (t.key, rw t.items_are at same)
 
 -- the items of an entry of a node of this height: its own one, or those of its child
-abbrev pub items_under : {N : ℕ} → Arena (Node N) → ℕ → Entry → List Item
+abbrev pub items_under : {N : ℕ} → Arena (Node N) → ℕ → NodeEntry → List Item
 items_under nodes zero e = item_of e ∷ []
 items_under nodes (suc height) e = items_in nodes height e.child
 
-item_tells : (e : Entry) → Tells e (item_of e ∷ [])
-item_tells e =
+item_describes : (e : NodeEntry) → Describes e (item_of e ∷ [])
+item_describes e =
     let bound = All-cons (λ (x : Item). x.version ≤ℤ e.version) (item_of e) [] (omega (arith, ints)) (All-nil _) in
     let has = Any-first (λ (x : Item). x.version ≡ e.version) (item_of e) [] refl in
     record { first = item_of e; others = []; items_are = refl; key = refl; greatest = record { bound = bound; reached = has } }
@@ -31,19 +31,19 @@ module _ {N : ℕ} (nodes : Arena (Node N)) (least : ℕ) where
   node_items zero slot = sym (flat_map_single item_of (entries_at nodes slot))
   node_items (suc height) slot = refl
 
-  pub node_tells : (height slot : ℕ) → IsSubtree nodes least height slot
-      → All (λ e. Tells e (items_under nodes height e)) (entries_at nodes slot)
-  node_tells zero slot s = λ i d lt. item_tells (get_or (entries_at nodes slot) i d)
-  node_tells (suc height) slot s = λ i d lt. (s.2 i d lt).tells
+  pub node_describes : (height slot : ℕ) → IsSubtree nodes least height slot
+      → All (λ e. Describes e (items_under nodes height e)) (entries_at nodes slot)
+  node_describes zero slot s = λ i d lt. item_describes (get_or (entries_at nodes slot) i d)
+  node_describes (suc height) slot s = λ i d lt. (s.2 i d lt).describes
 
   -- What is known of the key of an entry is known of that of its child's first entry, which is the same.
-  pub knows_child : (height : ℕ) (e : Entry) (child : ℕ) (bytes : KeyBytes) (is_below : ℕ → Bool) (target : List ℕ)
+  pub knows_child : (height : ℕ) (e : NodeEntry) (child : ℕ) (bytes : KeyBytes) (is_below : ℕ → Bool) (target : List ℕ)
       (known : Option ℕ) → IsChild nodes least height (IsSubtree nodes least height) e → child ≡ e.child
       → IsCommonPrefix bytes is_below target known e.key → IsCommonPrefixAt bytes is_below target known (entries_at nodes child) 0
   knows_child height e child bytes is_below target known right same knows first at =
-      let t = right.tells in
-      let own = first_tells (items_under nodes height) (entries_at nodes e.child) first (rw same at at)
-      (node_tells height e.child right.subtree) t.first t.others (sym (node_items height e.child) ∙ t.items_are) in
+      let t = right.describes in
+      let own = first_describes (items_under nodes height) (entries_at nodes e.child) first (rw same at at)
+      (node_describes height e.child right.subtree) t.first t.others (sym (node_items height e.child) ∙ t.items_are) in
       rw (own, ← t.key) knows
 
 -- What a search finds out at an entry holds of the first key of the child at which it goes on.

@@ -2,25 +2,25 @@
 use Rattle.std.proofs.Common.{◌≡◌, ℕ, suc, ◌-◌, ◌<◌, Bool, List, [], ◌∷◌, length, Some, option_map, unwrap_or, map, slice_get, slice_index_or, sym, ◌∙◌, ap, subst, inl, inr, arith}
 use Rattle.std.proofs.lemmas.Option.{get_or_from_slice_get}
 use Rattle.std.proofs.lemmas.List.{get_or-map, length-map}
-use Rattle.tree.proofs.Words.{Arena, header_at, Entry, Node, Item, item_of, entries_of, IsPartitioned, index_in, leaf_in, entries_at, items_in, IsSubtree}
+use Rattle.tree.proofs.Words.{Arena, header_at, NodeEntry, Node, Item, item_of, entries_of, IsPartitioned, index_in, leaf_in, entries_at, items_in, IsSubtree}
 use Rattle.tree.proofs.callers.Partitions.{Falls, Falls-below_from, IsPartitioned-from_falls}
 use Rattle.tree.proofs.Ways.{IsWay, way}
 
 -- the entries at a slot are those of the header that the code has read
-pub entries_read : {N : ℕ} (nodes : Arena (Node N)) (slot : ℕ) (header : Node N) (es : List Entry)
+pub entries_read : {N : ℕ} (nodes : Arena (Node N)) (slot : ℕ) (header : Node N) (es : List NodeEntry)
     → header_at nodes slot ≡ Some header → es ≡ entries_of header → entries_at nodes slot ≡ es
 entries_read nodes slot header es h e = ap (λ o. unwrap_or (option_map entries_of o) []) h ∙ sym e
 
-pub partitioned-entries : (p : Item → Bool) (es : List Entry) → IsPartitioned p (map item_of es)
+pub partitioned-entries : (p : Item → Bool) (es : List NodeEntry) → IsPartitioned p (map item_of es)
     → IsPartitioned (λ e. p (item_of e)) es
 partitioned-entries p es c =
-    IsPartitioned-from_falls (λ (e : Entry). p (item_of e)) es (falls es (Falls-below_from p (map item_of es) c))
+    IsPartitioned-from_falls (λ (e : NodeEntry). p (item_of e)) es (falls es (Falls-below_from p (map item_of es) c))
   where
-    falls : (es : List Entry) → Falls p (map item_of es) → Falls (λ e. p (item_of e)) es
+    falls : (es : List NodeEntry) → Falls p (map item_of es) → Falls (λ e. p (item_of e)) es
     falls [] f = tt
     falls (e ∷ es) (inl h) = inl (h.0, falls es h.1)
     falls (e ∷ es) (inr h) =
-        let fails = λ (k : ℕ) (d : Entry) (w : k < length es). rw (get_or-map item_of es k d (item_of d) w) at
+        let fails = λ (k : ℕ) (d : NodeEntry) (w : k < length es). rw (get_or-map item_of es k d (item_of d) w) at
         (h.1 k (item_of d) (omega (arith, length-map es item_of))) in
         inr (h.0, fails)
 
@@ -39,14 +39,14 @@ module _ {N : ℕ} (nodes : Arena (Node N)) (least height slot : ℕ) (is_below 
       way nodes least (height - 1) slot is_below (subst (λ n. IsSubtree nodes least n slot) lower s)
       (subst (λ n. IsPartitioned (λ (x : Item). is_below x.key) (items_in nodes n slot)) lower c)
 
-  module _ (header : Node N) (es : List Entry) where
-    pub found : (index : ℕ) (d : Entry) → (height ≡ 0 → ⊥) → IsSubtree nodes least height slot
+  module _ (header : Node N) (es : List NodeEntry) where
+    pub found : (index : ℕ) (d : NodeEntry) → (height ≡ 0 → ⊥) → IsSubtree nodes least height slot
         → IsPartitioned (λ x. is_below x.key) (items_in nodes height slot) → header_at nodes slot ≡ Some header
         → es ≡ entries_of header → index ≡ index_in is_below es → IsFound (slice_index_or es index d).child
     found index d some s c h e i =
         let w = way_at some s c in
         let at : slice_get es index ≡ Some w.entry = rw (i, ← entries_read nodes slot header es h e) w.is in
-        let child = ap (λ (x : Entry). x.child) (get_or_from_slice_get es index w.entry d at) in
+        let child = ap (λ (x : NodeEntry). x.child) (get_or_from_slice_get es index w.entry d at) in
         record { lower = omega arith; way = w; is = child }
 
     -- The entries of a node above the leaves, as the code has read them, are partitioned.

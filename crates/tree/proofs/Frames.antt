@@ -3,7 +3,7 @@ use Rattle.std.proofs.Common.{◌≡◌, ℕ, zero, suc, inl, inr, ◌≤◌, Li
 use Rattle.std.specs.List.{All, flat_map}
 use Rattle.std.proofs.lemmas.List.Elements.{All-nil, All-cons, All-head, All-tail}
 use Rattle.arena.specs.Arena.{Arena, IsLive, record_at}
-use Rattle.tree.specs.declared.entry.Entry.{Entry}
+use Rattle.tree.specs.declared.entry.NodeEntry.{NodeEntry}
 use Rattle.tree.specs.declared.node.Node.{Node}
 use Rattle.tree.specs.declared.walk.RaisedLeaf.{RaisedLeaf}
 use Rattle.tree.specs.Item.{item_of}
@@ -27,17 +27,17 @@ module _ {N : ℕ} where
   Agree a b slots = (s : ℕ) → 1 ≤ times s slots → record_at b s ≡ record_at a s
 
   -- what the entries of a node say of its children
-  abbrev pub IsRight : Arena (Node N) → ℕ → ℕ → Entry → Type 0
+  abbrev pub IsRight : Arena (Node N) → ℕ → ℕ → NodeEntry → Type 0
   IsRight nodes least height e = IsChild nodes least height (IsSubtree nodes least height) e
 
   module _ (a b : Arena (Node N)) where
     pub agree_own : (height slot : ℕ) → Agree a b (slots_in a height slot) → entries_at b slot ≡ entries_at a slot
     agree_own height slot agree = entries_same a b slot (agree slot (own_slot a height slot))
 
-    abbrev AgreeBelow : ℕ → Entry → Type 0
+    abbrev AgreeBelow : ℕ → NodeEntry → Type 0
     AgreeBelow height e = Agree a b (slots_in a height e.child)
 
-    agree_each : (height : ℕ) (es : List Entry) → Agree a b (slots_of a height es) → All (AgreeBelow height) es
+    agree_each : (height : ℕ) (es : List NodeEntry) → Agree a b (slots_of a height es) → All (AgreeBelow height) es
     agree_each height [] agree = All-nil (AgreeBelow height)
     agree_each height (e ∷ es) agree =
         let both = λ (s : ℕ). times-append s (slots_in a height e.child) (slots_of a height es) in
@@ -49,7 +49,7 @@ module _ {N : ℕ} where
     agree_below height slot agree = agree_each height (entries_at a slot) (λ s some. agree s (omega arith))
 
     each_same : {X : Type 0} (height : ℕ) (f g : ℕ → List X) → ((slot : ℕ) → Agree a b (slots_in a height slot) → g slot ≡ f slot)
-        → (es : List Entry) → All (AgreeBelow height) es → flat_map (λ e. g e.child) es ≡ flat_map (λ e. f e.child) es
+        → (es : List NodeEntry) → All (AgreeBelow height) es → flat_map (λ e. g e.child) es ≡ flat_map (λ e. f e.child) es
     each_same height f g same [] agree = refl
     each_same height f g same (e ∷ es) agree =
         let later = each_same height f g same es (All-tail (AgreeBelow height) e es agree) in
@@ -78,14 +78,14 @@ module _ {N : ℕ} where
 
     each_child : (least height : ℕ)
         → ((slot : ℕ) → Agree a b (slots_in a height slot) → IsSubtree a least height slot → IsSubtree b least height slot)
-        → (es : List Entry) → All (AgreeBelow height) es → AreChildren a least height es → AreChildren b least height es
+        → (es : List NodeEntry) → All (AgreeBelow height) es → AreChildren a least height es → AreChildren b least height es
     each_child least height below es agree all = λ k d within.
         let same = agree k d within in
         let child = all k d within in
         record {
           filled = rw (agree_own height (get_or es k d).child same) child.filled;
           subtree = below (get_or es k d).child same child.subtree;
-          tells = rw (items_same height (get_or es k d).child same) child.tells;
+          describes = rw (items_same height (get_or es k d).child same) child.describes;
         }
 
     pub subtree_same : (least height slot : ℕ) → Agree a b (slots_in a height slot) → IsSubtree a least height slot
@@ -99,7 +99,7 @@ module _ {N : ℕ} where
         )
 
     -- the children of entries
-    module _ (height : ℕ) (es : List Entry) (agree : Agree a b (slots_of a height es)) where
+    module _ (height : ℕ) (es : List NodeEntry) (agree : Agree a b (slots_of a height es)) where
       pub items_of_same : items_of b height es ≡ items_of a height es
       items_of_same = each_same height _ _ (items_same height) es (agree_each height es agree)
 
@@ -113,7 +113,7 @@ module _ {N : ℕ} where
   module _ (a : Arena (Node N)) (least : ℕ) where
     live_of : (height : ℕ)
         → ((slot : ℕ) → IsSubtree a least height slot → (s : ℕ) → 1 ≤ times s (slots_in a height slot) → IsLive a s)
-        → (es : List Entry) → AreChildren a least height es → (s : ℕ) → 1 ≤ times s (slots_of a height es) → IsLive a s
+        → (es : List NodeEntry) → AreChildren a least height es → (s : ℕ) → 1 ≤ times s (slots_of a height es) → IsLive a s
     live_of height each [] all s some = absurd (omega arith)
     live_of height each (e ∷ es) all s some = elim (none_or_some (times s (slots_in a height e.child))) [
       | inl none ↦ live_of height each es (All-tail (IsRight a least height) e es all) s
@@ -131,9 +131,9 @@ module _ {N : ℕ} where
       | inr other ↦ live_of height (live_in height) (entries_at a slot) h.2 s (omega (arith, other.1))
     ]
 
-    pub live_children : (height : ℕ) (es : List Entry) → AreChildren a least height es → (s : ℕ)
+    pub live_children : (height : ℕ) (es : List NodeEntry) → AreChildren a least height es → (s : ℕ)
         → 1 ≤ times s (slots_of a height es) → IsLive a s
     live_children height = live_of height (live_in height)
 
-    pub below_of : (height : ℕ) (es : List Entry) → AreChildren a least height es → All (λ e. IsSubtree a least height e.child) es
+    pub below_of : (height : ℕ) (es : List NodeEntry) → AreChildren a least height es → All (λ e. IsSubtree a least height e.child) es
     below_of height es all = λ k d within. (all k d within).subtree

@@ -4,16 +4,16 @@ use Rattle.std.proofs.Common.{◌≡◌, ℕ, zero, suc, ◌+◌, ◌-◌, ◌<�
 use Rattle.std.proofs.lemmas.Grind.{flat_map-append}
 use Rattle.std.proofs.lemmas.List.{drop-drop, drop_more, take_more}
 use Rattle.std.proofs.lemmas.List.Elements.{All-take, All-drop}
-use Rattle.tree.proofs.Words.{Arena, Entry, Node, Item, Tells, KeyBytes, CanReach, IsPartitioned, IsChild, IsSubtree, items_in}
+use Rattle.tree.proofs.Words.{Arena, NodeEntry, Node, Item, Describes, KeyBytes, CanReach, IsPartitioned, IsChild, IsSubtree, items_in}
 use Rattle.tree.proofs.callers.Partitions.{All-back}
 use Rattle.tree.proofs.FromLast.{from_last_of, from_last_part, from_last_parts}
-use Rattle.tree.proofs.Looks.{IsLook, around_child, look_ordered, look_tell, items_partitioned, child_is, child_reached, first_inside, last_inside}
-use Rattle.tree.proofs.ToldKeys.{last_passes, some_told}
-use Rattle.tree.proofs.Ways.{entries_partitioned, pass_before, fail_behind_index}
+use Rattle.tree.proofs.Looks.{IsLook, around_child, look_ordered, look_answers, items_partitioned, child_is, child_reached, first_inside, last_inside}
+use Rattle.tree.proofs.AnsweredKeys.{last_passes, some_answered}
+use Rattle.tree.proofs.Ways.{entries_partitioned, pass_before, fail_after_index}
 
 -- a look at such a node, with the entries of the two children
 pub record AreHalves {N : ℕ} (nodes : Arena (Node N)) (least height slot : ℕ) (f t : ℕ → Bool) : Type 0 where
-  pub es : List Entry
+  pub es : List NodeEntry
   pub begin : ℕ
   pub end : ℕ
   pub look : IsLook nodes least height slot f t es begin end
@@ -22,14 +22,14 @@ pub record AreHalves {N : ℕ} (nodes : Arena (Node N)) (least height slot : ℕ
   pub last : ℕ
   pub first_is : first ≡ begin - 1
   pub last_is : last ≡ end - 1
-  pub left : Entry
-  pub right : Entry
+  pub left : NodeEntry
+  pub right : NodeEntry
   pub left_at : left ≡ get_or es first left
   pub right_at : right ≡ get_or es last right
 
 module _ {N : ℕ} {nodes : Arena (Node N)} {least height slot : ℕ} {f t : ℕ → Bool}
     (h : AreHalves nodes least height slot f t) where
-  abbrev below : Entry → List Item
+  abbrev below : NodeEntry → List Item
   below e = items_in nodes (height - 1) e.child
 
   abbrev pub left_items : List Item
@@ -38,7 +38,7 @@ module _ {N : ℕ} {nodes : Arena (Node N)} {least height slot : ℕ} {f t : ℕ
   abbrev pub right_items : List Item
   right_items = below h.right
 
-  abbrev pub middle : List Entry
+  abbrev pub middle : List NodeEntry
   middle = slice_range h.es (h.first + 1) h.last
 
   abbrev pub middle_items : List Item
@@ -72,11 +72,11 @@ module _ {N : ℕ} {nodes : Arena (Node N)} {least height slot : ℕ} {f t : ℕ
       ≡ flat_map below (take h.first h.es) ++ (left_items ++ flat_map below (drop (h.first + 1) h.es))
   around_left = around_child _ _ _ _ _ _ _ _ _ h.look h.some h.first h.left first_within h.left_at
 
-  tell : All (λ e. Tells e (below e)) h.es
-  tell = look_tell _ _ _ _ _ _ _ _ _ h.look h.some
+  describe : All (λ e. Describes e (below e)) h.es
+  describe = look_answers _ _ _ _ _ _ _ _ _ h.look h.some
 
-  pub middle_tells : All (λ e. Tells e (below e)) middle
-  middle_tells = All-take (λ e. Tells e (below e)) _ _ (All-drop (λ e. Tells e (below e)) (h.first + 1) h.es tell)
+  pub middle_describes : All (λ e. Describes e (below e)) middle
+  middle_describes = All-take (λ e. Describes e (below e)) _ _ (All-drop (λ e. Describes e (below e)) (h.first + 1) h.es describe)
 
   -- what the searches in the two children ask of their bounds
   pub left_reached : {bytes : KeyBytes} {is_below : ℕ → Bool} → CanReach bytes is_below nodes least height slot → 1 ≤ least
@@ -95,16 +95,16 @@ module _ {N : ℕ} {nodes : Arena (Node N)} {least height slot : ℕ} {f t : ℕ
   to_items = items_partitioned _ _ _ _ _ _ _ _ _ h.look h.some t h.look.to
 
   front : All (λ x. f x.key ≡ true) (flat_map below (take h.first h.es))
-  front = rw (h.first_is, h.look.begin_is) (pass_before f below h.es tell from_items)
+  front = rw (h.first_is, h.look.begin_is) (pass_before f below h.es describe from_items)
 
   later : All (λ x. f x.key ≡ false) (flat_map below (drop (h.first + 1) h.es))
-  later = rw (h.first_is, h.look.begin_is) (fail_behind_index f below h.es tell from_items)
+  later = rw (h.first_is, h.look.begin_is) (fail_after_index f below h.es describe from_items)
 
   sooner : All (λ x. t x.key ≡ true) (flat_map below (take h.last h.es))
-  sooner = rw (h.last_is, h.look.end_is) (pass_before t below h.es tell to_items)
+  sooner = rw (h.last_is, h.look.end_is) (pass_before t below h.es describe to_items)
 
   back : All (λ x. t x.key ≡ false) (flat_map below (drop (h.last + 1) h.es))
-  back = rw (h.last_is, h.look.end_is) (fail_behind_index t below h.es tell to_items)
+  back = rw (h.last_is, h.look.end_is) (fail_after_index t below h.es describe to_items)
 
   -- The left child has items below the first bound, or else none stands before it.
   left_some : (flat_map below (take h.first h.es) ≡ []) ⊎ (1 ≤ length (filter (λ x. f x.key) left_items))
@@ -114,10 +114,10 @@ module _ {N : ℕ} {nodes : Arena (Node N)} {least height slot : ℕ} {f t : ℕ
           → (flat_map below (take h.first h.es) ≡ []) ⊎ (1 ≤ length (filter (λ x. f x.key) left_items))
       by_count zero e = let z : h.first ≡ 0 = omega (arith, h.first_is, e) in inl (rw z refl)
       by_count (suc n) e =
-          let partitioned = entries_partitioned f below h.es tell from_items in
+          let partitioned = entries_partitioned f below h.es describe from_items in
           let passes = last_passes f h.es h.first h.left partitioned (omega (arith, h.look.begin_is, e))
           (h.first_is ∙ ap (λ n. n - 1) h.look.begin_is) h.left_at in
-          inr (some_told f h.left left_items left_is.tells passes)
+          inr (some_answered f h.left left_items left_is.describes passes)
 
   -- the two children are apart, or the same
   pub apart : (h.first ≡ h.last → ⊥) → (h.first + 1 ≤ h.last) × (h.last < length h.es)
@@ -139,9 +139,9 @@ module _ {N : ℕ} {nodes : Arena (Node N)} {least height slot : ℕ} {f t : ℕ
       let r = get_or h.es j h.right in
       let a = flat_map below (take i h.es) in
       let b = flat_map below (drop (j + 1) h.es) in
-      let behind = flat_map-append below middle (r ∷ drop (j + 1) h.es) in
+      let following = flat_map-append below middle (r ∷ drop (j + 1) h.es) in
       let rest : flat_map below (drop (i + 1) h.es) ≡ middle_items ++ (below r ++ b) =
-      cc (behind, take-append-drop k (drop (i + 1) h.es), drop-drop k (i + 1) h.es, drop_more h.es j h.right last_within) in
+      cc (following, take-append-drop k (drop (i + 1) h.es), drop-drop k (i + 1) h.es, drop_more h.es j h.right last_within) in
       let here = append_assoc (take i h.es) (l ∷ []) middle in
       let before = flat_map-append below (take i h.es) (l ∷ middle) in
       let begin : flat_map below (take j h.es) ≡ a ++ (below l ++ middle_items) =

@@ -9,30 +9,30 @@ use Rattle.std.proofs.lemmas.List.{get_or_default, get_or-map}
 use Rattle.std.proofs.lemmas.Option.{get_or_from_slice_get, slice_get_within, slice_get-get_or, slice_get-map}
 use Rattle.keys.specs.Key.{IsBytes, IsBefore}
 pub use Rattle.keys.proofs.callers.Lists.{some_at as entry_at}
-use Rattle.tree.proofs.Words.{Entry, Node, PADDING, entries_of, key_heads_of, keys_of, KeyBytes, Begins, head_behind, head_at, KeyHeads, AreHeads, IsBelowInOrder, IsCommonPrefixLen, IsCommonPrefixAt, HasPrefix, IsTargetHead, IsPartitioned, CanStep, IsStep}
+use Rattle.tree.proofs.Words.{NodeEntry, Node, PADDING, entries_of, key_heads_of, keys_of, KeyBytes, Begins, head_after, head_at, KeyHeads, AreHeads, IsBelowInOrder, IsCommonPrefixLen, IsCommonPrefixAt, HasPrefix, IsTargetHead, IsPartitioned, CanStep, IsStep}
 use Rattle.tree.proofs.callers.Partitions.{length-items_below, none_fail, not_both}
 use Rattle.tree.proofs.HeadChanges.{heads_count, prefix_begins}
 use Rattle.tree.proofs.HeadCounts.{passing_before, passing_inside}
-use Rattle.tree.proofs.HeadOrder.{empty_head, empty_before, empty_before_too, tells_empty, told_by_heads, too, common_by_heads}
+use Rattle.tree.proofs.HeadOrder.{empty_head, empty_before, empty_before_too, describes_empty, answered_by_heads, too, common_by_heads}
 
 -- the key of the entry there
-pub key_there : (entries : List Entry) (index : ℕ) (e : Entry) → slice_get entries index ≡ Some e
+pub key_there : (entries : List NodeEntry) (index : ℕ) (e : NodeEntry) → slice_get entries index ≡ Some e
     → slice_get (keys_of entries) index ≡ Some e.key
-key_there entries index e there = rw (slice_get-map (λ (x : Entry). x.key) entries index, there) refl
+key_there entries index e there = rw (slice_get-map (λ (x : NodeEntry). x.key) entries index, there) refl
 
 -- the entry itself, among all those that the node has room for
-pub entry_there : (room : List Entry) (len index : ℕ) (e d : Entry) → slice_get (take len room) index ≡ Some e
+pub entry_there : (room : List NodeEntry) (len index : ℕ) (e d : NodeEntry) → slice_get (take len room) index ≡ Some e
     → get_or room index d ≡ e
 entry_there room len index e d there = grind (arith, slice_get_within, length-take, get_or-take, get_or_from_slice_get)
 
 -- what is known of the key at an index
-pub record IsKeyAt (bytes : KeyBytes) (key_heads : KeyHeads) (beginning : List ℕ) (index key : ℕ) : Type 0 where
+pub record IsKeyAt (bytes : KeyBytes) (key_heads : KeyHeads) (prefix : List ℕ) (index key : ℕ) : Type 0 where
   pub text : List ℕ
   pub known : bytes key ≡ Some text
   pub are_bytes : IsBytes text
   pub begins : ((text ≡ []) × (get_or key_heads.heads index 0 ≡ 0))
-      ⊎ ((take key_heads.prefix_len text ≡ beginning) × (key_heads.prefix_len ≤ length text))
-  pub head : get_or key_heads.heads index 0 ≡ head_behind key_heads.prefix_len text
+      ⊎ ((take key_heads.prefix_len text ≡ prefix) × (key_heads.prefix_len ≤ length text))
+  pub head : get_or key_heads.heads index 0 ≡ head_after key_heads.prefix_len text
 
 module _ (bytes : KeyBytes) (key_heads : KeyHeads) (h : AreHeads bytes key_heads) where
   abbrev n : ℕ
@@ -41,25 +41,25 @@ module _ (bytes : KeyBytes) (key_heads : KeyHeads) (h : AreHeads bytes key_heads
   abbrev head_of : ℕ → ℕ
   head_of index = get_or key_heads.heads index 0
 
-  pub key_at : (index key : ℕ) → slice_get key_heads.keys index ≡ Some key → IsKeyAt bytes key_heads h.beginning index key
+  pub key_at : (index key : ℕ) → slice_get key_heads.keys index ≡ Some key → IsKeyAt bytes key_heads h.prefix index key
   key_at index key there =
       let inside : index < length key_heads.keys = slice_get_within key_heads.keys index key there in
       let read = get_or_from_slice_get key_heads.keys index key key there in
-      let own = All-contains (Begins bytes h.beginning) key_heads.keys key h.begins (index, inside, read) in
-      let head : head_of index ≡ head_behind n own.text =
+      let own = All-contains (Begins bytes h.prefix) key_heads.keys key h.begins (index, inside, read) in
+      let head : head_of index ≡ head_after n own.text =
       cc (own.known, get_or-map (head_at bytes n) key_heads.keys index key 0 inside) in
-      let begins : ((own.text ≡ []) × (head_of index ≡ 0)) ⊎ ((take n own.text ≡ h.beginning) × (n ≤ length own.text)) =
+      let begins : ((own.text ≡ []) × (head_of index ≡ 0)) ⊎ ((take n own.text ≡ h.prefix) × (n ≤ length own.text)) =
       grind (arith, own.begins, head, h.prefix_len, empty_head n, length-take n own.text) in
       record { text = own.text; known = own.known; are_bytes = own.are_bytes; begins = begins; head = head }
 
   -- a key whose head isn't zero isn't empty
   filled_at : (index key : ℕ) (there : slice_get key_heads.keys index ≡ Some key) → head_of index ≢ 0
-      → (take n (key_at index key there).text ≡ h.beginning) × (n ≤ length (key_at index key there).text)
+      → (take n (key_at index key there).text ≡ h.prefix) × (n ≤ length (key_at index key there).text)
   filled_at index key there differ =
       elim (key_at index key there).begins [ inr long ↦ long | inl empty ↦ absurd (differ empty.1) ]
 
   -- The target begins as all keys do.
-  sought_begins : (target : List ℕ) → HasPrefix bytes key_heads target → h.beginning ≡ take n target
+  sought_begins : (target : List ℕ) → HasPrefix bytes key_heads target → h.prefix ≡ take n target
   sought_begins target has_prefix = rw (← h.prefix_len) (sym (prefix_begins bytes key_heads h target has_prefix))
 
   -- It does if it begins as one of them that isn't empty.
@@ -77,30 +77,30 @@ module _ (bytes : KeyBytes) (key_heads : KeyHeads) (h : AreHeads bytes key_heads
   module _ (target : List ℕ) (is_below : ℕ → Bool)
       (order : (key : ℕ) (text : List ℕ) → bytes key ≡ Some text → IsBelowInOrder text target (is_below key)) where
     -- Whether the key is below the bound is told by its head, if that isn't the one of the target.
-    pub told_at : (index key head : ℕ) → slice_get key_heads.keys index ≡ Some key → IsTargetHead bytes key_heads target head
+    pub answered_at : (index key head : ℕ) → slice_get key_heads.keys index ≡ Some key → IsTargetHead bytes key_heads target head
         → head ≢ head_of index → nat_lt (head_of index) head ≡ is_below key
-    told_at index key head there is differ =
+    answered_at index key head there is differ =
         let k = key_at index key there in
-        let tells = order key k.text k.known in
+        let describes = order key k.text k.known in
         elim k.begins [
           | inr long ↦
-              let told = told_by_heads n k.text target k.are_bytes is.are_bytes long.1 (long.0 ∙ sought_begins target is.has_prefix)
-              (λ e. differ (cc (is.head_is, k.head))) (is_below key) tells in
-              cc (k.head, is.head_is, told)
-          | inl empty ↦ grind (arith, nat_tests, is.head_is, empty_before n target, empty.0, empty.1, tells.before)
+              let answered = answered_by_heads n k.text target k.are_bytes is.are_bytes long.1 (long.0 ∙ sought_begins target is.has_prefix)
+              (λ e. differ (cc (is.head_is, k.head))) (is_below key) describes in
+              cc (k.head, is.head_is, answered)
+          | inl empty ↦ grind (arith, nat_tests, is.head_is, empty_before n target, empty.0, empty.1, describes.before)
         ]
 
     -- A key whose head is less passes.
     pub less_passes : (index key head : ℕ) → slice_get key_heads.keys index ≡ Some key → IsTargetHead bytes key_heads target head
         → nat_lt (head_of index) head ≡ true → is_below key ≡ true
     less_passes index key head there is less =
-        cc (told_at index key head there is (λ e. absurd (omega (arith, ltb-true (head_of index) head less))))
+        cc (answered_at index key head there is (λ e. absurd (omega (arith, ltb-true (head_of index) head less))))
 
     -- Where the first key isn't empty and is below the bound, and differs from the target before all keys' common beginning ends,
     -- all keys are below the bound.
     module _ (common_prefix_len first : ℕ) (at_first : slice_get key_heads.keys 0 ≡ Some first) (filled : head_of 0 ≢ 0) (less : common_prefix_len < n)
         (passed : is_below first ≡ true)
-        (tells : (text : List ℕ) → bytes first ≡ Some text → IsCommonPrefixLen common_prefix_len text target) where
+        (describes : (text : List ℕ) → bytes first ≡ Some text → IsCommonPrefixLen common_prefix_len text target) where
       -- Their bytes come before the target, and differ from it as those of the first one do.
       bytes_too : (index key : ℕ) (there : slice_get key_heads.keys index ≡ Some key)
           → IsBefore (key_at index key there).text target × IsCommonPrefixLen common_prefix_len (key_at index key there).text target
@@ -108,12 +108,12 @@ module _ (bytes : KeyBytes) (key_heads : KeyHeads) (h : AreHeads bytes key_heads
           let f = key_at 0 first at_first in
           let k = key_at index key there in
           let own = filled_at 0 first at_first filled in
-          let ahead : IsBefore target f.text → ⊥ = λ behind. not_both _ passed ((order first f.text f.known).behind behind) in
+          let ahead : IsBefore target f.text → ⊥ = λ following. not_both _ passed ((order first f.text f.known).following following) in
           elim k.begins [
             | inr begins ↦
-                too common_prefix_len n f.text k.text target less own.1 begins.1 (begins.0 ∙ sym own.0) (tells f.text f.known) ahead
+                too common_prefix_len n f.text k.text target less own.1 begins.1 (begins.0 ∙ sym own.0) (describes f.text f.known) ahead
             | inl empty ↦
-                rw empty.0 (empty_before_too f.text target (omega (arith, own.1, less)) ahead, tells_empty common_prefix_len target)
+                rw empty.0 (empty_before_too f.text target (omega (arith, own.1, less)) ahead, describes_empty common_prefix_len target)
           ]
 
       passes_too : (index key : ℕ) → slice_get key_heads.keys index ≡ Some key → is_below key ≡ true
@@ -137,9 +137,9 @@ module _ (bytes : KeyBytes) (key_heads : KeyHeads) (h : AreHeads bytes key_heads
         let own = k.head in
         let other = is.head_is in
         let same : k.text ≡ text = cc (k.known) in
-        let ahead : IsBefore target k.text → ⊥ = λ behind. not_both _ passed ((order key k.text k.known).behind behind) in
+        let ahead : IsBefore target k.text → ⊥ = λ following. not_both _ passed ((order key k.text k.known).following following) in
         rw (← same) (elim k.begins [
-          | inl empty ↦ rw empty.0 (tells_empty (n + count) target)
+          | inl empty ↦ rw empty.0 (describes_empty (n + count) target)
           | inr begins ↦
               common_by_heads n k.text target k.are_bytes is.are_bytes begins.1 (begins.0 ∙ sought_begins target is.has_prefix)
               (λ e. apart (cc)) count few (cc) (λ less e. differ less (cc)) ahead
@@ -152,7 +152,7 @@ pub stay : {N : ℕ} (bytes : KeyBytes) (is_below : ℕ → Bool) (target : List
 stay bytes is_below target node known can none =
     let e = entry_at (entries_of node) 0 can.can_find.some in
     let first = rw none at can.known in
-    let few = passing_before (λ (e : Entry). is_below e.key) _ 0 e.0 can.can_find.partitioned e.1 (first e.0 e.1) in
+    let few = passing_before (λ (e : NodeEntry). is_below e.key) _ 0 e.0 can.can_find.partitioned e.1 (first e.0 e.1) in
     record { step = record { index_is = omega (arith, few); within = can.can_find.some; knows = first } }
 
 -- A head that isn't the greatest number is that of an entry.
@@ -166,10 +166,10 @@ filled_within bytes node h size count room filled =
 module _ {N : ℕ} (bytes : KeyBytes) (node : Node N) (h : AreHeads bytes (key_heads_of node)) (target : List ℕ)
     (is_below : ℕ → Bool)
     (order : (key : ℕ) (text : List ℕ) → bytes key ≡ Some text → IsBelowInOrder text target (is_below key)) where
-  abbrev es : List Entry
+  abbrev es : List NodeEntry
   es = entries_of node
 
-  abbrev passes : Entry → Bool
+  abbrev passes : NodeEntry → Bool
   passes e = is_below e.key
 
   abbrev own_head : ℕ → ℕ
@@ -207,8 +207,8 @@ module _ {N : ℕ} (bytes : KeyBytes) (node : Node N) (h : AreHeads bytes (key_h
       | inr all ↦ omega (arith, length-items_below passes es)
       | inl inside ↦
           let e = entry_at es end inside in
-          let told = told_at bytes (key_heads_of node) h target is_below order end e.0.key head (key_there es end e.0 e.1) is in
-          grind (arith, nat_tests, above inside, told, passing_before passes es end e.0 partitioned e.1)
+          let answered = answered_at bytes (key_heads_of node) h target is_below order end e.0.key head (key_there es end e.0 e.1) is in
+          grind (arith, nat_tests, above inside, answered, passing_before passes es end e.0 partitioned e.1)
     ]
 
     -- Entries pass up to one whose head is below that of the target.

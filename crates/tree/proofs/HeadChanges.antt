@@ -4,7 +4,7 @@ use Rattle.std.specs.List.{AllZip, Contains}
 use Rattle.std.proofs.lemmas.List.{get_or-map, get_or-take, length-map, length-take, length-take-le, drop_at, map-append, map-set, map_more, set-get_or, take_at, take-map, drop-map, take_more_set}
 use Rattle.std.proofs.lemmas.Option.{slice_get_within, get_or_from_slice_get}
 use Rattle.std.proofs.lemmas.List.Elements.{All-nil, All-cons, All-append, All-contains, All-drop, All-more, All-set, All-take}
-use Rattle.tree.proofs.Words.{Entry, KeyBytes, IsKnown, Begins, KeyHeads, AreHeads, HasPrefix, IsHeadBeside, IsTargetHead, head_behind, head_at, keys_of}
+use Rattle.tree.proofs.Words.{NodeEntry, KeyBytes, IsKnown, Begins, KeyHeads, AreHeads, HasPrefix, IsHeadBeside, IsTargetHead, head_after, head_at, keys_of}
 use Rattle.tree.proofs.Headed.{all_known, begins_if_long}
 use Rattle.tree.proofs.HeadOrder.{take_fewer}
 use Rattle.tree.proofs.callers.Partitions.{All-front, All-back}
@@ -16,8 +16,8 @@ All-spliced P xs new from to all more =
     All-append P _ _ (All-take P from xs all) (All-append P new (drop to xs) more (All-drop P to xs all))
 
 -- the keys of so many entries are as many
-pub keys_count : (es : List Entry) (len : ℕ) → len ≤ length es → length (keys_of (take len es)) ≡ len
-keys_count es len most = length-map (take len es) (λ (e : Entry). e.key) ∙ length-take-le len es most
+pub keys_count : (es : List NodeEntry) (len : ℕ) → len ≤ length es → length (keys_of (take len es)) ≡ len
+keys_count es len most = length-map (take len es) (λ (e : NodeEntry). e.key) ∙ length-take-le len es most
 
 -- what is computed of elements where others are put in place of those from one index up to another
 pub map_spliced : {X Y : Type 0} (f : X → Y) (xs new now : List X) (from to : ℕ) → now ≡ take from xs ++ (new ++ drop to xs)
@@ -25,21 +25,21 @@ pub map_spliced : {X Y : Type 0} (f : X → Y) (xs new now : List X) (from to : 
 map_spliced f xs new now from to is = simp (is, map-append, take-map, drop-map)
 
 -- the key of an entry is one of the keys
-pub keys_there : (es : List Entry) (i : ℕ) (e : Entry) → i < length es → get_or es i e ≡ e → Contains (keys_of es) e.key
+pub keys_there : (es : List NodeEntry) (i : ℕ) (e : NodeEntry) → i < length es → get_or es i e ≡ e → Contains (keys_of es) e.key
 keys_there es i e inside is =
-    (i, omega (arith, length-map es (λ (x : Entry). x.key)), cc (get_or-map (λ (x : Entry). x.key) es i e e.key inside))
+    (i, omega (arith, length-map es (λ (x : NodeEntry). x.key)), cc (get_or-map (λ (x : NodeEntry). x.key) es i e e.key inside))
 
 -- the key of the last one
-pub last_there : (es : List Entry) (e : Entry) → slice_get es (length es - 1) ≡ Some e → Contains (keys_of es) e.key
+pub last_there : (es : List NodeEntry) (e : NodeEntry) → slice_get es (length es - 1) ≡ Some e → Contains (keys_of es) e.key
 last_there es e is = keys_there es (length es - 1) e (slice_get_within es _ e is) (get_or_from_slice_get es _ e e is)
 
 -- the head of a key is that of its bytes
 pub head_known : (bytes : KeyBytes) (prefix_len key head : ℕ) → IsKnown bytes key
-    → ((text : List ℕ) → bytes key ≡ Some text → head ≡ head_behind prefix_len text) → head ≡ head_at bytes prefix_len key
+    → ((text : List ℕ) → bytes key ≡ Some text → head ≡ head_after prefix_len text) → head ≡ head_at bytes prefix_len key
 head_known bytes prefix_len key head k d = rw k.known (d k.text k.known)
 
 -- Entries of which some are in use, and one of these.
-module _ (es : List Entry) (len i : ℕ) (e : Entry) (inside : i < len) (most : len ≤ length es) (is : e ≡ get_or es i e) where
+module _ (es : List NodeEntry) (len i : ℕ) (e : NodeEntry) (inside : i < len) (most : len ≤ length es) (is : e ≡ get_or es i e) where
   -- its key
   key_read : e.key ≡ get_or (keys_of (take len es)) i e.key
   key_read = grind (arith, get_or-map, get_or-take, length-take)
@@ -58,13 +58,13 @@ module _ (es : List Entry) (len i : ℕ) (e : Entry) (inside : i < len) (most : 
   head_next f heads head room right before = grind (arith, map_more, take_more_set, keys_count, key_read)
 
   -- another entry of the same key in its place changes no key
-  pub key_stays : (new : Entry) → e.key ≡ new.key → keys_of (slice_set (take len es) i new) ≡ keys_of (take len es)
+  pub key_stays : (new : NodeEntry) → e.key ≡ new.key → keys_of (slice_set (take len es) i new) ≡ keys_of (take len es)
   key_stays new same = grind (arith, map-set, key_read, set-get_or)
 
   -- The head of its key, behind so many bytes, is that of its bytes.
-  pub head_read : (bytes : KeyBytes) (n behind head : ℕ) → behind ≡ n → All (IsKnown bytes) (keys_of (take len es))
-      → ((text : List ℕ) → bytes (get_or es i e).key ≡ Some text → head ≡ head_behind behind text) → head ≡ head_at bytes n e.key
-  head_read bytes n behind head same known right =
+  pub head_read : (bytes : KeyBytes) (n following head : ℕ) → following ≡ n → All (IsKnown bytes) (keys_of (take len es))
+      → ((text : List ℕ) → bytes (get_or es i e).key ≡ Some text → head ≡ head_after following text) → head ≡ head_at bytes n e.key
+  head_read bytes n following head same known right =
       let own = All-contains (IsKnown bytes) (keys_of (take len es)) e.key known key_there in
       head_known bytes n e.key head own (rw (← is, same) at right)
 
@@ -79,9 +79,9 @@ BeginsAsFirst bytes first count key =
 
 module _ (bytes : KeyBytes) where
   -- a known key whose text is empty or begins with these bytes
-  begins_with : (beginning : List ℕ) (key : ℕ) (k : IsKnown bytes key)
-      → (k.text ≡ []) ⊎ (take (length beginning) k.text ≡ beginning) → Begins bytes beginning key
-  begins_with beginning key k begins = record { text = k.text; known = k.known; are_bytes = k.are_bytes; begins = begins }
+  begins_with : (prefix : List ℕ) (key : ℕ) (k : IsKnown bytes key)
+      → (k.text ≡ []) ⊎ (take (length prefix) k.text ≡ prefix) → Begins bytes prefix key
+  begins_with prefix key k begins = record { text = k.text; known = k.known; are_bytes = k.are_bytes; begins = begins }
 
   -- one key more that begins as the first one does, for fewer bytes perhaps
   pub first_more : (first count n i : ℕ) (keys : List ℕ) (key : ℕ) → i < length keys → key ≡ get_or keys i key
@@ -146,41 +146,41 @@ module _ (bytes : KeyBytes) where
   beside_right key_heads _ _ given = absurd given
 
   -- There are as many heads as entries.
-  pub heads_count : (es : List Entry) (key_heads : KeyHeads) → AreHeads bytes key_heads → key_heads.keys ≡ keys_of es
+  pub heads_count : (es : List NodeEntry) (key_heads : KeyHeads) → AreHeads bytes key_heads → key_heads.keys ≡ keys_of es
       → length key_heads.heads ≡ length es
   heads_count es key_heads h is =
-      cc (h.heads, length-map key_heads.keys (head_at bytes key_heads.prefix_len), length-map es (λ (e : Entry). e.key))
+      cc (h.heads, length-map key_heads.keys (head_at bytes key_heads.prefix_len), length-map es (λ (e : NodeEntry). e.key))
 
   -- a node that knows its keys' bytes
   module _ (key_heads : KeyHeads) (h : AreHeads bytes key_heads) where
     -- one whose keys begin with the same bytes
-    headed_alike : (new : KeyHeads) → new.prefix_len ≡ key_heads.prefix_len → All (Begins bytes h.beginning) new.keys
+    headed_equal : (new : KeyHeads) → new.prefix_len ≡ key_heads.prefix_len → All (Begins bytes h.prefix) new.keys
         → new.heads ≡ map (head_at bytes key_heads.prefix_len) new.keys → AreHeads bytes new
-    headed_alike new same begins heads =
-        record { beginning = h.beginning; prefix_len = h.prefix_len ∙ sym same; begins = begins; heads = rw same heads }
+    headed_equal new same begins heads =
+        record { prefix = h.prefix; prefix_len = h.prefix_len ∙ sym same; begins = begins; heads = rw same heads }
 
     -- A text that begins as all keys do begins with these bytes.
-    pub prefix_begins : (text : List ℕ) → HasPrefix bytes key_heads text → take (length h.beginning) text ≡ h.beginning
+    pub prefix_begins : (text : List ℕ) → HasPrefix bytes key_heads text → take (length h.prefix) text ≡ h.prefix
     prefix_begins text a =
-        let b = All-contains (Begins bytes h.beginning) key_heads.keys a.key h.begins a.there in
+        let b = All-contains (Begins bytes h.prefix) key_heads.keys a.key h.begins a.there in
         let texts : b.text ≡ a.text = cc (b.known, a.known) in
-        grind (arith, begins_if_long h.beginning b.text b.begins)
+        grind (arith, begins_if_long h.prefix b.text b.begins)
 
     -- A key that begins as all others do for so many bytes begins with these.
-    agrees_begins : (key : ℕ) → IsKnown bytes key → BeginsAsThese bytes key_heads key → Begins bytes h.beginning key
+    agrees_begins : (key : ℕ) → IsKnown bytes key → BeginsAsThese bytes key_heads key → Begins bytes h.prefix key
     agrees_begins key k has_prefix =
-        begins_with h.beginning key k
+        begins_with h.prefix key k
         (elim (has_prefix k.text k.known) [ inl empty ↦ inl empty | inr a ↦ inr (prefix_begins k.text a) ])
 
     -- a key of the node itself does
     pub key_agrees : (key : ℕ) → Contains key_heads.keys key → BeginsAsThese bytes key_heads key
     key_agrees key there text known =
-        let b = All-contains (Begins bytes h.beginning) key_heads.keys key h.begins there in
+        let b = All-contains (Begins bytes h.prefix) key_heads.keys key h.begins there in
         let texts : text ≡ b.text = cc (b.known) in
         elim b.begins [
           | inl empty ↦ inl (texts ∙ empty)
           | inr same ↦
-              let long : key_heads.prefix_len ≤ length text = grind (arith, length-take (length h.beginning) b.text) in
+              let long : key_heads.prefix_len ≤ length text = grind (arith, length-take (length h.prefix) b.text) in
               inr (record { key = key; text = text; there = there; known = known; long = long; same = refl })
         ]
 
@@ -190,7 +190,7 @@ module _ (bytes : KeyBytes) where
         → ((a b : List ℕ) → bytes first ≡ Some a → bytes key ≡ Some b → (count ≤ length a) × (count ≤ length b))
         → (text : List ℕ) → bytes key ≡ Some text → HasPrefix bytes key_heads text
     common_agrees first key count there enough same within text known =
-        let b = All-contains (Begins bytes h.beginning) key_heads.keys first h.begins there in
+        let b = All-contains (Begins bytes h.prefix) key_heads.keys first h.begins there in
         let long : key_heads.prefix_len ≤ length b.text = omega (arith, (within b.text text b.known known).0) in
         let have_prefix = take_fewer key_heads.prefix_len count b.text text enough (same b.text text b.known known) in
         record { key = first; text = b.text; there = there; known = b.known; long = long; same = have_prefix }
@@ -200,8 +200,8 @@ module _ (bytes : KeyBytes) where
         → head ≡ head_at bytes key_heads.prefix_len key → new.keys ≡ slice_set key_heads.keys i key
         → new.prefix_len ≡ key_heads.prefix_len → new.heads ≡ slice_set key_heads.heads i head → AreHeads bytes new
     headed_set new i key head k has_prefix right keys prefix_len heads =
-        headed_alike new prefix_len
-        (rw keys (All-set (Begins bytes h.beginning) key_heads.keys i key (agrees_begins key k has_prefix) h.begins))
+        headed_equal new prefix_len
+        (rw keys (All-set (Begins bytes h.prefix) key_heads.keys i key (agrees_begins key k has_prefix) h.begins))
         (cc (h.heads, map-set (head_at bytes key_heads.prefix_len) key_heads.keys i key))
 
     -- then the keys are known
@@ -222,7 +222,7 @@ module _ (bytes : KeyBytes) where
         → now.heads ≡ take from key_heads.heads ++ (heads ++ drop to key_heads.heads) → AreHeads bytes now
     headed_spliced now new heads from to known given keys_are prefix_len heads_are =
         let right = beside_right key_heads new heads given in
-        headed_alike now prefix_len (rw keys_are (All-spliced (Begins bytes h.beginning) key_heads.keys new from to h.begins
+        headed_equal now prefix_len (rw keys_are (All-spliced (Begins bytes h.prefix) key_heads.keys new from to h.begins
         (λ i d inside. agrees_begins (get_or new i d) (known i d inside) (right.1 i d inside))))
         (cc (h.heads, right.0, map_spliced (head_at bytes key_heads.prefix_len) key_heads.keys new now.keys from to keys_are))
 
@@ -238,14 +238,14 @@ module _ (bytes : KeyBytes) where
       → front.prefix_len ≡ all.prefix_len → back.prefix_len ≡ all.prefix_len → AreHeads bytes front × AreHeads bytes back
   headed_apart all front back h keys heads count front_len back_len =
       let f = head_at bytes all.prefix_len in
-      let P = Begins bytes h.beginning in
+      let P = Begins bytes h.prefix in
       let n = length front.keys in
       let begins = rw (← keys) at h.begins in
       let mapped = map-append f front.keys back.keys in
       let len = length-map front.keys f in (
-        headed_alike all h front front_len (All-front P front.keys back.keys begins)
+        headed_equal all h front front_len (All-front P front.keys back.keys begins)
             (cc (take_at front.heads back.heads n count, take_at (map f front.keys) (map f back.keys) n len)),
-        headed_alike all h back back_len (All-back P front.keys back.keys begins)
+        headed_equal all h back back_len (All-back P front.keys back.keys begins)
             (cc (drop_at front.heads back.heads n count, drop_at (map f front.keys) (map f back.keys) n len)),
       )
 
@@ -254,16 +254,16 @@ module _ (bytes : KeyBytes) where
       (as_many : one.prefix_len ≡ other.prefix_len) (there : Contains other.keys key)
       (has_prefix : (text : List ℕ) → bytes key ≡ Some text → HasPrefix bytes one text) where
     -- All keys of both begin with the same bytes.
-    same_beginning : others.beginning ≡ h.beginning
-    same_beginning =
-        let k = All-contains (Begins bytes others.beginning) other.keys key others.begins there in
+    same_prefix : others.prefix ≡ h.prefix
+    same_prefix =
+        let k = All-contains (Begins bytes others.prefix) other.keys key others.begins there in
         let begins = prefix_begins one h k.text (has_prefix k.text k.known) in
-        grind (arith, length-take (length h.beginning) k.text, begins_if_long others.beginning k.text k.begins)
+        grind (arith, length-take (length h.prefix) k.text, begins_if_long others.prefix k.text k.begins)
 
     -- Those of the second are put before the one at an index of the first, with their heads.
     pub headed_joined : (now : KeyHeads) (at : ℕ) → now.keys ≡ take at one.keys ++ (other.keys ++ drop at one.keys)
         → now.prefix_len ≡ one.prefix_len → now.heads ≡ take at one.heads ++ (other.heads ++ drop at one.heads) → AreHeads bytes now
     headed_joined now at keys prefix_len heads =
-        headed_alike one h now prefix_len
-        (rw keys (All-spliced (Begins bytes h.beginning) one.keys other.keys at at h.begins (rw same_beginning at others.begins)))
+        headed_equal one h now prefix_len
+        (rw keys (All-spliced (Begins bytes h.prefix) one.keys other.keys at at h.begins (rw same_prefix at others.begins)))
         (cc (h.heads, others.heads, map_spliced (head_at bytes one.prefix_len) one.keys other.keys now.keys at at keys))

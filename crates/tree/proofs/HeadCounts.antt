@@ -41,5 +41,5 @@ module _ {X : Type 0} (p : X → Bool) where
       → from + length (filter p (take (to - from) (drop from xs))) ≡ length (filter p xs)
   count_range xs from to partitioned least most =
       let falls = Falls-below_from p xs partitioned in
-      let whole = simp (take-add, filter-append, length-append) at (among_first xs (from + (to - from)) falls) in
-      omega (arith, whole, among_first xs from falls)
+      let entire = simp (take-add, filter-append, length-append) at (among_first xs (from + (to - from)) falls) in
+      omega (arith, entire, among_first xs from falls)

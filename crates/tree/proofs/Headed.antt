@@ -10,9 +10,9 @@ use Rattle.tree.proofs.Changing.{same_number}
 use Rattle.tree.proofs.callers.Times.{once_cases}
 
 -- a text that isn't too short for it begins with these bytes
-pub begins_if_long : (beginning text : List ℕ) → (text ≡ []) ⊎ (take (length beginning) text ≡ beginning)
-    → length beginning ≤ length text → take (length beginning) text ≡ beginning
-begins_if_long beginning text begins long = grind (arith, nil_from_length beginning)
+pub begins_if_long : (prefix text : List ℕ) → (text ≡ []) ⊎ (take (length prefix) text ≡ prefix)
+    → length prefix ≤ length text → take (length prefix) text ≡ prefix
+begins_if_long prefix text begins long = grind (arith, nil_from_length prefix)
 
 -- each key of which a node knows is known
 pub all_known : (bytes : KeyBytes) (key_heads : KeyHeads) → AreHeads bytes key_heads → All (IsKnown bytes) key_heads.keys
@@ -31,11 +31,11 @@ module _ (a b : KeyBytes) (same : (key : ℕ) (text : List ℕ) → a key ≡ So
   -- what a node knows is right
   pub key_heads_kept : (key_heads : KeyHeads) → AreHeads a key_heads → AreHeads b key_heads
   key_heads_kept key_heads h =
-      let begins : All (Begins b h.beginning) key_heads.keys = λ i d lt.
+      let begins : All (Begins b h.prefix) key_heads.keys = λ i d lt.
       let x = h.begins i d lt in
       record { text = x.text; known = same _ x.text x.known; are_bytes = x.are_bytes; begins = x.begins } in
       let heads = h.heads ∙ heads_kept key_heads.prefix_len key_heads.keys (all_known a key_heads h) in
-      record { beginning = h.beginning; prefix_len = h.prefix_len; begins = begins; heads = heads }
+      record { prefix = h.prefix; prefix_len = h.prefix_len; begins = begins; heads = heads }
 
   -- and what each node knows
   pub headed_kept : (all_heads : ℕ → Option KeyHeads) → AllAreHeads a all_heads → AllAreHeads b all_heads

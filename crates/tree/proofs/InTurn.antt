@@ -24,8 +24,8 @@ module _ {X Y : Type 0} (R : X → Y → Type 0) where
       rw (more, pushed, take_more xs i x inside, ← is) (all_zipped_more R (take i xs) ys x y all it)
 
   -- all are gone through
-  pub AllZip-whole : (xs : List X) (n : ℕ) (ys : List Y) → length xs ≤ n → AllZip R (take n xs) ys → AllZip R xs ys
-  AllZip-whole xs n ys most = rw (take_all n xs most) (λ all. all)
+  pub AllZip-entire : (xs : List X) (n : ℕ) (ys : List Y) → length xs ≤ n → AllZip R (take n xs) ys → AllZip R xs ys
+  AllZip-entire xs n ys most = rw (take_all n xs most) (λ all. all)
 
   -- a weaker relation to what the second elements are made of
   pub AllZip-through : {Z : Type 0} (S : X → Z → Type 0) (f : Z → Y) → ((x : X) (z : Z) → R x (f z) → S x z) → (xs : List X)

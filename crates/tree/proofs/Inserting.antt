@@ -4,11 +4,11 @@ use Rattle.std.specs.FinMap as finite
 use Rattle.std.proofs.lemmas.List.Filters.{length-filter_both}
 use Rattle.arena.specs.Arena.{Arena, spare_of}
 use Rattle.tree.specs.declared.node.Node.{Node}
-use Rattle.tree.specs.declared.entry.Entry.{Entry}
+use Rattle.tree.specs.declared.entry.NodeEntry.{NodeEntry}
 use Rattle.tree.specs.Heads.{KeyBytes, AllAreHeads}
 use Rattle.tree.specs.Node.{all_heads_of}
 use Rattle.tree.specs.Item.{Item}
-use Rattle.tree.specs.Path.{IsPartitioned, items_below, behind}
+use Rattle.tree.specs.Path.{IsPartitioned, items_below, following}
 use Rattle.tree.specs.Subtree.{items_in}
 use Rattle.tree.specs.Walk.{CanChangeBy}
 use Rattle.tree.proofs.Counting.{low, enough_spare}
@@ -18,7 +18,7 @@ use Rattle.tree.specs.Tree.{IsTree, IsRooted}
 module _ {N : ℕ} where
   -- A tree can be changed.
   pub can_change : {bytes : KeyBytes} {is_below : ℕ → Bool} {Wants : List Item → Type 0} {nodes : Arena (Node N)}
-      {root height len room : ℕ} {taken : List Entry} → IsTree nodes root height len room → len < 2 ^ 64
+      {root height len room : ℕ} {taken : List NodeEntry} → IsTree nodes root height len room → len < 2 ^ 64
       → IsPartitioned (λ x. is_below x.key) (items_in nodes height root) → AllAreHeads bytes (all_heads_of nodes)
       → Wants (items_in nodes height root) → taken ≡ [] → CanChangeBy bytes is_below Wants nodes root height taken
   can_change {bytes} {is_below} {Wants} {nodes} {root} {height} {len} {room} {taken} t fits partitioned headed wanted none =
@@ -52,7 +52,7 @@ module _ {N : ℕ} where
 
 -- those that pass and those that don't are all
 pub length-partitioned : (is_below : ℕ → Bool) (items : List Item)
-    → length (items_below is_below items) + length (behind is_below items) ≡ length items
+    → length (items_below is_below items) + length (following is_below items) ≡ length items
 length-partitioned is_below items =
     length-filter_both (λ (x : Item). is_below x.key) (λ (x : Item). not (is_below x.key)) (λ x. refl) items
 

@@ -4,7 +4,7 @@ use mathlib.Core.List.{map-map, map-append}
 use Rattle.std.specs.FinMap as finite
 use Rattle.std.specs.Cmp.{nat_cmp_total}
 use Rattle.std.proofs.lemmas.List.Elements.{All-contains, All-map, All-contains_itself, Contains-get_or, Contains-append_left, Contains-append_right}
-use Rattle.tree.proofs.Words.{Arena, Record, record_at, Entry, Node, Item, keys_of, key_heads_of, heads_list, items_of, slots_of, entries_at, items_in, slots_in, IsSubtree, KnowItems, IsRooted, least_of}
+use Rattle.tree.proofs.Words.{Arena, Record, record_at, NodeEntry, Node, Item, keys_of, key_heads_of, heads_list, items_of, slots_of, entries_at, items_in, slots_in, IsSubtree, KnowItems, IsRooted, least_of}
 use Rattle.tree.proofs.Changing.{other_number}
 use Rattle.tree.proofs.Frames.{IsRight, live_in}
 use Rattle.tree.proofs.HeadList.{read_list}
@@ -39,7 +39,7 @@ AreOf items keys = All (Contains (keys_in items)) keys
 
 module _ {N : ℕ} (a : Arena (Node N)) (least : ℕ) where
   -- those of the items below an entry are among those below all entries
-  key_below : (height : ℕ) (es : List Entry) (e : Entry) → Contains es e → (key : ℕ)
+  key_below : (height : ℕ) (es : List NodeEntry) (e : NodeEntry) → Contains es e → (key : ℕ)
       → Contains (keys_in (items_in a height e.child)) key → Contains (keys_in (items_of a height es)) key
   key_below height [] e (k, lt, is) key has = absurd (omega arith)
   key_below height (x ∷ es) e (zero, lt, is) key has =
@@ -49,8 +49,8 @@ module _ {N : ℕ} (a : Arena (Node N)) (least : ℕ) where
       (key_below height es e (k, omega arith, is) key has))
 
   -- the entry below which a slot stands
-  entry_above : (height s : ℕ) (es : List Entry) → 1 ≤ times s (slots_of a height es)
-      → (e : Entry) × Contains es e × (1 ≤ times s (slots_in a height e.child))
+  entry_above : (height s : ℕ) (es : List NodeEntry) → 1 ≤ times s (slots_of a height es)
+      → (e : NodeEntry) × Contains es e × (1 ≤ times s (slots_in a height e.child))
   entry_above height s [] some = absurd (omega arith)
   entry_above height s (e ∷ es) some = elim (none_or_some (times s (slots_in a height e.child))) [
     | inr here ↦ (e, (zero, omega arith, refl), here)
@@ -69,8 +69,8 @@ module _ {N : ℕ} (a : Arena (Node N)) (least : ℕ) where
   keys_known s (suc height) slot h some = elim (once_cases s slot) [
     | inl same ↦
         let es = entries_at a slot in
-        rw (← same.0) (All-map (Contains (keys_in (items_of a height es))) (λ (e : Entry). e.key) es
-        (λ i d lt. let t = (h.2 i d lt).tells in
+        rw (← same.0) (All-map (Contains (keys_in (items_of a height es))) (λ (e : NodeEntry). e.key) es
+        (λ i d lt. let t = (h.2 i d lt).describes in
         key_below height es (get_or es i d) (Contains-get_or es i d lt) _ (rw t.items_are (zero, omega arith, sym t.key))))
     | inr other ↦
         let w = entry_above height s (entries_at a slot) (omega (arith, other.1)) in

@@ -2,11 +2,11 @@
 use Rattle.std.proofs.Common.{◌≡◌, ℕ, ℤ, ◌+◌, ◌-◌, ◌<◌, ◌≤◌, Bool, List, Option, [], ◌∷◌, ◌++◌, pos, length, get_or, take, drop, filter, map, sym, ◌∙◌, ap, arith, length-drop}
 use Rattle.std.proofs.lemmas.List.{take_more, drop_more, map-append, length-map, length-take-le, take-append-drop, drop-drop}
 use mathlib.Core.List.{map-map}
-use Rattle.tree.proofs.Words.{Entry, Removal, Item, item_of, version_of, IsPartitioned, first_key, RemovesExpired, IsLast, unexpired, expired}
+use Rattle.tree.proofs.Words.{NodeEntry, Removal, Item, item_of, version_of, IsPartitioned, first_key, RemovesExpired, IsLast, unexpired, expired}
 use Rattle.tree.proofs.Removing.{run, all_stay}
 use Rattle.tree.proofs.WrittenLeaf.{items_parted}
 
-module _ (es : List Entry) (begin end : ℕ) (some : begin < end) (most : end ≤ length es) where
+module _ (es : List NodeEntry) (begin end : ℕ) (some : begin < end) (most : end ≤ length es) where
   -- the entries from the first of the run on
   from_run : drop begin es ≡ run es begin end ++ drop end es
   from_run =
@@ -19,8 +19,8 @@ module _ (es : List Entry) (begin end : ℕ) (some : begin < end) (most : end �
       ++ (unexpired edge before (map item_of (run es begin end)) ++ map item_of (drop end es))
   untouched edge before none =
       let items = map-append item_of (take begin es) (drop begin es) in
-      let behind = map-append item_of (run es begin end) (drop end es) in
-      cc (all_stay edge before (map item_of (run es begin end)) none, take-append-drop begin es, from_run, items, behind)
+      let following = map-append item_of (run es begin end) (drop end es) in
+      cc (all_stay edge before (map item_of (run es begin end)) none, take-append-drop begin es, from_run, items, following)
 
   -- the items of the leaf once it is swept of expired items
   pub leaf_unexpired : (p : ℕ → Bool) → IsPartitioned (λ e. p e.key) es → begin + 1 ≡ length (filter (λ e. p e.key) es)
@@ -33,7 +33,7 @@ module _ (es : List Entry) (begin end : ℕ) (some : begin < end) (most : end �
       → removal.next ≡ first_key next (map item_of (drop end es))
       → RemovesExpired p count edge before removal out next (map item_of es) now
   leaf_unexpired p partitioned is_below count edge before removal out next now few looked_at last now_is run_is next_is =
-      let default : Entry = record { key = 0; child = 0; version = pos 0 } in
+      let default : NodeEntry = record { key = 0; child = 0; version = pos 0 } in
       let entry = get_or es begin default in
       let parts = items_parted p es (begin + 1) partitioned is_below in
       let size : length (run es begin end) ≡ end - begin =

@@ -6,13 +6,13 @@ use Rattle.std.proofs.Math.Seq.{map-set_same}
 use Rattle.std.specs.FinMap as finite
 use Rattle.std.specs.Ordering.{nat_cmp}
 use Rattle.arena.specs.Arena.{Arena, Record, record_at}
-use Rattle.tree.specs.declared.entry.Entry.{Entry}
+use Rattle.tree.specs.declared.entry.NodeEntry.{NodeEntry}
 use Rattle.tree.specs.declared.node.Node.{Node}
 use Rattle.tree.specs.Heads.{KeyBytes, Begins, AreHeads, AllAreHeads}
 use Rattle.tree.specs.Item.{item_of}
 use Rattle.tree.specs.Node.{entries_of, key_heads_of, all_heads_of, heads_list, keys_of}
 use Rattle.tree.specs.Path.{IsPartitioned}
-use Rattle.tree.specs.Reached.{CanReach}
+use Rattle.tree.specs.ReachedLeaf.{CanReach}
 use Rattle.tree.specs.Subtree.{entries_at, items_in}
 use Rattle.tree.specs.Tree.{CanSearchItems, IsTree, least_of}
 use Rattle.tree.proofs.HeadList.{headed_from_list}
@@ -20,11 +20,11 @@ use Rattle.tree.proofs.HeadOrder.{empty_head}
 use Rattle.tree.proofs.Headed.{headed_put}
 
 -- so many entries are below the bound, and the others stand behind them
-pub parted : (p : ℕ → Bool) (es : List Entry) (n : ℕ) → IsPartitioned (λ e. p e.key) es → n ≡ length (filter (λ e. p e.key) es)
+pub parted : (p : ℕ → Bool) (es : List NodeEntry) (n : ℕ) → IsPartitioned (λ e. p e.key) es → n ≡ length (filter (λ e. p e.key) es)
     → (take n es ≡ filter (λ e. p e.key) es) × (drop n es ≡ filter (λ e. not (p e.key)) es)
 parted p es n partitioned count =
-    let front = filter (λ (e : Entry). p e.key) es in
-    let rest = filter (λ (e : Entry). not (p e.key)) es in
+    let front = filter (λ (e : NodeEntry). p e.key) es in
+    let rest = filter (λ (e : NodeEntry). not (p e.key)) es in
     (ap (take n) partitioned ∙ take_at front rest n (sym count), ap (drop n) partitioned ∙ drop_at front rest n (sym count))
 
 module _ {N : ℕ} where
@@ -45,12 +45,12 @@ module _ {N : ℕ} where
       search (rules, t.rooted.subtree, root_some nodes slot height len room t, headed, can.partitioned)
 
   -- A node whose keys stay knows as much as before.
-  pub key_heads_stays : (bytes : KeyBytes) (old new : Node N) (i : ℕ) (d e : Entry)
+  pub key_heads_stays : (bytes : KeyBytes) (old new : Node N) (i : ℕ) (d e : NodeEntry)
       → key_heads_of new ≡ record (key_heads_of old) { keys = keys_of (entries_of new) }
       → entries_of new ≡ set (entries_of old) i e → e.key ≡ (get_or (entries_of old) i d).key → AreHeads bytes (key_heads_of old)
       → AreHeads bytes (key_heads_of new)
   key_heads_stays bytes old new i d e key_heads entries key headed =
-      let kept = map-set_same (λ (e : Entry). e.key) (entries_of old) i e d key in
+      let kept = map-set_same (λ (e : NodeEntry). e.key) (entries_of old) i e d key in
       let keys : keys_of (entries_of new) ≡ keys_of (entries_of old) = ap keys_of entries ∙ kept in
       rw (key_heads, keys) headed
 
@@ -60,7 +60,7 @@ headed_empty : (bytes : KeyBytes) (key : ℕ) → bytes key ≡ Some []
 headed_empty bytes key empty =
     let begins : Begins bytes [] key = record { text = []; known = empty; are_bytes = search rules; begins = inl refl } in
     record {
-      beginning = [];
+      prefix = [];
       prefix_len = refl;
       begins = All-cons (Begins bytes []) key [] begins (All-nil (Begins bytes []));
       heads = rw empty (ap (λ d. d ∷ []) (sym (empty_head 0)));

@@ -3,7 +3,7 @@ use Rattle.std.proofs.Common.{◌≡◌, ℕ, zero, suc, ◌+◌, ◌-◌, ◌�
 use Rattle.std.proofs.lemmas.Option.{slice_get-get_or}
 use Rattle.std.proofs.lemmas.List.{drop_all, drop_more, take-append-drop, append-nil, append_assoc, map-append}
 use Rattle.std.proofs.lemmas.List.Elements.{All-head, All-append, All-map, filter-append}
-use Rattle.tree.proofs.Words.{Arena, Entry, Node, Item, item_of, IsPartitioned, index_in, child_in, leaf_in, before_leaf, behind_leaf, items_below, entries_at, items_in, IsSubtree, IsLast}
+use Rattle.tree.proofs.Words.{Arena, NodeEntry, Node, Item, item_of, IsPartitioned, index_in, child_in, leaf_in, before_leaf, after_leaf, items_below, entries_at, items_in, IsSubtree, IsLast}
 use Rattle.tree.proofs.callers.Times.{none_or_some}
 use Rattle.tree.proofs.callers.Partitions.{not_both, none_pass, none_passed, none_fail, IsPartitioned-parts}
 use Rattle.tree.proofs.HeadCounts.{passing_at}
@@ -23,18 +23,18 @@ none_before : {N : ℕ} (nodes : Arena (Node N)) (least height slot : ℕ) (is_b
     → (before_leaf nodes height slot is_below ≡ []) × All (λ x. is_below x.key ≡ false) (items_in nodes height slot)
 none_before nodes least zero slot is_below s c none =
     let es = entries_at nodes slot in
-    let fail : All (λ (e : Entry). is_below e.key ≡ false) es = none_passed (λ (e : Entry). is_below e.key) es none in
+    let fail : All (λ (e : NodeEntry). is_below e.key ≡ false) es = none_passed (λ (e : NodeEntry). is_below e.key) es none in
     (refl, All-map (λ (x : Item). is_below x.key ≡ false) item_of es fail)
 none_before nodes least (suc height) slot is_below s c none =
     let w = way nodes least height slot is_below s c in
     let es = entries_at nodes slot in
-    let p = λ (e : Entry). is_below e.key in
+    let p = λ (e : NodeEntry). is_below e.key in
     let Fails = λ (x : Item). is_below x.key ≡ false in
-    let below = λ (e : Entry). items_in nodes height e.child in
+    let below = λ (e : NodeEntry). items_in nodes height e.child in
     let i = none_before nodes least height (child_in is_below es) is_below (rw w.child at w.kept.subtree)
     (rw w.child at w.partitioned) none in
     let all : All Fails (below w.entry) = rw w.child i.1 in
-    let t = w.kept.tells in
+    let t = w.kept.describes in
     let fails = rw (← t.key) at (All-head Fails t.first t.others (rw t.items_are at all)) in
     elim (none_or_some (length (filter p es))) [
       | inl zero_pass ↦
@@ -42,28 +42,28 @@ none_before nodes least (suc height) slot is_below s c none =
           let front : flat_map below (take (index_in is_below es) es) ≡ [] = rw at refl in
           let items = rw front at w.items in (
             rw front i.0,
-            rw items (All-append Fails (below w.entry) (flat_map below (drop (index_in is_below es + 1) es)) all w.behind),
+            rw items (All-append Fails (below w.entry) (flat_map below (drop (index_in is_below es + 1) es)) all w.following),
           )
       | inr some ↦ absurd (not_both (is_below w.entry.key) (index_passes p es w.entry w.entries some w.is) fails)
     ]
 
-pub filter-items : (q : ℕ → Bool) (es : List Entry)
-    → filter (λ (x : Item). q x.key) (map item_of es) ≡ map item_of (filter (λ (e : Entry). q e.key) es)
+pub filter-items : (q : ℕ → Bool) (es : List NodeEntry)
+    → filter (λ (x : Item). q x.key) (map item_of es) ≡ map item_of (filter (λ (e : NodeEntry). q e.key) es)
 filter-items q es = filter_items (λ (x : Item). q x.key) es
 
 -- entries whose items are partitioned are partitioned
-pub entries_of_partitioned : (is_below : ℕ → Bool) (es : List Entry)
+pub entries_of_partitioned : (is_below : ℕ → Bool) (es : List NodeEntry)
     → IsPartitioned (λ x. is_below x.key) (map item_of es) → IsPartitioned (λ e. is_below e.key) es
 entries_of_partitioned is_below es c = partitioned-entries (λ (x : Item). is_below x.key) es c
 
 -- the entries of a leaf, between the items before it, which pass, and those behind it, which fail
-pub record IsLeaf (is_below : ℕ → Bool) (items before after : List Item) (es : List Entry) : Type 0 where
+pub record IsLeaf (is_below : ℕ → Bool) (items before after : List Item) (es : List NodeEntry) : Type 0 where
   pub items_are : items ≡ before ++ (map item_of es ++ after)
   pub pass : All (λ x. is_below x.key ≡ true) before
   pub fail : All (λ x. is_below x.key ≡ false) after
   pub none : filter (λ e. is_below e.key) es ≡ [] → before ≡ []
 
-module _ (is_below : ℕ → Bool) (items before after : List Item) (es : List Entry)
+module _ (is_below : ℕ → Bool) (items before after : List Item) (es : List NodeEntry)
     (leaf : IsLeaf is_below items before after es) where
   -- the items below the bound, and the others
   pub passing_is : items_below is_below items ≡ before ++ map item_of (filter (λ e. is_below e.key) es)
@@ -94,7 +94,7 @@ match_last P Q (x ∷ xs) result is none some =
     rw e (some last (take i all, parts))
 
 -- The last entry below the bound is the last such item.
-pub last_passing : (is_below : ℕ → Bool) (items before after : List Item) (es passed : List Entry) (result : Option Entry)
+pub last_passing : (is_below : ℕ → Bool) (items before after : List Item) (es passed : List NodeEntry) (result : Option NodeEntry)
     → IsLeaf is_below items before after es → passed ≡ filter (λ e. is_below e.key) es
     → result ≡ slice_get passed (length passed - 1)
     → MatchOption result (items_below is_below items ≡ []) (λ e. IsLast (item_of e) (items_below is_below items))
@@ -107,15 +107,15 @@ last_passing is_below items before after es passed result leaf same is =
     ))
 
 -- the leaf that a bound finds is one
-pub is_leaf : {N : ℕ} (nodes : Arena (Node N)) (least height slot : ℕ) (is_below : ℕ → Bool) (leaf : ℕ) (es : List Entry)
+pub is_leaf : {N : ℕ} (nodes : Arena (Node N)) (least height slot : ℕ) (is_below : ℕ → Bool) (leaf : ℕ) (es : List NodeEntry)
     → IsSubtree nodes least height slot → IsPartitioned (λ x. is_below x.key) (items_in nodes height slot)
     → leaf ≡ leaf_in nodes height slot is_below → entries_at nodes leaf ≡ es
     → items_in nodes height slot
-    ≡ before_leaf nodes height slot is_below ++ (map item_of (entries_at nodes leaf) ++ behind_leaf nodes height slot is_below)
+    ≡ before_leaf nodes height slot is_below ++ (map item_of (entries_at nodes leaf) ++ after_leaf nodes height slot is_below)
     → All (λ x. is_below x.key ≡ true) (before_leaf nodes height slot is_below)
-    → All (λ x. is_below x.key ≡ false) (behind_leaf nodes height slot is_below)
+    → All (λ x. is_below x.key ≡ false) (after_leaf nodes height slot is_below)
     → IsLeaf is_below (items_in nodes height slot) (before_leaf nodes height slot is_below)
-    (behind_leaf nodes height slot is_below) es
+    (after_leaf nodes height slot is_below) es
 is_leaf nodes least height slot is_below leaf es s c way same items pass fail =
     let there : entries_at nodes (leaf_in nodes height slot is_below) ≡ es = ap (entries_at nodes) (sym way) ∙ same in
     record {

@@ -48,11 +48,11 @@ pub mod Splicing
 pub mod StillCounted
 pub mod Stepping
 pub mod Storing
-pub mod Telling
+pub mod Describing
 pub mod RaisedLeaves
 pub mod Removing
-pub mod Told
-pub mod ToldKeys
+pub mod QuestionAnswers
+pub mod AnsweredKeys
 pub mod Trees
 pub mod Walked
 pub mod Walking

@@ -2,7 +2,7 @@
 use Rattle.std.proofs.Common.{rules, ◌≡◌, ℕ, zero, suc, ◌+◌, ◌-◌, ◌<◌, ◌≤◌, Bool, true, false, List, ◌∷◌, ◌++◌, take, drop, Option, Some, None, option_map, length, get_or, filter, flat_map, map, All, IfSome, sym, refl, ◌∙◌, ap, subst, arith, slice_range, append-nil}
 use Rattle.std.proofs.lemmas.Grind.{flat_map-append}
 use Rattle.std.proofs.lemmas.List.{drop-map, length-map, take-map}
-use Rattle.tree.proofs.Words.{Arena, header_at, Entry, Node, Item, Tells, item_of, entries_of, IsPartitioned, below_from, below_to, entries_at, items_in, IsChild, IsSubtree, CanFind, CanStep, IsLowerBound, KeyBytes, IsCommonPrefixAt, CanReach}
+use Rattle.tree.proofs.Words.{Arena, header_at, NodeEntry, Node, Item, Describes, item_of, entries_of, IsPartitioned, below_from, below_to, entries_at, items_in, IsChild, IsSubtree, CanFind, CanStep, IsLowerBound, KeyBytes, IsCommonPrefixAt, CanReach}
 use Rattle.tree.proofs.callers.Partitions.{none_pass, none_fail}
 use Rattle.tree.proofs.Ways.{around_element, children_partitioned, index_inside}
 use Rattle.tree.proofs.Found.{partitioned-entries, entries_read, read_partitioned}
@@ -38,7 +38,7 @@ nested_asked f t (Some p) None h key e = refl
 nested_asked f t (Some p) (Some q) h key e = h key e
 
 -- a node with its entries, and two bounds through its items
-pub record IsLook {N : ℕ} (nodes : Arena (Node N)) (least height slot : ℕ) (f t : ℕ → Bool) (es : List Entry)
+pub record IsLook {N : ℕ} (nodes : Arena (Node N)) (least height slot : ℕ) (f t : ℕ → Bool) (es : List NodeEntry)
     (begin end : ℕ) : Type 0 where
   pub subtree : IsSubtree nodes least height slot
   pub from : IsPartitioned (λ x. f x.key) (items_in nodes height slot)
@@ -50,7 +50,7 @@ pub record IsLook {N : ℕ} (nodes : Arena (Node N)) (least height slot : ℕ) (
 
 -- The entries are partitioned as the items are.
 pub look_bound : {N : ℕ} (nodes : Arena (Node N)) (least height slot : ℕ) (is_below : ℕ → Bool) (header : Node N)
-    (es : List Entry) → IsSubtree nodes least height slot
+    (es : List NodeEntry) → IsSubtree nodes least height slot
     → IsPartitioned (λ x. is_below x.key) (items_in nodes height slot) → header_at nodes slot ≡ Some header
     → es ≡ entries_of header → IsPartitioned (λ e. is_below e.key) es
 look_bound nodes least zero slot is_below header es s c h e =
@@ -77,25 +77,25 @@ module _ {N : ℕ} {nodes : Arena (Node N)} {least height slot : ℕ} {bytes : K
   can_step_at knows = record { can_find = can_find_at; known = rw read at knows }
 
 pub look_of : {N : ℕ} {A B : Type 0} (nodes : Arena (Node N)) (least height slot : ℕ) (bytes : A → KeyBytes) (f : A → ℕ → Bool)
-    (near : B → KeyBytes) (t : B → ℕ → Bool) (from : Option A) (to : Option B) (header : Node N) (es : List Entry) (begin end : ℕ)
+    (hint : B → KeyBytes) (t : B → ℕ → Bool) (from : Option A) (to : Option B) (header : Node N) (es : List NodeEntry) (begin end : ℕ)
     → IsSubtree nodes least height slot
     → IfSome from (λ p. CanReach (bytes p) (f p) nodes least height slot)
-    → IfSome to (λ q. CanReach (near q) (t q) nodes least height slot)
+    → IfSome to (λ q. CanReach (hint q) (t q) nodes least height slot)
     → IfSome from (λ p. IfSome to (λ q. (key : ℕ) → f p key ≡ true → t q key ≡ true))
     → header_at nodes slot ≡ Some header → es ≡ entries_of header
     → IsLowerBound (below_from (option_map f from)) header begin → IsLowerBound (below_to (option_map t to)) header end
     → IsLook nodes least height slot (below_from (option_map f from)) (below_to (option_map t to)) es begin end
-look_of nodes least height slot bytes f near t from to header es begin end s c d n h e b l = record {
+look_of nodes least height slot bytes f hint t from to header es begin end s c d n h e b l = record {
   subtree = s;
   from = from_asked bytes f nodes least height slot from c;
-  to = to_asked near t nodes least height slot to d;
+  to = to_asked hint t nodes least height slot to d;
   nested = nested_asked f t from to n;
   read = entries_read nodes slot header es h e;
   begin_is = rw e b.count_is;
   end_is = rw e l.count_is;
 }
 
-module _ {N : ℕ} (nodes : Arena (Node N)) (least height slot : ℕ) (f t : ℕ → Bool) (es : List Entry)
+module _ {N : ℕ} (nodes : Arena (Node N)) (least height slot : ℕ) (f t : ℕ → Bool) (es : List NodeEntry)
     (begin end : ℕ) (k : IsLook nodes least height slot f t es begin end) where
   abbrev p : Item → Bool
   p x = f x.key
@@ -104,7 +104,7 @@ module _ {N : ℕ} (nodes : Arena (Node N)) (least height slot : ℕ) (f t : ℕ
   q x = t x.key
 
   pub look_ordered : begin ≤ end
-  look_ordered = omega (arith, k.begin_is, k.end_is, fewer_before _ _ (λ (e : Entry). k.nested e.key) es)
+  look_ordered = omega (arith, k.begin_is, k.end_is, fewer_before _ _ (λ (e : NodeEntry). k.nested e.key) es)
 
   -- at a leaf
   pub leaf_from_last : height ≡ 0 → (first : ℕ) → first ≡ begin - 1
@@ -112,14 +112,14 @@ module _ {N : ℕ} (nodes : Arena (Node N)) (least height slot : ℕ) (f t : ℕ
   leaf_from_last z first fi =
       let at : items_in nodes height slot ≡ map item_of es = ap (λ n. items_in nodes n slot) z ∙ ap (map item_of) k.read in
       let count = λ (b : ℕ → Bool). ap length (filter-items (λ (x : Item). b x.key) es)
-      ∙ length-map (filter (λ (e : Entry). b e.key) es) item_of in
+      ∙ length-map (filter (λ (e : NodeEntry). b e.key) es) item_of in
       ap (from_last_of p q) at
       ∙ from_last_range p q (map item_of es) first end (rw at at k.to) (omega (arith, look_ordered, fi))
       (omega (arith, fi, k.begin_is, count f)) (omega (arith, k.end_is, count t))
       ∙ simp (drop-map item_of, take-map item_of)
 
   module _ (some : height ≡ 0 → ⊥) where
-    abbrev pub below : Entry → List Item
+    abbrev pub below : NodeEntry → List Item
     below e = items_in nodes (height - 1) e.child
 
     lower : suc (height - 1) ≡ height
@@ -128,8 +128,8 @@ module _ {N : ℕ} (nodes : Arena (Node N)) (least height slot : ℕ) (f t : ℕ
     node : (1 ≤ length es) × All (IsChild nodes least (height - 1) (IsSubtree nodes least (height - 1))) es
     node = let s = subst (λ n. IsSubtree nodes least n slot) (sym lower) k.subtree in rw (← k.read) (s.1, s.2)
 
-    pub look_tell : All (λ e. Tells e (below e)) es
-    look_tell = λ i e inside. (node.1 i e inside).tells
+    pub look_answers : All (λ e. Describes e (below e)) es
+    look_answers = λ i e inside. (node.1 i e inside).describes
 
     pub look_items : items_in nodes height slot ≡ flat_map below es
     look_items = ap (λ n. items_in nodes n slot) (sym lower) ∙ ap (flat_map below) k.read
@@ -145,7 +145,7 @@ module _ {N : ℕ} (nodes : Arena (Node N)) (least height slot : ℕ) (f t : ℕ
     first_inside = omega (arith, last_inside, look_ordered)
 
     -- what is asked of the search in a child
-    module _ (i : ℕ) (e : Entry) (inside : i < length es) (is : e ≡ get_or es i e) where
+    module _ (i : ℕ) (e : NodeEntry) (inside : i < length es) (is : e ≡ get_or es i e) where
       pub child_is : IsChild nodes least (height - 1) (IsSubtree nodes least (height - 1)) e
       child_is = rw is (node.1 i e inside)
 

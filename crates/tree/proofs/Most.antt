@@ -5,7 +5,7 @@ use Rattle.std.specs.Option.{IsSome}
 use Rattle.std.proofs.lemmas.Int.{ints, clamps, to_z-of_z}
 use Rattle.std.proofs.lemmas.List.Elements.{All-drop, All-nil, All-append, All-filter}
 use Rattle.keys.proofs.callers.SomeElement.{Any-parts, Any-left, Any-right}
-use Rattle.tree.proofs.Words.{Entry, Item, Tells, IsGreatestWith, greater_of, version_of}
+use Rattle.tree.proofs.Words.{NodeEntry, Item, Describes, IsGreatestWith, greater_of, version_of}
 use Rattle.tree.proofs.callers.Partitions.{All-front, All-back}
 use Rattle.tree.proofs.FromLast.{from_last_of}
 use Rattle.tree.proofs.Greatest.{one_of_both}
@@ -24,9 +24,9 @@ most_with (Some l) (Some v) xs h = record {
 }
 
 -- beside that of whole children
-pub most_between : (least peak most : Option ℤ) (below : Entry → List Item) (es : List Entry) → All (λ e. Tells e (below e)) es
+pub most_between : (least peak most : Option ℤ) (below : NodeEntry → List Item) (es : List NodeEntry) → All (λ e. Describes e (below e)) es
     → IsPeak version_of peak es → most ≡ greater_of least peak → IsGreatestWith least (flat_map below es) most
-most_between least peak most below es tell told same = rw same (most_with least peak _ (IsPeak-children below peak es tell told))
+most_between least peak most below es describe answered same = rw same (most_with least peak _ (IsPeak-children below peak es describe answered))
 
 least_higher : (least : Option ℤ) (v w : ℤ) → v ≤ℤ w → IfSome least (λ l. l ≤ℤ v) → IfSome least (λ l. l ≤ℤ w)
 least_higher None v w le h = tt
@@ -59,20 +59,20 @@ most_swapped a (Some v) xs ys h = record {
 }
 
 -- those of three parts, the middle one first
-pub most_of_parts : (a b c d : Option ℤ) (whole l m r : List Item) → whole ≡ l ++ (m ++ r) → IsGreatestWith a m b
-    → IsGreatestWith b l c → IsGreatestWith c r d → IsGreatestWith a whole d
-most_of_parts a b c d whole l m r parts i j k =
+pub most_of_parts : (a b c d : Option ℤ) (entire l m r : List Item) → entire ≡ l ++ (m ++ r) → IsGreatestWith a m b
+    → IsGreatestWith b l c → IsGreatestWith c r d → IsGreatestWith a entire d
+most_of_parts a b c d entire l m r parts i j k =
     rw (parts, ← append_assoc l m r) (most_append a c d (l ++ m) r (most_swapped a c m l (most_append a b c m l i j)) k)
 
 -- A subtree that has none above the version is passed over.
-pub most_passed : (least : Option ℤ) (e : Entry) (xs : List Item) (p q : Item → Bool) (above : Bool) → SFits w64 e.version
-    → Tells e xs → above ≡ false → (IsTrue above ↔ IfSome least (λ l. l <ℤ to_z w64 (of_z w64 e.version)))
+pub most_passed : (least : Option ℤ) (e : NodeEntry) (xs : List Item) (p q : Item → Bool) (above : Bool) → SFits w64 e.version
+    → Describes e xs → above ≡ false → (IsTrue above ↔ IfSome least (λ l. l <ℤ to_z w64 (of_z w64 e.version)))
     → IsGreatestWith least (from_last_of p q xs) least
-most_passed None e xs p q above fits tells fails told = let yes = told.1 tt in absurd (cc)
-most_passed (Some l) e xs p q above fits tells fails told =
-    let not_less : l <ℤ e.version → ⊥ = λ lt. (let yes = told.1 (rw (to_z-of_z w64 e.version fits) lt) in cc) in
+most_passed None e xs p q above fits describes fails answered = let yes = answered.1 tt in absurd (cc)
+most_passed (Some l) e xs p q above fits describes fails answered =
+    let not_less : l <ℤ e.version → ⊥ = λ lt. (let yes = answered.1 (rw (to_z-of_z w64 e.version fits) lt) in cc) in
     let le : e.version ≤ℤ l = grind (arith, ints) in
-    let bound = All-filter q (Bounds l) xs (higher e.version l xs le tells.greatest.bound) in
+    let bound = All-filter q (Bounds l) xs (higher e.version l xs le describes.greatest.bound) in
     let bound = All-drop (Bounds l) (length (filter p xs) - 1) (filter q xs) bound in
     record { bound = bound; least_bound = omega (arith, ints); reached = inl refl }
 

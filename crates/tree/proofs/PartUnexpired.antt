@@ -5,7 +5,7 @@ use Rattle.tree.proofs.Words.{Removal, Item, items_below, RemovesExpired, GivesU
 use Rattle.tree.proofs.callers.Partitions.{filter_around}
 use Rattle.tree.proofs.callers.Times.{none_or_some}
 use Rattle.tree.proofs.Inserting.{length-partitioned}
-use Rattle.tree.proofs.Keys.{behind-parts, first_key-append}
+use Rattle.tree.proofs.Keys.{following-parts, first_key-append}
 use Rattle.tree.proofs.PartWritten.{some_here}
 use Rattle.tree.proofs.Removing.{expired_or_kept}
 
@@ -14,22 +14,22 @@ pub unexpired_all : (p : ℕ → Bool) (count : ℕ) (edge before : ℤ) (remova
     → IsChangedWithin p (λ _. GivesUnexpired p count edge before removal run) true None was now
     → items_below p was ≢ [] → RemovesExpired p count edge before removal run None was now
 unexpired_all p count edge before removal run was now c some =
-    let pass = filter_around (λ (x : Item). p x.key) c.before c.leaf c.behind c.items_below c.failing in
+    let pass = filter_around (λ (x : Item). p x.key) c.before c.leaf c.following c.items_below c.failing in
     let h = c.gives.1 (some_here p p (λ key t. t) c some) in
     rw (c.was_is, c.now_is) record {
       front = c.before ++ h.front;
       first = h.first;
       looked = h.looked;
-      rest = h.rest ++ c.behind;
+      rest = h.rest ++ c.following;
       front_is = cc (pass, h.front_is, append_assoc c.before h.front (h.first ∷ []));
-      looked_is = cc (behind-parts p c.before c.leaf c.behind c.items_below c.failing, append_assoc h.looked h.rest c.behind);
+      looked_is = cc (following-parts p c.before c.leaf c.following c.items_below c.failing, append_assoc h.looked h.rest c.following);
       looked_at = h.looked_at;
       some = h.some;
       few = h.few;
-      now_is = ap (λ xs. c.before ++ (xs ++ c.behind)) h.now_is ∙ (simp append_assoc);
+      now_is = ap (λ xs. c.before ++ (xs ++ c.following)) h.now_is ∙ (simp append_assoc);
       run_is = h.run_is;
       last = h.last;
-      next_is = h.next_is ∙ sym (first_key-append None h.rest c.behind);
+      next_is = h.next_is ∙ sym (first_key-append None h.rest c.following);
     }
 
 -- The first of a run stays behind a version that isn't below the edge.

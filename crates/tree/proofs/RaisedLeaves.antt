@@ -7,14 +7,14 @@ use Rattle.std.proofs.lemmas.List.Elements.{All-append, All-cons}
 use Rattle.std.proofs.lemmas.Option.{slice_get-get_or}
 use Rattle.keys.proofs.callers.SomeElement.{Any-first, Any-later}
 use Rattle.arena.specs.Arena.{Arena}
-use Rattle.tree.specs.declared.entry.Entry.{Entry}
+use Rattle.tree.specs.declared.entry.NodeEntry.{NodeEntry}
 use Rattle.tree.specs.declared.node.Node.{Node}
-use Rattle.tree.specs.declared.walk.Outcome.TheVariants.{Raised}
+use Rattle.tree.specs.declared.walk.LeafOutcome.TheVariants.{Raised}
 use Rattle.tree.specs.declared.walk.RaisedLeaf.{RaisedLeaf}
 use Rattle.tree.specs.Heads.{KeyBytes}
-use Rattle.tree.specs.Item.{Item, Tells}
+use Rattle.tree.specs.Item.{Item, Describes}
 use Rattle.tree.specs.Overwrite.{IsPartOfPartitioned, part_of_part}
-use Rattle.tree.specs.Path.{IsPartitioned, items_below, behind, first_key}
+use Rattle.tree.specs.Path.{IsPartitioned, items_below, following, first_key}
 use Rattle.tree.specs.Children.{child_at, items_of, AreChildren, IsRebalancedAt}
 use Rattle.tree.specs.Subtree.{entries_at, items_in, slots_in}
 use Rattle.tree.specs.Tree.{IsRooted, least_of}
@@ -26,7 +26,7 @@ use Rattle.tree.proofs.Frames.{IsRight}
 use Rattle.tree.proofs.Sharing.{child_is}
 use Rattle.tree.proofs.Stepping.{IsAt, around, child_can, here, items_split, live_beside, read_beside, split}
 use Rattle.tree.proofs.Storing.{family_apart}
-use Rattle.tree.proofs.Walked.{changed_above, child_filled, family, step_rebalanced, tells_written}
+use Rattle.tree.proofs.Walked.{changed_above, child_filled, family, step_rebalanced, describes_written}
 
 -- a tree that can be changed, from its root on
 pub root_can : {N : ℕ} {nodes : Arena (Node N)} {root height : ℕ} → CanChangeTree nodes root height → CanChange nodes height root
@@ -75,8 +75,8 @@ some_passes p (x ∷ xs) some = elim (cases_Bool (p x)) [
 -- A node stays as it is where its child's entry has the version of what came into the child.
 module _ {N : ℕ} {a : Arena (Node N)} {height lower slot i x : ℕ} (at : IsAt a height lower slot i x) (leaf : RaisedLeaf)
     {bytes : KeyBytes} {b : Arena (Node N)} (put : IsChanged bytes a b lower x (Raised leaf))
-    (told : (here at).version ≡ leaf.version) where
-  abbrev es : List Entry
+    (answered : (here at).version ≡ leaf.version) where
+  abbrev es : List NodeEntry
   es = entries_at a slot
 
   read : entries_at b slot ≡ es
@@ -88,8 +88,8 @@ module _ {N : ℕ} {a : Arena (Node N)} {height lower slot i x : ℕ} (at : IsAt
       record {
         filled = rw (read, child, at.x_is) at (child_filled at put refl leaf refl);
         subtree = rw at.x_is at put.subtree;
-        tells = subst (λ v. Tells (record (here at) { version = v }) (items_in b lower (here at).child)) (sym told)
-            (tells_written at put refl leaf refl (here at) (rw read (slice_get-get_or es i at.d at.within)) (omega (arith, ints, told)));
+        describes = subst (λ v. Describes (record (here at) { version = v }) (items_in b lower (here at).child)) (sym answered)
+            (describes_written at put refl leaf refl (here at) (rw read (slice_get-get_or es i at.d at.within)) (omega (arith, ints, answered)));
       }
 
   children : AreChildren b (least_of N) lower es
@@ -97,7 +97,7 @@ module _ {N : ℕ} {a : Arena (Node N)} {height lower slot i x : ℕ} (at : IsAt
       let loose = family at put refl in
       let Right = IsRight b (least_of N) lower in
       rw (split at) (All-append Right (take i es) (here at ∷ [] ++ drop (i + 1) es) (rw read at loose.family.before)
-      (All-cons Right (here at) (drop (i + 1) es) right (rw read at loose.family.behind)))
+      (All-cons Right (here at) (drop (i + 1) es) right (rw read at loose.family.following)))
 
   made : IsRebalancedAt b b (least_of N) lower slot
   made = record {
@@ -117,7 +117,7 @@ module _ {N : ℕ} {a : Arena (Node N)} {height lower slot i x : ℕ} (at : IsAt
     here at,
     at.within,
     get_or_default es i (here at) at.d at.within,
-    (told, rw at.x_is at (put.raised leaf refl).there),
+    (answered, rw at.x_is at (put.raised leaf refl).there),
   )
 
   changed_kept : IsChanged bytes a b height slot (Raised leaf)
@@ -139,7 +139,7 @@ module _ {N : ℕ} {a : Arena (Node N)} (leaf : RaisedLeaf) where
     few = once_if_distinct _ can.distinct;
     within = within;
     d = d;
-    x_is = ap (λ (e : Entry). e.child) (sym is);
+    x_is = ap (λ (e : NodeEntry). e.child) (sym is);
   }
 
   -- The leaf's items are a part of those of the subtree.
@@ -173,22 +173,22 @@ module _ {N : ℕ} {a : Arena (Node N)} (leaf : RaisedLeaf) where
     written (suc lower) slot can h =
         let at = at_raised lower slot can h in
         let w = written lower h.1.child (child_can at) h.4.1 in
-        let told = ap (λ (e : Entry). e.version) (get_or_default (entries_at a slot) h.0 at.d h.1 at.within ∙ h.3) ∙ h.4.0 in
+        let answered = ap (λ (e : NodeEntry). e.version) (get_or_default (entries_at a slot) h.0 at.d h.1 at.within ∙ h.3) ∙ h.4.0 in
         record {
-          changed = changed_kept at leaf w.changed told;
+          changed = changed_kept at leaf w.changed answered;
           before = items_of a lower (take h.0 (entries_at a slot)) ++ w.before;
           after = w.after ++ items_of a lower (drop (h.0 + 1) (entries_at a slot));
           was_is = items_split at ∙ simp (w.was_is, append_assoc);
-          now_is = items_kept at leaf w.changed told ∙ simp (w.now_is, append_assoc);
+          now_is = items_kept at leaf w.changed answered ∙ simp (w.now_is, append_assoc);
         }
 
     -- The items of a tree of which the leaf was changed, that has items on both sides of a bound.
     pub within_raised : (is_below : ℕ → Bool) (Gives : Bool → Option ℕ → List Item → List Item → Type 0) (height slot : ℕ)
         → CanChange a height slot → IsRaisedIn a leaf height slot → IsPartitioned (λ x. is_below x.key) (items_in a height slot)
-        → items_below is_below (items_in a 0 leaf.slot) ≢ [] → behind is_below (items_in a 0 leaf.slot) ≢ []
+        → items_below is_below (items_in a 0 leaf.slot) ≢ [] → following is_below (items_in a 0 leaf.slot) ≢ []
         → ((is_first : Bool) (next : Option ℕ) → Gives is_first next (items_in a 0 leaf.slot) (items_in b 0 leaf.slot))
         → IsChangedWithin is_below Gives true None (items_in a height slot) (items_in b height slot)
-    within_raised is_below Gives height slot can there partitioned some_below some_behind gives =
+    within_raised is_below Gives height slot can there partitioned some_below some_after gives =
         let w = written height slot can there in
         let p = λ (x : Item). is_below x.key in
         let items = items_in a 0 leaf.slot in
@@ -198,14 +198,14 @@ module _ {N : ℕ} {a : Arena (Node N)} (leaf : RaisedLeaf) where
           before = w.before;
           leaf = items;
           changed = items_in b 0 leaf.slot;
-          behind = w.after;
+          following = w.after;
           was_is = w.was_is;
           now_is = w.now_is;
           items_below = elim parts.2 [
             | inl all ↦ all
             | inr none ↦ absurd (some_below (none_pass p items (All-front (λ x. p x ≡ false) items w.after none)).0)
           ];
-          failing = elim rest.2 [ inl all ↦ absurd (some_behind (none_fail p items all).1) | inr none ↦ none ];
+          failing = elim rest.2 [ inl all ↦ absurd (some_after (none_fail p items all).1) | inr none ↦ none ];
           found = inr (some_passes p items some_below);
           first = is_empty w.before;
           first_is = empty_if w.before;

@@ -1,16 +1,16 @@
 -- The leaf that a bound finds: the items before it and behind it.
 use Rattle.std.proofs.Common.{rules, ◌≡◌, ℕ, zero, suc, Bool, true, false, ◌++◌, map, All, sym, append_assoc, append-nil}
 use Rattle.std.proofs.lemmas.List.Elements.{All-nil, All-append}
-use Rattle.tree.proofs.Words.{Arena, Node, Item, item_of, IsPartitioned, child_in, leaf_in, before_leaf, behind_leaf, entries_at, items_in, IsSubtree}
+use Rattle.tree.proofs.Words.{Arena, Node, Item, item_of, IsPartitioned, child_in, leaf_in, before_leaf, after_leaf, entries_at, items_in, IsSubtree}
 use Rattle.tree.proofs.Ways.{way}
 
 module _ {N : ℕ} (nodes : Arena (Node N)) where
   -- what the leaf that a bound finds says of the items of the subtree
   pub record IsFoundLeaf (height slot leaf : ℕ) (is_below : ℕ → Bool) : Type 0 where
     pub items : items_in nodes height slot ≡ before_leaf nodes height slot is_below
-        ++ (map item_of (entries_at nodes leaf) ++ behind_leaf nodes height slot is_below)
+        ++ (map item_of (entries_at nodes leaf) ++ after_leaf nodes height slot is_below)
     pub before : All (λ x. is_below x.key ≡ true) (before_leaf nodes height slot is_below)
-    pub behind : All (λ x. is_below x.key ≡ false) (behind_leaf nodes height slot is_below)
+    pub following : All (λ x. is_below x.key ≡ false) (after_leaf nodes height slot is_below)
 
   pub found_leaf_in : (least height slot : ℕ) (is_below : ℕ → Bool) → IsSubtree nodes least height slot
       → IsPartitioned (λ x. is_below x.key) (items_in nodes height slot)
@@ -25,5 +25,5 @@ module _ {N : ℕ} (nodes : Arena (Node N)) where
       record {
         items = rw (w.items, w.child, f.items) (simp append_assoc);
         before = All-append (λ (x : Item). is_below x.key ≡ true) _ _ w.before f.before;
-        behind = All-append (λ (x : Item). is_below x.key ≡ false) _ _ f.behind w.behind;
+        following = All-append (λ (x : Item). is_below x.key ≡ false) _ _ f.following w.following;
       }

@@ -4,10 +4,10 @@ use Rattle.std.proofs.lemmas.Grind.{drop_more_same}
 use Rattle.std.proofs.lemmas.Int.{ints}
 use Rattle.std.proofs.lemmas.List.{append-nil, get_or-drop, map-append, take_more, take_more_set, drop-set-lt, drop_more}
 use Rattle.std.proofs.lemmas.Bool.{cases_Bool}
-use Rattle.tree.proofs.Words.{Entry, Item, item_of, version_of, IsLast, unexpired, expired}
+use Rattle.tree.proofs.Words.{NodeEntry, Item, item_of, version_of, IsLast, unexpired, expired}
 
 -- the entries from an index up to another
-abbrev pub run : List Entry → ℕ → ℕ → List Entry
+abbrev pub run : List NodeEntry → ℕ → ℕ → List NodeEntry
 run es from to = take (to - from) (drop from es)
 
 -- each goes or stays
@@ -18,7 +18,7 @@ expired_or_kept edge before (x ∷ xs) =
     grind (arith, expired_or_kept edge x.version xs, cases_Bool (int_lt before edge && int_lt x.version edge))
 
 -- the entries from an index on
-pub from_index : (es : List Entry) (index : ℕ) (e : Entry) → index < length es → e ≡ get_or es index e
+pub from_index : (es : List NodeEntry) (index : ℕ) (e : NodeEntry) → index < length es → e ≡ get_or es index e
     → drop index es ≡ e ∷ drop (index + 1) es
 from_index es index e inside is = rw is (drop_more es index e inside)
 
@@ -28,7 +28,7 @@ all_stay edge before [] none = refl
 all_stay edge before (x ∷ xs) none =
     grind (arith, cases_Bool (int_lt before edge && int_lt x.version edge), all_stay edge x.version xs)
 
-module _ (edge last : ℤ) (es : List Entry) (index : ℕ) (e : Entry) (inside : index < length es) (is : e ≡ get_or es index e) where
+module _ (edge last : ℤ) (es : List NodeEntry) (index : ℕ) (e : NodeEntry) (inside : index < length es) (is : e ≡ get_or es index e) where
   -- Where the entry at an index stays, those that go are behind it.
   pub one_passed : (int_lt last edge && int_lt e.version edge) ≡ false
       → expired edge last (map item_of (drop index es)) ≡ expired edge e.version (map item_of (drop (index + 1) es))
@@ -39,15 +39,15 @@ module _ (edge last : ℤ) (es : List Entry) (index : ℕ) (e : Entry) (inside :
   one_found t none = let found = rw (from_index es index e inside is, t) at none in absurd (cc)
 
 -- the version of the last entry of a run is the last of the versions
-pub last_at : (es : List Entry) (from to : ℕ) (e : Entry) → from < to → to ≤ length es → e ≡ get_or es (to - 1) e
+pub last_at : (es : List NodeEntry) (from to : ℕ) (e : NodeEntry) → from < to → to ≤ length es → e ≡ get_or es (to - 1) e
     → IsLast e.version (map version_of (run es from to))
 last_at es from to e some within is =
     let n = to - 1 - from in
-    let behind = drop from es in
+    let following = drop from es in
     let count : to - from ≡ n + 1 = omega arith in
     let index : from + n ≡ to - 1 = omega arith in
-    let more = take_more behind n e (omega (arith, length-drop from es)) in
-    (map version_of (take n behind), rw (count, more, get_or-drop from es n e, index, ← is, map-append))
+    let more = take_more following n e (omega (arith, length-drop from es)) in
+    (map version_of (take n following), rw (count, more, get_or-drop from es n e, index, ← is, map-append))
 
 -- a version that isn't below the edge
 pub not_below : (edge v : ℤ) → int_le edge v ≡ true → int_lt v edge ≡ false
@@ -57,7 +57,7 @@ pub is_below : (edge v : ℤ) → int_le edge v ≡ false → int_lt v edge ≡ 
 is_below edge v h = grind (arith, ints)
 
 -- the entries of a node that is swept of expired items, up to an index: those that stay, those that go, and those ahead
-pub record RemovesExpired (edge before last : ℤ) (es now : List Entry) (out : List Item) (from to index kept : ℕ) : Type 0 where
+pub record RemovesExpired (edge before last : ℤ) (es now : List NodeEntry) (out : List Item) (from to index kept : ℕ) : Type 0 where
   pub counted : kept + length out ≡ index
   pub same_length : length now ≡ length es
   pub ahead : drop index now ≡ drop index es
@@ -65,9 +65,9 @@ pub record RemovesExpired (edge before last : ℤ) (es now : List Entry) (out : 
       ≡ map item_of (take from es) ++ unexpired edge before (map item_of (run es from to))
   pub went : out ++ expired edge last (map item_of (run es index to)) ≡ expired edge before (map item_of (run es from to))
 
-module _ {edge before last : ℤ} {es now : List Entry} {out : List Item} {from to index kept : ℕ}
+module _ {edge before last : ℤ} {es now : List NodeEntry} {out : List Item} {from to index kept : ℕ}
     (t : RemovesExpired edge before last es now out from to index kept) (within : to ≤ length es) where
-  module _ (e : Entry) (lt : index < to) (is : e ≡ get_or now index e) where
+  module _ (e : NodeEntry) (lt : index < to) (is : e ≡ get_or now index e) where
     -- the next entry
     next : (run es index to ≡ e ∷ run es (index + 1) to) × (drop (index + 1) now ≡ drop (index + 1) es)
     next =
@@ -103,7 +103,7 @@ module _ {edge before last : ℤ} {es now : List Entry} {out : List Item} {from 
     none_ahead = let none : to - index ≡ 0 = omega arith in rw none refl
 
     -- at the end of the run
-    pub all_kept : (after : List Entry) → after ≡ take kept now ++ drop to now
+    pub all_kept : (after : List NodeEntry) → after ≡ take kept now ++ drop to now
         → map item_of after
         ≡ map item_of (take from es) ++ (unexpired edge before (map item_of (run es from to)) ++ map item_of (drop to es))
     all_kept after is = rw (is, map-append, rw (none_ahead, append-nil) at t.stayed, rw end at t.ahead, append_assoc) refl

@@ -6,7 +6,7 @@ use Rattle.std.specs.FinMap as map
 use Rattle.std.proofs.lemmas.List.{append-nil}
 use Rattle.std.proofs.lemmas.List.Elements.{All-head}
 use Rattle.arena.specs.Arena.{Arena, IsLive}
-use Rattle.tree.specs.declared.entry.Entry.{Entry}
+use Rattle.tree.specs.declared.entry.NodeEntry.{NodeEntry}
 use Rattle.tree.specs.declared.node.Node.{Node}
 use Rattle.tree.specs.Subtree.{entries_at, items_in, slots_in, IsSubtree}
 use Rattle.tree.specs.Children.{AreChildren, items_of, slots_of}
@@ -23,7 +23,7 @@ only_one (x ∷ y ∷ xs) d one = absurd (omega arith)
 
 module _ {N : ℕ} where
   -- a placed node leads to all that there is
-  pub grown : (a b : Arena (Node N)) (height slot : ℕ) (es : List Entry) → Moves a b [] (slot ∷ []) → IsLive b slot
+  pub grown : (a b : Arena (Node N)) (height slot : ℕ) (es : List NodeEntry) → Moves a b [] (slot ∷ []) → IsLive b slot
       → entries_at b slot ≡ es → 2 ≤ length es → AreChildren a (least_of N) height es
       → IsDistinct nat_eq (slots_of a height es) → map.len a.records ≡ length (slots_of a height es)
       → (items_in b (suc height) slot ≡ items_of a height es) × IsRooted b slot (suc height)
@@ -45,7 +45,7 @@ module _ {N : ℕ} where
       (h.items, rooted)
 
   -- the only child of a released root
-  pub shrunk : (a b : Arena (Node N)) (height slot : ℕ) (e : Entry) → IsSubtree a (least_of N) (suc height) slot
+  pub shrunk : (a b : Arena (Node N)) (height slot : ℕ) (e : NodeEntry) → IsSubtree a (least_of N) (suc height) slot
       → entries_at a slot ≡ e ∷ [] → IsDistinct nat_eq (slots_in a (suc height) slot)
       → map.len a.records ≡ length (slots_in a (suc height) slot) → Moves a b (slot ∷ []) []
       → (items_in b height e.child ≡ items_in a (suc height) slot) × IsRooted b e.child height

@@ -19,10 +19,10 @@ first_moved xs from n k to part within room =
     let head = take to xs in
     let rest = drop (to + (from + k - from)) xs in
     let size : from + k - from ≡ k = omega arith in
-    let whole : copy_within xs from (from + k) to ≡ head ++ (moved ++ rest) = append_assoc head moved rest in
+    let entire : copy_within xs from (from + k) to ≡ head ++ (moved ++ rest) = append_assoc head moved rest in
     let head_len : to + n ≡ length head + n = omega (arith, length-take-le to xs (omega arith)) in
     let long : n ≤ length moved = omega (arith, length-take-le (from + k - from) (drop from xs) (omega (arith, length-drop from xs))) in
-    cc (whole, head_len, take-append-add head (moved ++ rest) n, take-append-le n moved rest long, take-take n (from + k - from) (drop from xs) (omega arith))
+    cc (entire, head_len, take-append-add head (moved ++ rest) n, take-append-le n moved rest long, take-take n (from + k - from) (drop from xs) (omega arith))
 
 -- Where more elements are moved than there are up to an end, those up to it are the same.
 pub more_moved : {X : Type 0} (xs : List X) (from end more to : ℕ) → from ≤ end → end - from ≤ more → from + more ≤ length xs
@@ -70,10 +70,10 @@ take-spliced_before xs ys others len from to within ordered most room inside aft
     let front : take from (take n zs) ≡ take from (take len xs) =
     cc (kept, take-take from n zs (omega arith), take-take from end xs (omega arith), take-take from len xs (omega arith)) in
     let moved_len = length-take-le (len - to) (drop to xs) (omega (arith, length-drop to xs)) in
-    let behind = drop_at head (moved ++ drop n xs) end head_len in
+    let following = drop_at head (moved ++ drop n xs) end head_len in
     let add : to + (len - to) ≡ len = omega arith in
     let back : drop end (take n zs) ≡ drop to (take len xs) =
-    cc (behind, drop-take end (len - to) zs, take_at moved (drop n xs) (len - to) moved_len, drop-take to (len - to) xs) in
+    cc (following, drop-take end (len - to) zs, take_at moved (drop n xs) (len - to) moved_len, drop-take to (len - to) xs) in
     rw (put_taken ys others from n inside (omega arith), after, front, back)
 
 -- Elements are taken apart in two, and those at the end of the first part are written over.

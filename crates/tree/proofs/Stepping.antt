@@ -1,7 +1,7 @@
 -- A node above the leaves, and one of its children.
 use Rattle.std.proofs.Common.{◌≡◌, ℕ, suc, ◌+◌, ◌<◌, ◌≤◌, List, [], ◌∷◌, ◌++◌, length, append-nil, get_or, take, drop, sym, ap, ◌∙◌, arith}
 use Rattle.arena.specs.Arena.{Arena, IsLive, record_at}
-use Rattle.tree.specs.declared.entry.Entry.{Entry}
+use Rattle.tree.specs.declared.entry.NodeEntry.{NodeEntry}
 use Rattle.tree.specs.declared.node.Node.{Node}
 use Rattle.tree.specs.Item.{Item}
 use Rattle.tree.specs.Subtree.{entries_at, items_in, slots_in, IsSubtree}
@@ -22,14 +22,14 @@ module _ {N : ℕ} where
     pub subtree : IsSubtree a (least_of N) (suc lower) slot
     pub few : (s : ℕ) → times s (slots_in a (suc lower) slot) ≤ 1
     pub within : i < length (entries_at a slot)
-    pub d : Entry
+    pub d : NodeEntry
     pub x_is : x ≡ (get_or (entries_at a slot) i d).child
 
   module _ {a : Arena (Node N)} {height lower slot i x : ℕ} (at : IsAt a height lower slot i x) where
-    abbrev es : List Entry
+    abbrev es : List NodeEntry
     es = entries_at a slot
 
-    abbrev pub here : Entry
+    abbrev pub here : NodeEntry
     here = get_or es i at.d
 
     pub split : es ≡ take i es ++ (here ∷ [] ++ drop (i + 1) es)

@@ -2,7 +2,7 @@
 use Rattle.std.proofs.Common.{◌≡◌, ◌≢◌, ℕ, zero, suc, ◌+◌, ◌*◌, ◌-◌, ◌≤◌, ◌<◌, ℤ, int_lt, ◌&&◌, List, [], ◌∷◌, ◌++◌, length, drop, get_or, All, refl, sym, subst, ◌∙◌, ap, arith, length-append}
 use Rattle.std.proofs.lemmas.Bool.{cases_Bool}
 use Rattle.std.proofs.lemmas.List.{drop_more}
-use Rattle.tree.proofs.Words.{Arena, Node, Entry, Item, Unexpired, items_in, entries_at, IsChild, IsSubtree, IsCounted, last_version, items_from, unexpired}
+use Rattle.tree.proofs.Words.{Arena, Node, NodeEntry, Item, Unexpired, items_in, entries_at, IsChild, IsSubtree, IsCounted, last_version, items_from, unexpired}
 use Rattle.tree.proofs.Removing.{from_index}
 
 -- those that stay of two parts
@@ -53,9 +53,9 @@ pub both_counted : (edge : ℤ) (before middle later : Unexpired) (xs ys : List 
 both_counted edge before middle later xs ys first second =
     let parts = ap length (unexpired-append edge before.last xs ys)
     ∙ length-append (unexpired edge before.last xs) (unexpired edge (last_version before.last xs) ys) in
-    let told = rw first.last at second.count in
+    let answered = rw first.last at second.count in
     record {
-      count = omega (arith, first.count, told, parts);
+      count = omega (arith, first.count, answered, parts);
       last = second.last ∙ ap (λ v. last_version v ys) first.last ∙ sym (last_version-append before.last xs ys);
     }
 
@@ -70,7 +70,7 @@ module _ {N : ℕ} (nodes : Arena (Node N)) where
   items_of_root (suc height) slot = refl
 
   -- the items from an entry on are those of its child, and those from the next entry on
-  pub items_of_next : (height : ℕ) (e : Entry) (es : List Entry) → height ≢ 0
+  pub items_of_next : (height : ℕ) (e : NodeEntry) (es : List NodeEntry) → height ≢ 0
       → items_from nodes height (e ∷ es) ≡ items_in nodes (height - 1) e.child ++ items_from nodes height es
   items_of_next height e es some =
       let lower : height ≡ suc (height - 1) = omega arith in
@@ -83,7 +83,7 @@ module _ {N : ℕ} (nodes : Arena (Node N)) where
       let below = subst (λ n. IsSubtree nodes least n slot) lower s in below.2
 
   -- where a node goes on at an index
-  pub next_items : (height : ℕ) (es : List Entry) (index : ℕ) (e : Entry) → height ≢ 0 → index < length es
+  pub next_items : (height : ℕ) (es : List NodeEntry) (index : ℕ) (e : NodeEntry) → height ≢ 0 → index < length es
       → items_from nodes height (drop index es)
       ≡ items_in nodes (height - 1) (get_or es index e).child ++ items_from nodes height (drop (index + 1) es)
   next_items height es index e some inside =
@@ -103,6 +103,6 @@ steps_down height most index some =
     times_more n k = grind arith
 
 -- the next of the entries
-pub next_entry : (es : List Entry) (index : ℕ) (e : Entry) → index < length es → e ≡ get_or es index e
+pub next_entry : (es : List NodeEntry) (index : ℕ) (e : NodeEntry) → index < length es → e ≡ get_or es index e
     → drop index es ≡ e ∷ drop (index + 1) es
 next_entry es index e inside is = from_index es index e inside is

@@ -4,10 +4,10 @@ use Rattle.std.specs.Prelude.{IfSome, slice_set}
 use Rattle.std.proofs.lemmas.List.{length-set}
 use Rattle.std.specs.List.{All, Contains}
 use Rattle.arena.specs.Arena.{Arena, IsLive, header_at, record_at, with_header}
-use Rattle.tree.specs.declared.entry.Entry.{Entry}
+use Rattle.tree.specs.declared.entry.NodeEntry.{NodeEntry}
 use Rattle.tree.specs.declared.node.Node.{Node}
 use Rattle.tree.specs.Heads.{AllAreHeads, AreHeads, KeyBytes}
-use Rattle.tree.specs.Item.{Item, Tells}
+use Rattle.tree.specs.Item.{Item, Describes}
 use Rattle.tree.specs.Node.{all_heads_of, entries_of, key_heads_of}
 use Rattle.tree.specs.Rebalancing.{AreTwo, CanMerge, CanRebalance, LosesOneAtMost}
 use Rattle.tree.specs.Tree.{least_of}
@@ -31,7 +31,7 @@ module _ {N : ℕ} where
     pub neighbour : IfSome added (λ s. IsSubtree w least height s)
     pub changes : Changes a w (slots_in a height slot) (slots_with w height slot added)
 
-  module _ {a b : Arena (Node N)} (height slot : ℕ) (now : List Entry)
+  module _ {a b : Arena (Node N)} (height slot : ℕ) (now : List NodeEntry)
       (few : (s : ℕ) → times s (slots_in a (suc height) slot) ≤ 1) (live : IsLive a slot)
       (moves : Moves a b (slots_of a height (entries_at a slot)) (slots_of b height now)) where
     -- the node's own slot isn't touched below
@@ -121,30 +121,30 @@ module _ {N : ℕ} where
       }
 
   -- The child at the index of a node that can be rebalanced is live.
-  pub child_live : {bytes : KeyBytes} {a : Arena (Node N)} {slot i x : ℕ} (d : Entry) → CanRebalance bytes a slot i
+  pub child_live : {bytes : KeyBytes} {a : Arena (Node N)} {slot i x : ℕ} (d : NodeEntry) → CanRebalance bytes a slot i
       → x ≡ (get_or (entries_at a slot) i d).child → IsLive a x
   child_live {bytes} {a} {slot} {i} {x} d can x_is =
       live_subtree a (least_of N) can.family.0 x (rw x_is (can.family.1.family.below i d can.within))
 
   -- The entry at the index is made right where it lies.
-  pub entry_put : {bytes : KeyBytes} {a : Arena (Node N)} {height slot i x : ℕ} (d t : Entry) (node : Node N)
+  pub entry_put : {bytes : KeyBytes} {a : Arena (Node N)} {height slot i x : ℕ} (d t : NodeEntry) (node : Node N)
       → CanRebalance bytes a slot i → IsFamilyAt a (least_of N) height slot i (i + 1) → x ≡ (get_or (entries_at a slot) i d).child
-      → t.child ≡ x → (IsSubtree a (least_of N) height x → Tells t (items_in a height x))
+      → t.child ≡ x → (IsSubtree a (least_of N) height x → Describes t (items_in a height x))
       → least_of N ≤ length (entries_at a x) → entries_of node ≡ slice_set (entries_at a slot) i t
       → IsRebalancedAt a (with_header a slot node) (least_of N) height slot
-  entry_put {bytes} {a} {height} {slot} {i} {x} d t node can family x_is child tells filled now_is =
+  entry_put {bytes} {a} {height} {slot} {i} {x} d t node can family x_is child describes filled now_is =
       let es = entries_at a slot in
       rebalanced_at node can.live family (rebalanced_by_entry a (least_of N) height es (entries_of node) i x d t can.within x_is
-      family.family can.keyless child tells filled (now_is ∙ set_one es i t can.within))
+      family.family can.keyless child describes filled (now_is ∙ set_one es i t can.within))
       (omega (arith, ap length now_is, length-set es i t, can.within)) refl
 
   -- Two children of a node, whose entries were read, are merged, or share their entries, while its own record stays as it is.
-  module _ {bytes : KeyBytes} {a : Arena (Node N)} {slot i : ℕ} {l : List Entry} (d e : Entry) (can : CanMerge bytes a slot i)
+  module _ {bytes : KeyBytes} {a : Arena (Node N)} {slot i : ℕ} {l : List NodeEntry} (d e : NodeEntry) (can : CanMerge bytes a slot i)
       (read : l ≡ entries_at a slot) where
-    abbrev es : List Entry
+    abbrev es : List NodeEntry
     es = entries_at a slot
 
-    abbrev pair : List Entry
+    abbrev pair : List NodeEntry
     pair = get_or es i d ∷ get_or es (i + 1) e ∷ []
 
     abbrev x : ℕ
@@ -183,7 +183,7 @@ module _ {N : ℕ} where
         sym (entries_from_header b slot node header) ∙ entries_same a b slot (kept changes)
 
     -- The entries of the node are made right.
-    pub remade : {b : Arena (Node N)} (new : List Entry) (node : Node N) → 1 ≤ length new → length (slots_of b 0 new) ≤ 2
+    pub remade : {b : Arena (Node N)} (new : List NodeEntry) (node : Node N) → 1 ≤ length new → length (slots_of b 0 new) ≤ 2
         → Changes a b (x ∷ y ∷ []) (slots_of b 0 new) → AllAreHeads bytes (all_heads_of b) → All (IsMade b (least_of N)) new
         → entries_below b new ≡ entries_at a x ++ entries_at a y → entries_of node ≡ take i es ++ (new ++ drop (i + 2) es)
         → AreHeads bytes (key_heads_of node)

@@ -4,12 +4,12 @@ use Rattle.std.specs.FinMap as finite
 use Rattle.std.specs.Ordering.{nat_cmp}
 use Rattle.std.proofs.Math.Nat.{mul-le-mul_left}
 use Rattle.arena.specs.Arena.{Arena, Record, record_at, spare_of}
-use Rattle.tree.specs.declared.entry.Entry.{Entry}
+use Rattle.tree.specs.declared.entry.NodeEntry.{NodeEntry}
 use Rattle.tree.specs.declared.node.Node.{Node}
 use Rattle.tree.specs.declared.walk.RaisedLeaf.{RaisedLeaf}
 use Rattle.tree.specs.Node.{entries_of}
 use Rattle.tree.specs.Subtree.{slots_in}
-use Rattle.tree.specs.Tree.{IsTree, least_of, way}
+use Rattle.tree.specs.Tree.{IsTree, least_of, longest_path}
 use Rattle.tree.specs.Walk.{IsRaisedInTree}
 use Rattle.tree.proofs.callers.Times.{distinct_if_once}
 use Rattle.tree.proofs.Frames.{Agree, agree_own, items_same, raised_same, slots_same, subtree_same}
@@ -21,8 +21,8 @@ enough_nodes k room total some many = omega (arith, mul-le-mul_left k many)
 
 module _ {N : ℕ} where
   -- a tree of a single node of one entry, placed in an arena without records
-  pub tree_of_one : (a b : Arena (Node N)) (slot : ℕ) (node : Node N) (e : Entry) → 4 ≤ N → N ≤ 65536
-      → a.records ≡ finite.empty → way + 1 ≤ spare_of a 0 → record_at a slot ≡ None
+  pub tree_of_one : (a b : Arena (Node N)) (slot : ℕ) (node : Node N) (e : NodeEntry) → 4 ≤ N → N ≤ 65536
+      → a.records ≡ finite.empty → longest_path + 1 ≤ spare_of a 0 → record_at a slot ≡ None
       → b.records ≡ finite.insert a.records slot (record { header = node; key = [] })
       → record_at b slot ≡ Some (record { header = node; key = [] })
       → ((s : ℕ) → s ≢ slot → record_at b s ≡ record_at a s)
@@ -56,7 +56,7 @@ module _ {N : ℕ} where
 
   -- the same nodes, with other spare ones
   pub tree_stays : (a b : Arena (Node N)) (root height len room more : ℕ) → b.records ≡ a.records → IsTree a root height len room
-      → room ≤ more → more + (least_of N - 1) * way ≤ (least_of N - 1) * (finite.len a.records + spare_of b 0)
+      → room ≤ more → more + (least_of N - 1) * longest_path ≤ (least_of N - 1) * (finite.len a.records + spare_of b 0)
       → IsTree b root height len more
   tree_stays a b root height len room more same t wider enough =
       let agree : Agree a b (slots_in a height root) = λ s some. rw same refl in

@@ -5,14 +5,14 @@ use Rattle.std.proofs.lemmas.List.{get_or-set_same, length-drop, length-set, len
 use Rattle.std.proofs.lemmas.List.Elements.{All-append, All-cons, All-nil}
 use Rattle.std.proofs.lemmas.Option.{slice_get-get_or}
 use Rattle.arena.specs.Arena.{Arena, record_at}
-use Rattle.tree.specs.declared.entry.Entry.{Entry}
+use Rattle.tree.specs.declared.entry.NodeEntry.{NodeEntry}
 use Rattle.tree.specs.declared.node.Node.{Node}
-use Rattle.tree.specs.declared.walk.Outcome.{Outcome}
-use Rattle.tree.specs.declared.walk.Outcome.TheVariants.{Same, Raised, Split}
+use Rattle.tree.specs.declared.walk.LeafOutcome.{LeafOutcome}
+use Rattle.tree.specs.declared.walk.LeafOutcome.TheVariants.{Same, Raised, Split}
 use Rattle.tree.specs.declared.walk.RaisedLeaf.{RaisedLeaf}
 use Rattle.tree.specs.Heads.{KeyBytes}
 use Rattle.tree.specs.Item.{Item}
-use Rattle.tree.specs.Children.{child_at, entries_at_both, items_of, slots_of, slots_with, Changes, HasRaisedEntry, IsFamily, IsFamilyAt, IsLinked, IsRebalancedAt, TellsWritten}
+use Rattle.tree.specs.Children.{child_at, entries_at_both, items_of, slots_of, slots_with, Changes, HasRaisedEntry, IsFamily, IsFamilyAt, IsLinked, IsRebalancedAt, DescribesWritten}
 use Rattle.tree.specs.Splice.{AreHalfFull}
 use Rattle.tree.specs.Subtree.{entries_at, items_in, slots_in, IsSubtree}
 use Rattle.tree.specs.Tree.{least_of}
@@ -35,7 +35,7 @@ within_leaf is_below Gives is_first key was now gives = record {
   before = [];
   leaf = was;
   changed = now;
-  behind = [];
+  following = [];
   was_is = sym (append-nil was);
   now_is = sym (append-nil now);
   items_below = All-nil (λ (x : Item). is_below x.key ≡ true);
@@ -54,14 +54,14 @@ both_filled n w slot None few half = tt
 both_filled n w slot (Some s) few half = (omega (arith, half.left), omega (arith, half.right))
 
 module _ {N : ℕ} {a : Arena (Node N)} {height lower slot i x : ℕ} (at : IsAt a height lower slot i x) where
-  abbrev es : List Entry
+  abbrev es : List NodeEntry
   es = entries_at a slot
 
   -- The child was changed, and wasn't split.
-  module _ {bytes : KeyBytes} {b : Arena (Node N)} {outcome : Outcome} (put : IsChanged bytes a b lower x outcome)
-      (whole : added_by outcome ≡ None) where
+  module _ {bytes : KeyBytes} {b : Arena (Node N)} {outcome : LeafOutcome} (put : IsChanged bytes a b lower x outcome)
+      (entire : added_by outcome ≡ None) where
     moves : Moves a b (slots_in a lower x) (slots_in b lower x)
-    moves = moves_if_changes a b _ _ (subst (λ o. Changes a b (slots_in a lower x) (slots_with b lower x o)) whole put.changes)
+    moves = moves_if_changes a b _ _ (subst (λ o. Changes a b (slots_in a lower x) (slots_with b lower x o)) entire put.changes)
 
     loosened : Loose a b (least_of N) lower (take i es) (here at ∷ []) (drop (i + 1) es) (here at ∷ [])
     loosened = loose_at at (here at ∷ []) (rw (one_slots at b) at moves)
@@ -71,14 +71,14 @@ module _ {N : ℕ} {a : Arena (Node N)} {height lower slot i x : ℕ} (at : IsAt
 
     pub family : IsFamilyAt b (least_of N) lower slot i (i + 1)
     family =
-        let Below = λ (e : Entry). IsSubtree b (least_of N) lower e.child in
+        let Below = λ (e : NodeEntry). IsSubtree b (least_of N) lower e.child in
         let all = All-append Below (take i es) (here at ∷ [] ++ drop (i + 1) es) (below_of b _ lower _ loosened.front)
         (All-cons Below (here at) (drop (i + 1) es) (rw at.x_is at put.subtree) (below_of b _ lower _ loosened.back)) in
         let loose : IsFamily b (least_of N) lower es i (i + 1) = record {
           distinct = distinct_if_once (slots_of b lower es) (λ s. omega (arith, own.few s));
           below = rw (split at) all;
           before = loosened.front;
-          behind = loosened.back;
+          following = loosened.back;
         } in
         record {
           family = rw (read_beside at moves) loose;
@@ -99,19 +99,19 @@ module _ {N : ℕ} {a : Arena (Node N)} {height lower slot i x : ℕ} (at : IsAt
     }
 
     -- The child's entry would be right with the version of what came in.
-    pub tells_written : (leaf : RaisedLeaf) → outcome ≡ Raised leaf → TellsWritten b lower slot i leaf.version
-    tells_written leaf is = raised_at at b leaf.version (read_beside at moves) (put.raised leaf is).items
+    pub describes_written : (leaf : RaisedLeaf) → outcome ≡ Raised leaf → DescribesWritten b lower slot i leaf.version
+    describes_written leaf is = raised_at at b leaf.version (read_beside at moves) (put.raised leaf is).items
 
     -- The child has enough entries then.
     pub child_filled : (leaf : RaisedLeaf) → outcome ≡ Raised leaf
         → least_of N ≤ length (entries_at b (child_at (entries_at b slot) i))
     child_filled leaf is =
-        let told = put.raised leaf is in
+        let answered = put.raised leaf is in
         let was : least_of N ≤ length (entries_at a x) = rw at.x_is (child_right at).filled in
         let now : least_of N ≤ length (entries_at b x) =
         elim (none_or_some lower) [
-          | inl none ↦ told.filled none
-          | inr some ↦ omega (arith, told.no_fewer some, was)
+          | inl none ↦ answered.filled none
+          | inr some ↦ omega (arith, answered.no_fewer some, was)
         ] in
         let child : x ≡ child_at (entries_at b slot) i = rw (read_beside at moves) (x_at at) in
         rw child at now
@@ -150,11 +150,11 @@ module _ {N : ℕ} {a : Arena (Node N)} {height lower slot i x : ℕ} (at : IsAt
       }
 
       -- Whatever is told of the node, but that it stayed: that an item came into a leaf only where that is told of the child, too.
-      pub changed_above : (told : Outcome) → added_by told ≡ None → (told ≡ Same → ⊥)
-          → ((leaf : RaisedLeaf) → told ≡ Raised leaf → (outcome ≡ Raised leaf)
+      pub changed_above : (answered : LeafOutcome) → added_by answered ≡ None → (answered ≡ Same → ⊥)
+          → ((leaf : RaisedLeaf) → answered ≡ Raised leaf → (outcome ≡ Raised leaf)
           × ((length (entries_at b slot) ≤ length (entries_at w slot)) × IsRaisedIn w leaf (suc lower) slot))
-          → LosesOneAtMost bytes b w (entries_at b slot) (entries_at w slot) → IsChanged bytes a w height slot told
-      changed_above told alone other raised rest = record {
+          → LosesOneAtMost bytes b w (entries_at b slot) (entries_at w slot) → IsChanged bytes a w height slot answered
+      changed_above answered alone other raised rest = record {
         same = λ is. absurd (other is);
         raised = λ leaf is. let h = raised leaf is in record {
           there = subst (λ n. IsRaisedIn w leaf n slot) at.next h.1.1;
@@ -194,7 +194,7 @@ module _ {N : ℕ} {a : Arena (Node N)} {height lower slot i x : ℕ} (at : IsAt
         }
 
     -- The node was linked to both parts.
-    module _ {w : Arena (Node N)} (outcome : Outcome)
+    module _ {w : Arena (Node N)} (outcome : LeafOutcome)
         (linked : IsLinked b (child_at (entries_at b slot) i) s (take i (entries_at b slot))
         (drop (i + 1) (entries_at b slot)) (entries_at_both w slot (added_by outcome)))
         (stored_at : IsStored bytes b w slot (added_by outcome)) where
@@ -212,7 +212,7 @@ module _ {N : ℕ} {a : Arena (Node N)} {height lower slot i x : ℕ} (at : IsAt
           simp (first, second, append-nil) in
           let l = loose_at at (t ∷ u ∷ []) (rw slots at both_moves) in
           let right = both_right b (least_of N) lower x s t u first second put.subtree put.neighbour put.filled
-          linked_here.first_tells linked_here.second_tells in
+          linked_here.first_describes linked_here.second_describes in
           let Right = IsRight b (least_of N) lower in
           let all = All-append Right (take i es) (t ∷ u ∷ drop (i + 1) es) l.front
           (All-append Right (t ∷ u ∷ []) (drop (i + 1) es) right l.back) in

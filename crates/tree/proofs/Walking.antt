@@ -8,11 +8,11 @@ use Rattle.std.proofs.lemmas.List.{get_or_default}
 use Rattle.std.proofs.lemmas.Option.{get_or_from_slice_get}
 use Rattle.arena.specs.Arena.{Arena}
 use Rattle.keys.proofs.callers.SomeElement.{Any-first, Any-left, Any-none, Any-parts, Any-right}
-use Rattle.tree.specs.declared.entry.Entry.{Entry}
+use Rattle.tree.specs.declared.entry.NodeEntry.{NodeEntry}
 use Rattle.tree.specs.declared.node.Node.{Node}
-use Rattle.tree.specs.Item.{Item, Tells, item_of}
+use Rattle.tree.specs.Item.{Item, Describes, item_of}
 use Rattle.tree.specs.Path.{IsPartitioned, first_key, index_in}
-use Rattle.tree.specs.Children.{child_at, items_of, AreChildren, TellsWritten}
+use Rattle.tree.specs.Children.{child_at, items_of, AreChildren, DescribesWritten}
 use Rattle.tree.specs.Subtree.{entries_at, items_in}
 use Rattle.tree.specs.Tree.{least_of}
 use Rattle.tree.specs.Walk.{IsChangedWithin, IsFoundAmong, IsRaised}
@@ -47,27 +47,27 @@ first_if below is_first i both one = (
   both,
   λ h. elim (cases_Bool below) [
     | inl t ↦ t
-    | inr f ↦ absurd (elim (one f) [ inl some ↦ some.1 h.1 | inr behind ↦ not_both is_first h.0 behind ])
+    | inr f ↦ absurd (elim (one f) [ inl some ↦ some.1 h.1 | inr following ↦ not_both is_first h.0 following ])
   ],
 )
 
 -- The entry that told the items tells what they are now, once it has the version of what came in, unless it has a greater one.
-tells_raised : (e : Entry) (version : ℤ) (was now : List Item) → Tells e was → IsRaised version was now
-    → e.version ≤ℤ version → Tells (record e { version = version }) now
-tells_raised e version was [] tells raised le = absurd (Any-none (λ (x : Item). x.version ≡ version) raised.there)
-tells_raised e version was (x ∷ xs) tells raised le =
-    let same : Some x.key ≡ Some tells.first.key = raised.first ∙ ap (first_key None) tells.items_are in
-    let key : tells.first.key ≡ x.key = cc in
+describes_raised : (e : NodeEntry) (version : ℤ) (was now : List Item) → Describes e was → IsRaised version was now
+    → e.version ≤ℤ version → Describes (record e { version = version }) now
+describes_raised e version was [] describes raised le = absurd (Any-none (λ (x : Item). x.version ≡ version) raised.there)
+describes_raised e version was (x ∷ xs) describes raised le =
+    let same : Some x.key ≡ Some describes.first.key = raised.first ∙ ap (first_key None) describes.items_are in
+    let key : describes.first.key ≡ x.key = cc in
     record {
       first = x;
       others = xs;
       items_are = refl;
-      key = tells.key ∙ key;
+      key = describes.key ∙ key;
       greatest = record {
         bound = λ k d within. elim (raised.others k d within) [
           | inl same ↦ omega (arith, ints, same)
           | inr there ↦
-              let least = rw there.3 at (tells.greatest.bound there.0 there.1 there.2) in
+              let least = rw there.3 at (describes.greatest.bound there.0 there.1 there.2) in
               omega (arith, ints, there.4, least, le)
         ];
         reached = raised.there;
@@ -75,17 +75,17 @@ tells_raised e version was (x ∷ xs) tells raised le =
     }
 
 -- No item stands before those of a child if it is the first one.
-none_at : {N : ℕ} (a : Arena (Node N)) (least lower : ℕ) (es : List Entry) (i : ℕ) → AreChildren a least lower es
+none_at : {N : ℕ} (a : Arena (Node N)) (least lower : ℕ) (es : List NodeEntry) (i : ℕ) → AreChildren a least lower es
     → i < length es → items_of a lower (take i es) ≡ [] → i ≡ 0
 none_at a least lower [] i right within none = absurd (omega (arith, within))
 none_at a least lower (e ∷ es) zero right within none = refl
 none_at a least lower (e ∷ es) (suc i) right within none =
-    let t = (All-head (IsRight a least lower) e es right).tells in
+    let t = (All-head (IsRight a least lower) e es right).describes in
     let empty = both_empty (items_in a lower e.child) (items_of a lower (take i es)) none in
     absurd (cc (t.items_are, empty.0))
 
 module _ {N : ℕ} {a : Arena (Node N)} {height lower slot i x : ℕ} (at : IsAt a height lower slot i x) where
-  abbrev es : List Entry
+  abbrev es : List NodeEntry
   es = entries_at a slot
 
   abbrev front : List Item
@@ -107,31 +107,31 @@ module _ {N : ℕ} {a : Arena (Node N)} {height lower slot i x : ℕ} (at : IsAt
   within_at {is_below} index Gives is_first below_first key below_key now all partitioned first_is key_is all_is c =
       let Passes = λ (x : Item). is_below x.key ≡ true in
       let Fails = λ (x : Item). is_below x.key ≡ false in
-      let Told = λ (e : Entry). Tells e (items_in a lower e.child) in
+      let QuestionAnswers = λ (e : NodeEntry). Describes e (items_in a lower e.child) in
       let w = way a (least_of N) lower slot is_below at.subtree (rw (← at.next) at partitioned) in
       let child : x ≡ w.entry.child = x_at at ∙ ap (child_at es) index ∙ sym w.child in
-      let found : IsFoundAmong is_below front part = elim (none_or_some (length (filter (λ (e : Entry). is_below e.key) es))) [
+      let found : IsFoundAmong is_below front part = elim (none_or_some (length (filter (λ (e : NodeEntry). is_below e.key) es))) [
         | inl none ↦ (let zero_is : i ≡ 0 = omega (arith, index) in inl (ap (λ n. items_of a lower (take n es)) zero_is))
         | inr some ↦
-            let passed = index_passes (λ (e : Entry). is_below e.key) es w.entry w.entries some w.is in
-            let t = w.kept.tells in
+            let passed = index_passes (λ (e : NodeEntry). is_below e.key) es w.entry w.entries some w.is in
+            let t = w.kept.describes in
             inr (rw (child, t.items_are) (Any-first Passes t.first t.others (rw t.key at passed)))
       ] in
-      let below_is : below_key ≡ first_key key back = key_is ∙ first_key-children (λ (e : Entry). items_in a lower e.child) key
-      (drop (i + 1) es) (All-drop Told (i + 1) es (λ k d within. (at.subtree.2 k d within).tells)) in
+      let below_is : below_key ≡ first_key key back = key_is ∙ first_key-children (λ (e : NodeEntry). items_in a lower e.child) key
+      (drop (i + 1) es) (All-drop QuestionAnswers (i + 1) es (λ k d within. (at.subtree.2 k d within).describes)) in
       rw (items_split at, all_is) record {
         before = front ++ c.before;
         leaf = c.leaf;
         changed = c.changed;
-        behind = c.behind ++ back;
+        following = c.following ++ back;
         was_is = simp (c.was_is, append_assoc);
         now_is = simp (c.now_is, append_assoc);
         items_below = All-append Passes front c.before (rw (← index) at w.before) c.items_below;
-        failing = All-append Fails c.behind back c.failing (rw (← index) at w.behind);
+        failing = All-append Fails c.following back c.failing (rw (← index) at w.following);
         found = elim c.found [
           | inl none ↦ elim found [
             | inl first ↦ inl (ap₂ (λ xs ys. xs ++ ys) first none)
-            | inr there ↦ elim (Any-parts Passes c.leaf c.behind (rw (c.was_is, none) at there)) [
+            | inr there ↦ elim (Any-parts Passes c.leaf c.following (rw (c.was_is, none) at there)) [
               | inl here ↦ inr here
               | inr later ↦ absurd (not_both _ later.4 (rw later.3 at (c.failing later.0 later.1 later.2)))
             ]
@@ -146,7 +146,7 @@ module _ {N : ℕ} {a : Arena (Node N)} {height lower slot i x : ℕ} (at : IsAt
               c.first_is.1 (first_is.1 (h.0, none_at a (least_of N) lower es i at.subtree.2 at.within none.0), none.1)),
         );
         gives = subst (λ k. Gives c.first k c.leaf c.changed)
-            (ap (λ k. first_key k c.behind) below_is ∙ sym (first_key-append key c.behind back)) c.gives;
+            (ap (λ k. first_key k c.following) below_is ∙ sym (first_key-append key c.following back)) c.gives;
       }
 
   -- An item of this version came into the child.
@@ -157,7 +157,7 @@ module _ {N : ℕ} {a : Arena (Node N)} {height lower slot i x : ℕ} (at : IsAt
       let Is = λ (x : Item). (x.version ≡ version) ⊎ Any (Same x) (front ++ (part ++ back)) in
       let in_front : All Is front =
       λ k d h. inr (Any-left (Same (get_or front k d)) front (part ++ back) (each_there front k d h)) in
-      let behind : All Is back = λ k d h. inr (Any-right (Same (get_or back k d)) front (part ++ back)
+      let following : All Is back = λ k d h. inr (Any-right (Same (get_or back k d)) front (part ++ back)
       (Any-right (Same (get_or back k d)) part back (each_there back k d h))) in
       let inside : All Is now = λ k d h. elim (r.others k d h) [
         | inl same ↦ inl same
@@ -174,15 +174,15 @@ module _ {N : ℕ} {a : Arena (Node N)} {height lower slot i x : ℕ} (at : IsAt
         );
         there = Any-right (λ (x : Item). x.version ≡ version) front (now ++ back)
             (Any-left (λ (x : Item). x.version ≡ version) now back r.there);
-        others = All-append Is front (now ++ back) in_front (All-append Is now back inside behind);
+        others = All-append Is front (now ++ back) in_front (All-append Is now back inside following);
       }
 
   -- The child's entry would be right with that version, unless it has a greater one.
   pub raised_at : (b : Arena (Node N)) (version : ℤ) → entries_at b slot ≡ entries_at a slot
-      → IsRaised version (items_in a lower x) (items_in b lower x) → TellsWritten b lower slot i version
+      → IsRaised version (items_in a lower x) (items_in b lower x) → DescribesWritten b lower slot i version
   raised_at b version read raised e here le =
       let same = get_or_from_slice_get es i e at.d (rw read at here) in
       let child : x ≡ e.child = rw same at at.x_is in
-      let tells : Tells e part = rw child (rw same at (child_right at).tells) in
-      subst (λ s. Tells (record e { version = version }) (items_in b lower s)) child
-      (tells_raised e version part (items_in b lower x) tells raised le)
+      let describes : Describes e part = rw child (rw same at (child_right at).describes) in
+      subst (λ s. Describes (record e { version = version }) (items_in b lower s)) child
+      (describes_raised e version part (items_in b lower x) describes raised le)

@@ -7,10 +7,10 @@ use Rattle.std.proofs.lemmas.List.Elements.{All-nil, All-cons, All-head, All-app
 use Rattle.std.proofs.lemmas.Option.{slice_get_cases}
 use Rattle.std.specs.Prelude.{option_copied}
 use Rattle.keys.proofs.callers.SomeElement.{Any-first, Any-right}
-use Rattle.tree.specs.declared.entry.Entry.{Entry}
+use Rattle.tree.specs.declared.entry.NodeEntry.{NodeEntry}
 use Rattle.tree.specs.Item.{Item, item_of}
 use Rattle.tree.specs.Overwrite.{IsOverwritten, IsPartOfPartitioned, first_is_below}
-use Rattle.tree.specs.Path.{IsPartitioned, items_below, behind, between, first_key}
+use Rattle.tree.specs.Path.{IsPartitioned, items_below, following, between, first_key}
 use Rattle.tree.specs.Tree.{IsLast, ended_by}
 use Rattle.tree.specs.Walk.{IsRaised}
 use Rattle.tree.proofs.callers.Partitions.{All-back, none_fail, IsPartitioned-parts}
@@ -26,16 +26,16 @@ part_partitioned p items part =
     (IsPartitioned-parts (λ (x : Item). p x.key) items part.1 back).0
 
 -- Where so many entries are below the bound, some item does.
-pub some_item : (p : ℕ → Bool) (es : List Entry) (n : ℕ) → 1 ≤ n → n ≡ length (filter (λ e. p e.key) es)
+pub some_item : (p : ℕ → Bool) (es : List NodeEntry) (n : ℕ) → 1 ≤ n → n ≡ length (filter (λ e. p e.key) es)
     → items_below p (map item_of es) ≢ []
 some_item p es n some count none =
-    let front = filter (λ (e : Entry). p e.key) es in
+    let front = filter (λ (e : NodeEntry). p e.key) es in
     omega (arith, some, count, ap length (filter-items p es), length-map front item_of, ap length none)
 
 -- so many entries are below the bound, and the items that do are theirs
-pub items_parted : (p : ℕ → Bool) (es : List Entry) (n : ℕ) → IsPartitioned (λ e. p e.key) es
+pub items_parted : (p : ℕ → Bool) (es : List NodeEntry) (n : ℕ) → IsPartitioned (λ e. p e.key) es
     → n ≡ length (filter (λ e. p e.key) es)
-    → (items_below p (map item_of es) ≡ map item_of (take n es)) × (behind p (map item_of es) ≡ map item_of (drop n es))
+    → (items_below p (map item_of es) ≡ map item_of (take n es)) × (following p (map item_of es) ≡ map item_of (drop n es))
 items_parted p es n partitioned count =
     let parts = parted p es n partitioned count in (
       filter-items p es ∙ ap (map item_of) (sym parts.0),
@@ -43,16 +43,16 @@ items_parted p es n partitioned count =
     )
 
 -- the items between two bounds are those of the entries there
-pub between_entries : (p q : ℕ → Bool) → ((key : ℕ) → p key ≡ true → q key ≡ true) → (es : List Entry) (begin end : ℕ)
+pub between_entries : (p q : ℕ → Bool) → ((key : ℕ) → p key ≡ true → q key ≡ true) → (es : List NodeEntry) (begin end : ℕ)
     → IsPartitioned (λ e. p e.key) es → IsPartitioned (λ e. q e.key) es → begin ≤ length es
     → begin ≡ length (filter (λ e. p e.key) es) → end ≡ length (filter (λ e. q e.key) es)
     → between (Some p) (Some q) (map item_of es) ≡ map item_of (drop begin (take end es))
 between_entries p q nested es begin end first_bound second_bound within begins ends =
-    let there = λ (e : Entry). q e.key in
+    let there = λ (e : NodeEntry). q e.key in
     let from = (parted p es begin first_bound begins).0 in
     let to = (parted q es end second_bound ends).0 in
-    let pass : All (λ (e : Entry). q e.key ≡ true) (take begin es) =
-    rw from (All-weaker _ _ (λ e. nested e.key) _ (filter_passes (λ (e : Entry). p e.key) es)) in
+    let pass : All (λ (e : NodeEntry). q e.key ≡ true) (take begin es) =
+    rw from (All-weaker _ _ (λ e. nested e.key) _ (filter_passes (λ (e : NodeEntry). p e.key) es)) in
     let split = filter-append there (take begin es) (drop begin es) in
     let all : take end es ≡ take begin es ++ filter there (drop begin es) =
     cc (to, take-append-drop begin es, split, (none_fail there (take begin es) pass).0) in
@@ -61,22 +61,22 @@ between_entries p q nested es begin end first_bound second_bound within begins e
     ∙ sym (ap (λ l. map item_of (drop begin l)) all ∙ ap (map item_of) (drop_at (take begin es) _ begin (length-take-le begin es within)))
 
 -- The last entry below the bound, where it is lent, has the version of the last such item.
-pub last_version : (q : ℕ → Bool) (es passed : List Entry) (lent : Option (Bor Entry)) (version otherwise : ℤ)
-    (post : Bor Entry → Type 0) → passed ≡ filter (λ e. q e.key) es
+pub last_version : (q : ℕ → Bool) (es passed : List NodeEntry) (lent : Option (Bor NodeEntry)) (version otherwise : ℤ)
+    (post : Bor NodeEntry → Type 0) → passed ≡ filter (λ e. q e.key) es
     → option_copied lent ≡ slice_get passed (length passed - 1) → MatchOption lent (version ≡ otherwise) post
-    → ((e : Bor Entry) → post e → version ≡ e.now.version) → (x : Item) → IsLast x (items_below q (map item_of es))
+    → ((e : Bor NodeEntry) → post e → version ≡ e.now.version) → (x : Item) → IsLast x (items_below q (map item_of es))
     → version ≡ x.version
-last_version q es passed lent version otherwise post same is told says x ends =
+last_version q es passed lent version otherwise post same is answered says x ends =
     let alone : IsLeaf q (map item_of es) [] [] es =
     record { items_are = sym (append-nil (map item_of es)); pass = All-nil _; fail = All-nil _; none = λ _. refl } in
-    by_last lent told (last_passing q (map item_of es) [] [] es passed (option_copied lent) alone same is)
+    by_last lent answered (last_passing q (map item_of es) [] [] es passed (option_copied lent) alone same is)
   where
-    by_last : (lent : Option (Bor Entry)) → MatchOption lent (version ≡ otherwise) post
+    by_last : (lent : Option (Bor NodeEntry)) → MatchOption lent (version ≡ otherwise) post
         → MatchOption (option_copied lent) (items_below q (map item_of es) ≡ [])
         (λ e. IsLast (item_of e) (items_below q (map item_of es))) → version ≡ x.version
-    by_last None told none = absurd (omega (arith, length-append ends.0 (x ∷ []), ap length (sym ends.1 ∙ none)))
-    by_last (Some e) told there =
-        says e told
+    by_last None answered none = absurd (omega (arith, length-append ends.0 (x ∷ []), ap length (sym ends.1 ∙ none)))
+    by_last (Some e) answered there =
+        says e answered
         ∙ ap (λ (x : Item). x.version) (same_from_push there.0 ends.0 (item_of e.now) x (sym there.1 ∙ ends.1)).1
 
 -- the first key is that of the items in front
@@ -91,7 +91,7 @@ pub raised : (p q : ℕ → Bool) → ((key : ℕ) → p key ≡ true → q key 
 raised p q nested first second ended was now partitioned some some_second written =
     let end = ended_some (items_below q was) some_second in
     let x : Item = record { key = second; version = end.last.version } in
-    let rest = first ∷ ended_by ended x ++ behind q was in
+    let rest = first ∷ ended_by ended x ++ following q was in
     let now_is : now ≡ items_below p was ++ rest = written end.last (end.front, end.is) in
     let Known : Item → Type 0 = λ x. Any (λ (w : Item). x.version ≡ w.version) was in
     let P : Item → Type 0 = λ x. (x.version ≡ first.version) ⊎ Known x in
@@ -103,34 +103,34 @@ raised p q nested first second ended was now partitioned some some_second writte
     let ends : All P (ended_by ended x) =
     (elim ended as (λ b. All P (ended_by b x)) [ true ↦ All-nil P | false ↦ All-cons P x [] (inr last) (All-nil P) ]) in
     record {
-      first = cc (now_is, first_of_front (items_below p was) rest (behind p was) some, partitioned);
+      first = cc (now_is, first_of_front (items_below p was) rest (following p was) some, partitioned);
       there = rw now_is (Any-right (λ (x : Item). x.version ≡ first.version) (items_below p was) rest (Any-first _ first _ refl));
       others = rw now_is
           (All-append P (items_below p was) rest (All-filter (λ (x : Item). p x.key) P was own)
           (All-cons P first _ (inl refl)
-          (All-append P _ (behind q was) ends (All-filter (λ (x : Item). not (q x.key)) P was own))));
+          (All-append P _ (following q was) ends (All-filter (λ (x : Item). not (q x.key)) P was own))));
     }
 
-module _ (q r : ℕ → Bool) (es : List Entry) (end : ℕ) (others : drop end es ≡ filter (λ e. not (q e.key)) es)
+module _ (q r : ℕ → Bool) (es : List NodeEntry) (end : ℕ) (others : drop end es ≡ filter (λ e. not (q e.key)) es)
     (otherwise : Option ℕ) (ended : Bool) where
-  behind_end : behind q (map item_of es) ≡ map item_of (drop end es)
-  behind_end = filter-items (λ key. not (q key)) es ∙ sym (ap (map item_of) others)
+  after_end : following q (map item_of es) ≡ map item_of (drop end es)
+  after_end = filter-items (λ key. not (q key)) es ∙ sym (ap (map item_of) others)
 
   -- The next entry of the leaf tells whether the first key behind the second bound passes.
-  pub ended_in_leaf : end < length es → ((e : Entry) → slice_get es end ≡ Some e → ended ≡ r e.key)
-      → ended ≡ first_is_below r (first_key otherwise (behind q (map item_of es)))
-  ended_in_leaf within tells = elim (slice_get_cases es end).1 [
-    | inl at ↦ rw (behind_end, drop_more es end at.0 within, at.3) (tells at.0 at.2)
+  pub ended_in_leaf : end < length es → ((e : NodeEntry) → slice_get es end ≡ Some e → ended ≡ r e.key)
+      → ended ≡ first_is_below r (first_key otherwise (following q (map item_of es)))
+  ended_in_leaf within describes = elim (slice_get_cases es end).1 [
+    | inl at ↦ rw (after_end, drop_more es end at.0 within, at.3) (describes at.0 at.2)
     | inr none ↦ absurd (omega (arith, none.0))
   ]
 
   -- Where there is none, the key behind the leaf does.
-  pub ended_behind : length es ≤ end → (post : ℕ → Type 0) → MatchOption otherwise (ended ≡ false) post
+  pub ended_after : length es ≤ end → (post : ℕ → Type 0) → MatchOption otherwise (ended ≡ false) post
       → ((key : ℕ) → post key → ended ≡ r key)
-      → ended ≡ first_is_below r (first_key otherwise (behind q (map item_of es)))
-  ended_behind all post tested says =
-      let Tells = λ (key : Option ℕ). MatchOption key (ended ≡ false) post → ended ≡ first_is_below r key in
-      rw (behind_end, drop_all end es all) ((elim otherwise as Tells [ None ↦ λ none. none | Some key ↦ says key ]) tested)
+      → ended ≡ first_is_below r (first_key otherwise (following q (map item_of es)))
+  ended_after all post tested says =
+      let Describes = λ (key : Option ℕ). MatchOption key (ended ≡ false) post → ended ≡ first_is_below r key in
+      rw (after_end, drop_all end es all) ((elim otherwise as Describes [ None ↦ λ none. none | Some key ↦ says key ]) tested)
 
 -- no version is given where there is none
 pub none_if : (o : Option ℤ) → is_some o ≡ false → o ≡ None

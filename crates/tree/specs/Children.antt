@@ -3,13 +3,13 @@ use Rattle.std.specs.Prelude.{◌≡◌, ◌≢◌, ℕ, ℤ, ◌≤ℤ◌, suc,
 use Rattle.std.specs.List.{All, Contains, IsDistinct, flat_map}
 use Rattle.std.specs.FinMap as map
 use Rattle.arena.specs.Arena.{Arena, IsLive, record_at, key_at, spare_of}
-use Rattle.tree.specs.declared.entry.Entry.{Entry}
+use Rattle.tree.specs.declared.entry.NodeEntry.{NodeEntry}
 use Rattle.tree.specs.declared.node.Node.{Node}
-use Rattle.tree.specs.Item.{Item, Tells}
+use Rattle.tree.specs.Item.{Item, Describes}
 use Rattle.tree.specs.Subtree.{entries_at, items_in, slots_in, IsChild, IsSubtree}
 
 -- the child of the entry at an index
-abbrev pub child_at : List Entry → ℕ → ℕ
+abbrev pub child_at : List NodeEntry → ℕ → ℕ
 child_at entries index = unwrap_or (option_map (λ e. e.child) (slice_get entries index)) 0
 
 -- a slot that was taken, if any
@@ -29,15 +29,15 @@ module _ {N : ℕ} where
   slots_with nodes height slot (Some added) = slots_in nodes height slot ++ slots_in nodes height added
 
   -- Entries and the subtrees of this height of their children: the items of all.
-  abbrev pub items_of : Arena (Node N) → ℕ → List Entry → List Item
+  abbrev pub items_of : Arena (Node N) → ℕ → List NodeEntry → List Item
   items_of nodes height entries = flat_map (λ e. items_in nodes height e.child) entries
 
   -- the slots of all
-  abbrev pub slots_of : Arena (Node N) → ℕ → List Entry → List ℕ
+  abbrev pub slots_of : Arena (Node N) → ℕ → List NodeEntry → List ℕ
   slots_of nodes height entries = flat_map (λ e. slots_in nodes height e.child) entries
 
   -- the entries are right
-  abbrev pub AreChildren : Arena (Node N) → ℕ → ℕ → List Entry → Type 0
+  abbrev pub AreChildren : Arena (Node N) → ℕ → ℕ → List NodeEntry → Type 0
   AreChildren nodes least height entries = All (IsChild nodes least height (IsSubtree nodes least height)) entries
 
   -- no record has key bytes
@@ -54,30 +54,30 @@ module _ {N : ℕ} where
     pub keyless : IsKeyless new
 
   -- The entries of a node of which those from one index up to another lead to changed subtrees. The others are right.
-  pub record IsFamily (nodes : Arena (Node N)) (least height : ℕ) (entries : List Entry) (from to : ℕ) : Type 0 where
+  pub record IsFamily (nodes : Arena (Node N)) (least height : ℕ) (entries : List NodeEntry) (from to : ℕ) : Type 0 where
     pub distinct : IsDistinct nat_eq (slots_of nodes height entries)
     pub below : All (λ e. IsSubtree nodes least height e.child) entries
     pub before : AreChildren nodes least height (take from entries)
-    pub behind : AreChildren nodes least height (drop to entries)
+    pub following : AreChildren nodes least height (drop to entries)
 
   -- the entries of a node, made right
-  pub record IsRebalanced (old new : Arena (Node N)) (least height : ℕ) (was now : List Entry) : Type 0 where
+  pub record IsRebalanced (old new : Arena (Node N)) (least height : ℕ) (was now : List NodeEntry) : Type 0 where
     pub children : AreChildren new least height now
     pub items : items_of new height now ≡ items_of old height was
     pub changes : Changes old new (slots_of old height was) (slots_of new height now)
 
   -- Between these entries stand two others: for a child and for its right neighbour.
-  pub record IsLinked (nodes : Arena (Node N)) (child added : ℕ) (before behind now : List Entry) : Type 0 where
-    pub first : Entry
-    pub second : Entry
-    pub entries : now ≡ before ++ (first ∷ second ∷ behind)
+  pub record IsLinked (nodes : Arena (Node N)) (child added : ℕ) (before following now : List NodeEntry) : Type 0 where
+    pub first : NodeEntry
+    pub second : NodeEntry
+    pub entries : now ≡ before ++ (first ∷ second ∷ following)
     pub first_child : first.child ≡ child
-    pub first_tells : (height least : ℕ) → IsSubtree nodes least height child → Tells first (items_in nodes height child)
+    pub first_describes : (height least : ℕ) → IsSubtree nodes least height child → Describes first (items_in nodes height child)
     pub second_child : second.child ≡ added
-    pub second_tells : (height least : ℕ) → IsSubtree nodes least height added → Tells second (items_in nodes height added)
+    pub second_describes : (height least : ℕ) → IsSubtree nodes least height added → Describes second (items_in nodes height added)
 
   -- the entries of the nodes at a slot and at that of the right neighbour that it was split from, if any
-  abbrev pub entries_at_both : Arena (Node N) → ℕ → Option ℕ → List Entry
+  abbrev pub entries_at_both : Arena (Node N) → ℕ → Option ℕ → List NodeEntry
   entries_at_both nodes slot None = entries_at nodes slot
   entries_at_both nodes slot (Some added) = entries_at nodes slot ++ entries_at nodes added
 
@@ -95,12 +95,12 @@ module _ {N : ℕ} where
 
   -- The entry at an index of the node at a slot has this version now. All others, and all other nodes, stay as they were.
   pub record HasRaisedEntry (old new : Arena (Node N)) (slot index : ℕ) (version : ℤ) : Type 0 where
-    pub entry : (e : Entry) → slice_get (entries_at old slot) index ≡ Some e
+    pub entry : (e : NodeEntry) → slice_get (entries_at old slot) index ≡ Some e
         → entries_at new slot ≡ slice_set (entries_at old slot) index (record e { version = version })
     pub others : (s : ℕ) → s ≢ slot → record_at new s ≡ record_at old s
 
   -- The entry at an index would be right with this version, unless it has a greater one.
-  abbrev pub TellsWritten : Arena (Node N) → ℕ → ℕ → ℕ → ℤ → Type 0
-  TellsWritten nodes height slot index version =
-      (e : Entry) → slice_get (entries_at nodes slot) index ≡ Some e → e.version ≤ℤ version
-      → Tells (record e { version = version }) (items_in nodes height e.child)
+  abbrev pub DescribesWritten : Arena (Node N) → ℕ → ℕ → ℕ → ℤ → Type 0
+  DescribesWritten nodes height slot index version =
+      (e : NodeEntry) → slice_get (entries_at nodes slot) index ≡ Some e → e.version ≤ℤ version
+      → Describes (record e { version = version }) (items_in nodes height e.child)

@@ -2,7 +2,7 @@
 use Rattle.std.specs.Prelude.{◌≡◌, ◌+◌, ℕ, zero, suc, ℤ, List, [], ◌∷◌, length, map}
 use Rattle.std.specs.List.{flat_map}
 use Rattle.arena.specs.Arena.{Arena}
-use Rattle.tree.specs.declared.entry.Entry.{Entry}
+use Rattle.tree.specs.declared.entry.NodeEntry.{NodeEntry}
 use Rattle.tree.specs.declared.node.Node.{Node}
 use Rattle.tree.specs.declared.unexpired.Unexpired.{Unexpired}
 use Rattle.tree.specs.Item.{Item, item_of}
@@ -21,6 +21,6 @@ pub record IsCounted (edge : ℤ) (before : Unexpired) (items : List Item) (now 
 
 module _ {N : ℕ} where
   -- the items of these entries of a node at this height
-  abbrev pub items_from : Arena (Node N) → ℕ → List Entry → List Item
+  abbrev pub items_from : Arena (Node N) → ℕ → List NodeEntry → List Item
   items_from nodes zero es = map item_of es
   items_from nodes (suc height) es = flat_map (λ e. items_in nodes height e.child) es

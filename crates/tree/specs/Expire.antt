@@ -1,16 +1,16 @@
 -- What becomes of a run of items that is swept of expired items. This project's own.
 use Rattle.std.specs.Prelude.{◌≡◌, ◌≢◌, ◌≤◌, ◌≤ℤ◌, ◌++◌, ◌∷◌, ℕ, ℤ, Bool, List, [], length, map, Option}
-use Rattle.tree.specs.declared.entry.Entry.{Entry}
+use Rattle.tree.specs.declared.entry.NodeEntry.{NodeEntry}
 use Rattle.tree.specs.declared.expiring.Removal.{Removal}
 use Rattle.tree.specs.Heads.{AllAreHeads, KeyBytes}
 use Rattle.tree.specs.Item.{Item}
-use Rattle.tree.specs.Path.{IsPartitioned, items_below, behind, first_key}
+use Rattle.tree.specs.Path.{IsPartitioned, items_below, following, first_key}
 use Rattle.tree.specs.Tree.{Items, IsLast, tree_heads, unexpired, expired}
 
 -- A tree of which a run of items may be looked at, at most `count` of them. The run begins with the last one below the bound, and
 -- `before` is the version of the item before it. None is taken out yet.
 pub record CanRemoveExpired (is_below : ℕ → Bool) (bytes : KeyBytes) (count : ℕ) (edge before : ℤ) (tree : Items)
-    (taken : List Entry) : Type 0 where
+    (taken : List NodeEntry) : Type 0 where
   pub partitioned : IsPartitioned (λ x. is_below x.key) tree.items
   pub some : items_below is_below tree.items ≢ []
   pub some_count : 1 ≤ count
@@ -29,7 +29,7 @@ pub record RemovesExpired (is_below : ℕ → Bool) (count : ℕ) (edge before :
   pub looked : List Item
   pub rest : List Item
   pub front_is : items_below is_below was ≡ front ++ first ∷ []
-  pub looked_is : first ∷ behind is_below was ≡ looked ++ rest
+  pub looked_is : first ∷ following is_below was ≡ looked ++ rest
   pub looked_at : length looked ≡ removal.looked_at
   pub some : 1 ≤ removal.looked_at
   pub few : removal.looked_at ≤ count

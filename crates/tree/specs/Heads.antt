@@ -3,7 +3,7 @@ use Rattle.std.specs.Prelude.{◌≡◌, ◌⊎◌, ◌≤◌, ◌↔◌, ◌/�
 use Rattle.std.specs.List.{All, AllZip, Contains}
 use Rattle.keys.specs.Key.{IsBytes, IsBefore}
 use Rattle.keys.specs.Head.{head_of}
-use Rattle.tree.specs.declared.entry.Entry.{Entry}
+use Rattle.tree.specs.declared.entry.NodeEntry.{NodeEntry}
 
 -- the bytes of keys, of those that are known
 abbrev pub KeyBytes : Type 0
@@ -16,19 +16,19 @@ pub record IsKnown (bytes : KeyBytes) (key : ℕ) : Type 0 where
   pub are_bytes : IsBytes text
 
 -- the key is known, and begins with these bytes unless it is empty
-pub record Begins (bytes : KeyBytes) (beginning : List ℕ) (key : ℕ) : Type 0 where
+pub record Begins (bytes : KeyBytes) (prefix : List ℕ) (key : ℕ) : Type 0 where
   pub text : List ℕ
   pub known : bytes key ≡ Some text
   pub are_bytes : IsBytes text
-  pub begins : (text ≡ []) ⊎ (take (length beginning) text ≡ beginning)
+  pub begins : (text ≡ []) ⊎ (take (length prefix) text ≡ prefix)
 
 -- the head of a key after its first n bytes: the next four bytes as a number, the upper half of a key head
-abbrev pub head_behind : ℕ → List ℕ → ℕ
-head_behind prefix_len text = head_of (drop prefix_len text) / 4294967296
+abbrev pub head_after : ℕ → List ℕ → ℕ
+head_after prefix_len text = head_of (drop prefix_len text) / 4294967296
 
 -- that of a key
 abbrev pub head_at : KeyBytes → ℕ → ℕ → ℕ
-head_at bytes prefix_len key = head_behind prefix_len (unwrap_or (bytes key) [])
+head_at bytes prefix_len key = head_after prefix_len (unwrap_or (bytes key) [])
 
 -- what a node knows: its keys, the length of the common prefix of all of them except an empty one, and the head of each after it
 pub record KeyHeads : Type 0 where
@@ -38,9 +38,9 @@ pub record KeyHeads : Type 0 where
 
 -- its knowledge is right
 pub record AreHeads (bytes : KeyBytes) (key_heads : KeyHeads) : Type 0 where
-  pub beginning : List ℕ
-  pub prefix_len : length beginning ≡ key_heads.prefix_len
-  pub begins : All (Begins bytes beginning) key_heads.keys
+  pub prefix : List ℕ
+  pub prefix_len : length prefix ≡ key_heads.prefix_len
+  pub begins : All (Begins bytes prefix) key_heads.keys
   pub heads : key_heads.heads ≡ map (head_at bytes key_heads.prefix_len) key_heads.keys
 
 -- each node's knowledge is right
@@ -50,7 +50,7 @@ AllAreHeads bytes all_heads = (s : ℕ) → IfSome (all_heads s) (AreHeads bytes
 -- Whether a key is below a bound goes by its bytes and by those of the target.
 pub record IsBelowInOrder (text target : List ℕ) (is_below : Bool) : Type 0 where
   pub before : IsBefore text target → is_below ≡ true
-  pub behind : IsBefore target text → is_below ≡ false
+  pub following : IsBefore target text → is_below ≡ false
 
 -- The two agree on the first n bytes, or up to the end of the first one.
 abbrev pub HaveCommonPrefix : ℕ → List ℕ → List ℕ → Type 0
@@ -67,9 +67,9 @@ IsCommonPrefix bytes is_below target known key =
     (λ common_prefix_len. (is_below key ≡ true) × ((text : List ℕ) → bytes key ≡ Some text → IsCommonPrefixLen common_prefix_len text target))
 
 -- what is known of the key of the entry at an index
-abbrev pub IsCommonPrefixAt : KeyBytes → (ℕ → Bool) → List ℕ → Option ℕ → List Entry → ℕ → Type 0
+abbrev pub IsCommonPrefixAt : KeyBytes → (ℕ → Bool) → List ℕ → Option ℕ → List NodeEntry → ℕ → Type 0
 IsCommonPrefixAt bytes is_below target known entries index =
-    (e : Entry) → slice_get entries index ≡ Some e → IsCommonPrefix bytes is_below target known e.key
+    (e : NodeEntry) → slice_get entries index ≡ Some e → IsCommonPrefix bytes is_below target known e.key
 
 -- The target begins as all keys of the node do: as one of them that is long enough, so far as the node tells.
 pub record HasPrefix (bytes : KeyBytes) (key_heads : KeyHeads) (target : List ℕ) : Type 0 where
@@ -92,5 +92,5 @@ AreHeadsBeside bytes key_heads keys heads = AllZip (IsHeadBeside bytes key_heads
 -- The head of the target, which begins as all keys do.
 pub record IsTargetHead (bytes : KeyBytes) (key_heads : KeyHeads) (target : List ℕ) (head : ℕ) : Type 0 where
   pub has_prefix : HasPrefix bytes key_heads target
-  pub head_is : head ≡ head_behind key_heads.prefix_len target
+  pub head_is : head ≡ head_after key_heads.prefix_len target
   pub are_bytes : IsBytes target

@@ -2,17 +2,17 @@
 use Rattle.std.specs.Prelude.{◌≡◌, ◌⊎◌, ℕ, ℤ, ◌≤ℤ◌, List, [], ◌∷◌, Option, Some, None, IfSome, MatchOption}
 use Rattle.std.specs.Int.{int_max}
 use Rattle.std.specs.List.{All, Any}
-use Rattle.tree.specs.declared.entry.Entry.{Entry}
+use Rattle.tree.specs.declared.entry.NodeEntry.{NodeEntry}
 
 pub record Item : Type 0 where
   pub key : ℕ
   pub version : ℤ
 
 -- the item of a leaf's entry
-abbrev pub item_of : Entry → Item
+abbrev pub item_of : NodeEntry → Item
 item_of e = record { key = e.key; version = e.version }
 
-abbrev pub version_of : Entry → ℤ
+abbrev pub version_of : NodeEntry → ℤ
 version_of e = e.version
 
 -- none of these has a greater version, and one has this one
@@ -37,7 +37,7 @@ greater_of (Some a) None = Some a
 greater_of (Some a) (Some b) = Some (int_max a b)
 
 -- the first of these items has the entry's key, and its version is the greatest of theirs
-pub record Tells (e : Entry) (items : List Item) : Type 0 where
+pub record Describes (e : NodeEntry) (items : List Item) : Type 0 where
   pub first : Item
   pub others : List Item
   pub items_are : items ≡ first ∷ others

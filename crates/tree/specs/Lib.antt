@@ -6,7 +6,7 @@ pub mod Splice
 pub mod Subtree
 pub mod Path
 pub mod Finding
-pub mod Reached
+pub mod ReachedLeaf
 pub mod Question
 pub mod Children
 pub mod Tree
@@ -14,5 +14,5 @@ pub mod Counted
 pub mod Rebalancing
 pub mod Walk
 pub mod Overwrite
-pub mod Run
+pub mod EntryRun
 pub mod Expire

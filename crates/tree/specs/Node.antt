@@ -2,16 +2,16 @@
 use Rattle.std.specs.Prelude.{◌≡◌, ◌++◌, ℕ, List, length, map, take, Option, option_map}
 use Rattle.std.specs.FinMap as finite
 use Rattle.arena.specs.Arena.{Arena, header_at}
-use Rattle.tree.specs.declared.entry.Entry.{Entry}
+use Rattle.tree.specs.declared.entry.NodeEntry.{NodeEntry}
 use Rattle.tree.specs.declared.node.Node.{Node}
 use Rattle.tree.specs.Heads.{KeyHeads}
 
 -- its entries
-abbrev pub entries_of : {N : ℕ} → Node N → List Entry
+abbrev pub entries_of : {N : ℕ} → Node N → List NodeEntry
 entries_of node = take node.len node.entries
 
 -- the keys of entries
-abbrev pub keys_of : List Entry → List ℕ
+abbrev pub keys_of : List NodeEntry → List ℕ
 keys_of entries = map (λ e. e.key) entries
 
 -- the heads for which it has room

@@ -1,12 +1,12 @@
 -- What is written over a run of items. This project's own.
 use Rattle.std.specs.Prelude.{◌≡◌, ◌≢◌, ◌⊎◌, ◌↔◌, ◌≤◌, ◌+◌, ℕ, ℤ, Bool, true, false, List, [], ◌∷◌, ◌++◌, length, Option, None, Some, unwrap_or, IsTrue}
 use Rattle.std.proofs.Common.{ap, sym, subst, ◌∙◌, append_assoc}
-use Rattle.tree.specs.declared.entry.Entry.{Entry}
-use Rattle.tree.specs.declared.overwrite.Written.{Written}
-use Rattle.tree.specs.declared.overwrite.Written.TheVariants.{Partly, Whole}
+use Rattle.tree.specs.declared.entry.NodeEntry.{NodeEntry}
+use Rattle.tree.specs.declared.overwrite.OverwriteResult.{OverwriteResult}
+use Rattle.tree.specs.declared.overwrite.OverwriteResult.TheVariants.{Partly, Entirely}
 use Rattle.tree.specs.Heads.{AllAreHeads, KeyBytes}
 use Rattle.tree.specs.Item.{Item}
-use Rattle.tree.specs.Path.{IsPartitioned, items_below, behind, between, first_key}
+use Rattle.tree.specs.Path.{IsPartitioned, items_below, following, between, first_key}
 use Rattle.tree.specs.Tree.{Items, IsLast, ended_by, tree_heads}
 
 -- Items once written over: the first of the new ones replaces those from one bound to another. A second one has the
@@ -15,29 +15,29 @@ abbrev pub IsOverwritten : (ℕ → Bool) → (ℕ → Bool) → Item → ℕ �
 IsOverwritten from to first second given ended was now =
     (last : Item) → IsLast last (items_below to was)
     → now ≡ items_below from was
-    ++ (first ∷ ended_by ended (record { key = second; version = unwrap_or given last.version }) ++ behind to was)
+    ++ (first ∷ ended_by ended (record { key = second; version = unwrap_or given last.version }) ++ following to was)
 
 -- how many items replace the run
-abbrev pub put_of : Written → ℕ
+abbrev pub put_of : OverwriteResult → ℕ
 put_of (Partly last) = 0
-put_of (Whole true) = 1
-put_of (Whole false) = 2
+put_of (Entirely true) = 1
+put_of (Entirely false) = 2
 
 -- Items that are a part of others, which are partitioned.
 abbrev pub IsPartOfPartitioned : (ℕ → Bool) → List Item → Type 0
 IsPartOfPartitioned is_below part = (front back : List Item) × IsPartitioned (λ x. is_below x.key) (front ++ (part ++ back))
 
 -- A part of such items is one too.
-pub part_of_part : (is_below : ℕ → Bool) (before items behind : List Item) → IsPartOfPartitioned is_below (before ++ (items ++ behind))
+pub part_of_part : (is_below : ℕ → Bool) (before items following : List Item) → IsPartOfPartitioned is_below (before ++ (items ++ following))
     → IsPartOfPartitioned is_below items
-part_of_part is_below before items behind part =
+part_of_part is_below before items following part =
     let front = part.0 in
     let back = part.1 in
-    let regrouped : front ++ ((before ++ (items ++ behind)) ++ back) ≡ (front ++ before) ++ (items ++ (behind ++ back)) =
-    ap (λ xs. front ++ xs) (append_assoc before (items ++ behind) back)
-    ∙ ap (λ xs. front ++ (before ++ xs)) (append_assoc items behind back)
-    ∙ sym (append_assoc front before (items ++ (behind ++ back))) in
-    (front ++ before, behind ++ back, subst (IsPartitioned (λ x. is_below x.key)) regrouped part.2)
+    let regrouped : front ++ ((before ++ (items ++ following)) ++ back) ≡ (front ++ before) ++ (items ++ (following ++ back)) =
+    ap (λ xs. front ++ xs) (append_assoc before (items ++ following) back)
+    ∙ ap (λ xs. front ++ (before ++ xs)) (append_assoc items following back)
+    ∙ sym (append_assoc front before (items ++ (following ++ back))) in
+    (front ++ before, following ++ back, subst (IsPartitioned (λ x. is_below x.key)) regrouped part.2)
 
 -- there is such a key, and it is below the bound
 abbrev pub first_is_below : (ℕ → Bool) → Option ℕ → Bool
@@ -45,32 +45,32 @@ first_is_below is_below None = false
 first_is_below is_below (Some key) = is_below key
 
 -- The items of a leaf, of which the run is written over: the item before the run is there, or none stands before the leaf's.
-pub record GivesWhole (from to past : ℕ → Bool) (first : Item) (second : ℕ) (given : Option ℤ) (ended : Bool) (run : List Item) (is_first : Bool)
+pub record GivesEntire (from to past : ℕ → Bool) (first : Item) (second : ℕ) (given : Option ℤ) (ended : Bool) (run : List Item) (is_first : Bool)
     (next : Option ℕ) (was now : List Item) : Type 0 where
   pub there : (items_below from was ≢ []) ⊎ IsTrue is_first
   pub some : items_below to was ≢ []
   pub run_is : run ≡ between (Some from) (Some to) was
-  pub ended_is : ended ≡ first_is_below past (first_key next (behind to was))
+  pub ended_is : ended ≡ first_is_below past (first_key next (following to was))
   pub written : IsOverwritten from to first second given ended was now
 
 -- The items of a leaf, of which the run's are taken out: no item before the run is among them.
 pub record GivesPart (from to : ℕ → Bool) (last : ℤ) (run : List Item) (is_first : Bool) (was now : List Item) : Type 0 where
   pub none : items_below from was ≡ []
   pub run_is : run ≡ items_below to was
-  pub rest : now ≡ behind to was
+  pub rest : now ≡ following to was
   pub last_is : (x : Item) → IsLast x run → last ≡ x.version
   pub some : IsTrue is_first → items_below to was ≡ []
 
 -- either of them
-abbrev pub GivesWritten : (ℕ → Bool) → (ℕ → Bool) → (ℕ → Bool) → Item → ℕ → Option ℤ → Written → List Item → Bool → Option ℕ
+abbrev pub GivesWritten : (ℕ → Bool) → (ℕ → Bool) → (ℕ → Bool) → Item → ℕ → Option ℤ → OverwriteResult → List Item → Bool → Option ℕ
     → List Item → List Item → Type 0
-GivesWritten from to past first second given (Whole ended) run is_first next was now =
-    GivesWhole from to past first second given ended run is_first next was now
+GivesWritten from to past first second given (Entirely ended) run is_first next was now =
+    GivesEntire from to past first second given ended run is_first next was now
 GivesWritten from to past first second given (Partly last) run is_first next was now = GivesPart from to last run is_first was now
 
 -- A tree of which a run of items may be written over. Three bounds go through the items, of which one is below the second bound.
 -- There is room for two more, and none is taken out yet.
-pub record CanOverwrite (p q r : ℕ → Bool) (bytes : KeyBytes) (tree : Items) (taken : List Entry) : Type 0 where
+pub record CanOverwrite (p q r : ℕ → Bool) (bytes : KeyBytes) (tree : Items) (taken : List NodeEntry) : Type 0 where
   pub from : IsPartitioned (λ x. p x.key) tree.items
   pub to : IsPartitioned (λ x. q x.key) tree.items
   pub past : IsPartitioned (λ x. r x.key) tree.items
@@ -80,7 +80,7 @@ pub record CanOverwrite (p q r : ℕ → Bool) (bytes : KeyBytes) (tree : Items)
   pub none_taken : taken ≡ []
 
 -- Items of which a run is written over. A second item was put in unless one had its key.
-pub record OverwritesWhole (from to past : ℕ → Bool) (first : Item) (second : ℕ) (given : Option ℤ) (ended : Bool) (run was now : List Item)
+pub record OverwritesEntire (from to past : ℕ → Bool) (first : Item) (second : ℕ) (given : Option ℤ) (ended : Bool) (run was now : List Item)
     : Type 0 where
   pub run_is : run ≡ between (Some from) (Some to) was
   pub ended_is : IsTrue ended ↔ (between (Some to) (Some past) was ≢ [])
@@ -92,11 +92,11 @@ pub record OverwritesPart (from to : ℕ → Bool) (last : ℤ) (run was now : L
   pub some : run ≢ []
   pub run_is : between (Some from) (Some to) was ≡ kept ++ run
   pub last_is : (x : Item) → IsLast x run → last ≡ x.version
-  pub now_is : now ≡ items_below from was ++ (kept ++ behind to was)
+  pub now_is : now ≡ items_below from was ++ (kept ++ following to was)
   pub first : items_below from was ++ kept ≢ []
 
 -- either of them
-abbrev pub Overwrites : (ℕ → Bool) → (ℕ → Bool) → (ℕ → Bool) → Item → ℕ → Option ℤ → Written → List Item → List Item → List Item → Type 0
-Overwrites from to past first second given (Whole ended) run was now =
-    OverwritesWhole from to past first second given ended run was now
+abbrev pub Overwrites : (ℕ → Bool) → (ℕ → Bool) → (ℕ → Bool) → Item → ℕ → Option ℤ → OverwriteResult → List Item → List Item → List Item → Type 0
+Overwrites from to past first second given (Entirely ended) run was now =
+    OverwritesEntire from to past first second given ended run was now
 Overwrites from to past first second given (Partly last) run was now = OverwritesPart from to last run was now

@@ -2,7 +2,7 @@
 use Rattle.std.specs.Prelude.{◌≡◌, ◌&&◌, true, false, ◌∷◌, Option, Some, ℕ, zero, suc, ◌+◌, ◌-◌, Bool, not, List, [], ◌++◌, take, drop, filter, slice_get, option_map, unwrap_or, length}
 use Rattle.std.specs.List.{flat_map}
 use Rattle.arena.specs.Arena.{Arena}
-use Rattle.tree.specs.declared.entry.Entry.{Entry}
+use Rattle.tree.specs.declared.entry.NodeEntry.{NodeEntry}
 use Rattle.tree.specs.declared.node.Node.{Node}
 use Rattle.tree.specs.Item.{Item}
 use Rattle.tree.specs.Subtree.{entries_at, items_in}
@@ -15,8 +15,8 @@ IsPartitioned is_below xs = xs ≡ filter is_below xs ++ filter (λ x. not (is_b
 abbrev pub items_below : (ℕ → Bool) → List Item → List Item
 items_below is_below items = filter (λ x. is_below x.key) items
 
-abbrev pub behind : (ℕ → Bool) → List Item → List Item
-behind is_below items = filter (λ x. not (is_below x.key)) items
+abbrev pub following : (ℕ → Bool) → List Item → List Item
+following is_below items = filter (λ x. not (is_below x.key)) items
 
 -- the key of the first of them, or the one given if there is none
 abbrev pub first_key : Option ℕ → List Item → Option ℕ
@@ -40,11 +40,11 @@ abbrev pub from_last : (ℕ → Bool) → Option (ℕ → Bool) → List Item �
 from_last from to items = drop (length (items_below from items) - 1) (filter (λ x. below_to to x.key) items)
 
 -- the index of the last entry below the bound, or of the first one
-abbrev pub index_in : (ℕ → Bool) → List Entry → ℕ
+abbrev pub index_in : (ℕ → Bool) → List NodeEntry → ℕ
 index_in is_below entries = length (filter (λ e. is_below e.key) entries) - 1
 
 -- its child
-abbrev pub child_in : (ℕ → Bool) → List Entry → ℕ
+abbrev pub child_in : (ℕ → Bool) → List NodeEntry → ℕ
 child_in is_below entries = unwrap_or (option_map (λ e. e.child) (slice_get entries (index_in is_below entries))) 0
 
 module _ {N : ℕ} where
@@ -62,9 +62,9 @@ module _ {N : ℕ} where
       ++ before_leaf nodes height (child_in is_below entries) is_below
 
   -- the items after the leaf's
-  abbrev pub behind_leaf : Arena (Node N) → ℕ → ℕ → (ℕ → Bool) → List Item
-  behind_leaf nodes zero slot is_below = []
-  behind_leaf nodes (suc height) slot is_below =
+  abbrev pub after_leaf : Arena (Node N) → ℕ → ℕ → (ℕ → Bool) → List Item
+  after_leaf nodes zero slot is_below = []
+  after_leaf nodes (suc height) slot is_below =
       let entries = entries_at nodes slot in
-      behind_leaf nodes height (child_in is_below entries) is_below
+      after_leaf nodes height (child_in is_below entries) is_below
       ++ flat_map (λ e. items_in nodes height e.child) (drop (index_in is_below entries + 1) entries)

@@ -3,7 +3,7 @@ use Rattle.std.specs.Prelude.{◌≡◌, ◌≢◌, ◌≤◌, ◌<◌, ◌+◌,
 use Rattle.std.specs.List.{All, IsDistinct}
 use Rattle.std.specs.FinMap as map_of
 use Rattle.arena.specs.Arena.{Arena, IsLive, spare_of}
-use Rattle.tree.specs.declared.entry.Entry.{Entry}
+use Rattle.tree.specs.declared.entry.NodeEntry.{NodeEntry}
 use Rattle.tree.specs.declared.node.Node.{Node}
 use Rattle.tree.specs.Heads.{AllAreHeads, AreHeads, AreHeadsBeside, IsKnown, KeyBytes}
 use Rattle.tree.specs.Node.{all_heads_of, entries_of, key_heads_of, keys_of}
@@ -15,7 +15,7 @@ use Rattle.tree.specs.Tree.{least_of}
 module _ {N : ℕ} where
   -- The node at a slot, which is too full for the entries that replace those from one index up to another, and so is split. It may be
   -- known that their keys begin as all others do, with their heads.
-  pub record CanSplit (bytes : KeyBytes) (nodes : Arena (Node N)) (slot from to : ℕ) (new : List Entry) (heads : List ℕ)
+  pub record CanSplit (bytes : KeyBytes) (nodes : Arena (Node N)) (slot from to : ℕ) (new : List NodeEntry) (heads : List ℕ)
       (have_prefix : Bool) : Type 0 where
     pub fan_out : 4 ≤ N
     pub live : IsLive nodes slot
@@ -93,7 +93,7 @@ module _ {N : ℕ} where
     pub headed : AllAreHeads bytes (all_heads_of nodes)
 
   -- The entries of a node that was made right: there is one less at most. No spare slot was taken.
-  pub record LosesOneAtMost (bytes : KeyBytes) (old new : Arena (Node N)) (was now : List Entry) : Type 0 where
+  pub record LosesOneAtMost (bytes : KeyBytes) (old new : Arena (Node N)) (was now : List NodeEntry) : Type 0 where
     pub few_less : length was ≤ length now + 1
     pub spare : spare_of old 0 ≤ spare_of new 0
     pub headed : AllAreHeads bytes (all_heads_of new)

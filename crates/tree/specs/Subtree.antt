@@ -2,14 +2,14 @@
 use Rattle.std.specs.Prelude.{ℕ, zero, suc, ◌≤◌, List, [], ◌∷◌, length, map, option_map, unwrap_or}
 use Rattle.std.specs.List.{All, flat_map}
 use Rattle.arena.specs.Arena.{Arena, IsLive, header_at}
-use Rattle.tree.specs.declared.entry.Entry.{Entry}
+use Rattle.tree.specs.declared.entry.NodeEntry.{NodeEntry}
 use Rattle.tree.specs.declared.node.Node.{Node}
-use Rattle.tree.specs.Item.{Item, item_of, Tells}
+use Rattle.tree.specs.Item.{Item, item_of, Describes}
 use Rattle.tree.specs.Node.{entries_of}
 
 module _ {N : ℕ} where
   -- the entries of the node at a slot
-  abbrev pub entries_at : Arena (Node N) → ℕ → List Entry
+  abbrev pub entries_at : Arena (Node N) → ℕ → List NodeEntry
   entries_at nodes slot = unwrap_or (option_map entries_of (header_at nodes slot)) []
 
   -- the items of the subtree of this height at a slot, in order
@@ -24,10 +24,10 @@ module _ {N : ℕ} where
 
   -- The node of an entry's child has at least n entries. The entry has the first key and the greatest version of the
   -- child's subtree.
-  pub record IsChild (nodes : Arena (Node N)) (least height : ℕ) (IsBelow : ℕ → Type 0) (e : Entry) : Type 0 where
+  pub record IsChild (nodes : Arena (Node N)) (least height : ℕ) (IsBelow : ℕ → Type 0) (e : NodeEntry) : Type 0 where
     pub filled : least ≤ length (entries_at nodes e.child)
     pub subtree : IsBelow e.child
-    pub tells : Tells e (items_in nodes height e.child)
+    pub describes : Describes e (items_in nodes height e.child)
 
   -- The nodes are live, and no node above a leaf is without a child.
   abbrev pub IsSubtree : Arena (Node N) → ℕ → ℕ → ℕ → Type 0

@@ -61,8 +61,8 @@ abbrev pub least_of : ℕ → ℕ
 least_of fan_out = max (fan_out / 2) 2
 
 -- how many nodes a tree of the greatest height uses at most for a change, its root's right neighbour and its new root among them
-abbrev pub way : ℕ
-way = 66
+abbrev pub longest_path : ℕ
+longest_path = 66
 
 -- the nodes of a tree
 pub record IsRooted {N : ℕ} (nodes : Arena (Node N)) (root height : ℕ) : Type 0 where
@@ -84,4 +84,4 @@ pub record IsTree {N : ℕ} (nodes : Arena (Node N)) (root height len room : ℕ
   pub within : len ≤ room
   -- Nodes for n items, and for one change more. Other than the root, each node has enough entries that it takes the place
   -- of `least_of N - 1` items.
-  pub reserved : room + (least_of N - 1) * way ≤ (least_of N - 1) * (map.len nodes.records + spare_of nodes 0)
+  pub reserved : room + (least_of N - 1) * longest_path ≤ (least_of N - 1) * (map.len nodes.records + spare_of nodes 0)

@@ -3,11 +3,11 @@ use Rattle.std.specs.Prelude.{◌≡◌, ◌≤◌, ◌<◌, ◌+◌, ◌⊎◌,
 use Rattle.std.specs.List.{All, Any, IsDistinct}
 use Rattle.std.specs.FinMap as map
 use Rattle.arena.specs.Arena.{Arena, spare_of}
-use Rattle.tree.specs.declared.entry.Entry.{Entry}
+use Rattle.tree.specs.declared.entry.NodeEntry.{NodeEntry}
 use Rattle.tree.specs.declared.node.Node.{Node}
-use Rattle.tree.specs.declared.walk.Outcome.{Outcome}
+use Rattle.tree.specs.declared.walk.LeafOutcome.{LeafOutcome}
 use Rattle.tree.specs.declared.walk.RaisedLeaf.{RaisedLeaf}
-use Rattle.tree.specs.declared.walk.Outcome.TheVariants.{Same, Raised, Changed, Split}
+use Rattle.tree.specs.declared.walk.LeafOutcome.TheVariants.{Same, Raised, Changed, Split}
 use Rattle.tree.specs.Heads.{KeyBytes, AllAreHeads, IsCommonPrefixAt}
 use Rattle.tree.specs.Item.{Item}
 use Rattle.tree.specs.Node.{all_heads_of}
@@ -17,7 +17,7 @@ use Rattle.tree.specs.Subtree.{entries_at, items_in, slots_in, IsSubtree}
 use Rattle.tree.specs.Tree.{least_of, IsRooted}
 
 -- The slot of the right neighbour that a subtree was split from, if it was.
-abbrev pub added_by : Outcome → Option ℕ
+abbrev pub added_by : LeafOutcome → Option ℕ
 added_by Same = None
 added_by (Raised leaf) = None
 added_by Changed = None
@@ -41,16 +41,16 @@ pub record IsChangedWithin (is_below : ℕ → Bool) (Gives : Bool → Option �
   pub before : List Item
   pub leaf : List Item
   pub changed : List Item
-  pub behind : List Item
-  pub was_is : was ≡ before ++ (leaf ++ behind)
-  pub now_is : now ≡ before ++ (changed ++ behind)
+  pub following : List Item
+  pub was_is : was ≡ before ++ (leaf ++ following)
+  pub now_is : now ≡ before ++ (changed ++ following)
   pub items_below : All (λ x. is_below x.key ≡ true) before
-  pub failing : All (λ x. is_below x.key ≡ false) behind
+  pub failing : All (λ x. is_below x.key ≡ false) following
   pub found : IsFoundAmong is_below before leaf
   -- whether no item stands before the leaf's
   pub first : Bool
   pub first_is : IsTrue first ↔ (IsTrue is_first × (before ≡ []))
-  pub gives : Gives first (first_key next behind) leaf changed
+  pub gives : Gives first (first_key next following) leaf changed
 
 module _ {N : ℕ} where
   -- A subtree that may be changed: it is right, and there are as many spare slots as a change takes.
@@ -73,7 +73,7 @@ module _ {N : ℕ} where
 
   -- A subtree of which a leaf may be changed: the bound is sought there, the items are as is wanted, and none is taken out yet.
   pub record CanChangeLeaf (bytes : KeyBytes) (is_below : ℕ → Bool) (target : List ℕ) (Wants : List Item → Type 0)
-      (nodes : Arena (Node N)) (height slot : ℕ) (common_prefix_len : Option ℕ) (taken : List Entry) : Type 0 where
+      (nodes : Arena (Node N)) (height slot : ℕ) (common_prefix_len : Option ℕ) (taken : List NodeEntry) : Type 0 where
     pub changeable : CanChange nodes height slot
     pub searched : CanSearch bytes is_below target nodes height slot common_prefix_len
     pub wanted : Wants (items_in nodes height slot)
@@ -97,7 +97,7 @@ module _ {N : ℕ} where
     pub no_fewer : 1 ≤ height → length (entries_at old slot) ≤ length (entries_at new slot)
 
   -- A subtree once it was changed, and the right neighbour that it was split from, if it was.
-  pub record IsChanged (bytes : KeyBytes) (old new : Arena (Node N)) (height slot : ℕ) (outcome : Outcome) : Type 0 where
+  pub record IsChanged (bytes : KeyBytes) (old new : Arena (Node N)) (height slot : ℕ) (outcome : LeafOutcome) : Type 0 where
     pub same : outcome ≡ Same → new ≡ old
     pub raised : (leaf : RaisedLeaf) → outcome ≡ Raised leaf → IsRaisedAt old new height slot leaf
     pub subtree : IsSubtree new (least_of N) height slot
@@ -128,7 +128,7 @@ module _ {N : ℕ} where
 
   -- A tree of which a leaf may be changed: the bound goes through the items, which are as is wanted, and none is taken out yet.
   pub record CanChangeBy (bytes : KeyBytes) (is_below : ℕ → Bool) (Wants : List Item → Type 0) (nodes : Arena (Node N))
-      (root height : ℕ) (taken : List Entry) : Type 0 where
+      (root height : ℕ) (taken : List NodeEntry) : Type 0 where
     pub changeable : CanChangeTree nodes root height
     pub partitioned : IsPartitioned (λ x. is_below x.key) (items_in nodes height root)
     pub headed : AllAreHeads bytes (all_heads_of nodes)

@@ -10,7 +10,7 @@ ghost use Rattle.tree.specs.Path.{index_in};
 ghost use Rattle.tree.specs.Question.{IsApproach, IsAsked};
 ghost use Rattle.tree.specs.Subtree.{entries_at};
 ghost use Rattle.tree.specs.Tree.{least_of};
-ghost use Rattle.tree.specs.declared.entry.Entry.{Entry};
+ghost use Rattle.tree.specs.declared.entry.NodeEntry.{NodeEntry};
 
 use crate::bound::Bound;
 use crate::descent::common_prefix_len_at;
@@ -21,7 +21,7 @@ use arena::{Arena, Slot};
 
 /// A leaf to which a way leads.
 #[derive(Clone, Copy, Debug)]
-pub struct Near {
+pub struct LeafHint {
     pub leaf: Slot,
     /// How many bytes the first key of the leaf and the target of the first bound begin with in
     /// common.
@@ -34,7 +34,7 @@ pub struct Near {
 #[derive(Clone, Copy, Debug, Default)]
 pub enum Approach {
     /// To a leaf, whose memory hasn't been read.
-    Leaf(Near),
+    Leaf(LeafHint),
     /// To a subtree which shows that no version is above the question's.
     Clear,
     /// Nowhere: the question goes down by both bounds.
@@ -64,7 +64,7 @@ fn descend<P: Bound, Q: Bound, const N: usize>(
         (Q.below question.now.to) (P.target question.now.from) question.now.version clear result }
 {
     if height == 0 {
-        return Approach::Leaf(Near {
+        return Approach::Leaf(LeafHint {
             leaf: slot,
             common_prefix_len,
             clear,
@@ -127,7 +127,7 @@ fn is_clear<P: Bound, Q: Bound, const N: usize>(
         common_prefix_len from_head }
     requires within { index < length (entries_of node.now) }
     requires last_below { index ≡ index_in (P.below question.now.from) (entries_of node.now) }
-    ensures next { IsTrue result → (e : Entry)
+    ensures next { IsTrue result → (e : NodeEntry)
         → slice_get (entries_of node.now) (index + 1) ≡ Some e
         → Q.below question.now.to e.key ≡ false }
     ensures last { IsTrue result → length (entries_of node.now) ≤ index + 1 → IsTrue clear }

@@ -3,7 +3,7 @@
 ghost use Rattle.std.specs.Prelude.{◌≡◌, ◌≤◌, ◌↔◌, ℕ, Bool, List, [], length, take, Option, Some};
 ghost use Rattle.std.specs.Prelude.{IsTrue};
 ghost use Rattle.keys.specs.Key.{IsBytes};
-ghost use Rattle.tree.specs.Heads.{head_behind, IsBelowInOrder, IsCommonPrefixLen, IsCommonPrefix};
+ghost use Rattle.tree.specs.Heads.{head_after, IsBelowInOrder, IsCommonPrefixLen, IsCommonPrefix};
 
 use arena::Slot;
 
@@ -27,13 +27,13 @@ pub trait Bound {
 
     /// Returns the head of the target: the four bytes after the first n, as a number.
     fn head(&self, prefix_len: usize) -> u32
-        ensures head { result ≡ head_behind prefix_len (target self.now) }
+        ensures head { result ≡ head_after prefix_len (target self.now) }
         ensures are_bytes { IsBytes (target self.now) };
 
     /// Returns the head of a key: the four bytes after the first n, as a number.
     fn head_of(&self, key: Slot, prefix_len: usize) -> u32
         ensures head { (text : List ℕ) → bytes self.now key ≡ Some text
-            → result ≡ head_behind prefix_len text };
+            → result ≡ head_after prefix_len text };
 
     /// Returns whether a key is empty.
     fn is_empty(&self, key: Slot) -> bool

@@ -8,13 +8,13 @@ ghost use Rattle.tree.specs.Rebalancing.{IsPlaced, IsStored, LosesOneAtMost};
 ghost use Rattle.tree.specs.Subtree.{entries_at};
 ghost use Rattle.tree.specs.Tree.{least_of};
 ghost use Rattle.tree.specs.Children.{child_at, entries_at_both, HasRaisedEntry, IsFamilyAt};
-ghost use Rattle.tree.specs.Children.{IsKeyless, IsLinked, IsRebalancedAt, TellsWritten};
+ghost use Rattle.tree.specs.Children.{IsKeyless, IsLinked, IsRebalancedAt, DescribesWritten};
 
 use crate::bound::Bound;
-use crate::entry::Entry;
+use crate::entry::NodeEntry;
 use crate::node::Node;
 use crate::rebalance::{entry_for, least, merge_or_redistribute};
-use crate::walk::{Outcome, RaisedLeaf};
+use crate::walk::{LeafOutcome, RaisedLeaf};
 use arena::{Arena, Slot};
 
 /// Makes the entry at an index right in the node at a slot, whose child was split, and puts one for
@@ -67,7 +67,7 @@ pub fn split<P: Bound, const N: usize>(
     slot: Slot,
     from: usize,
     to: usize,
-    new: &[Entry],
+    new: &[NodeEntry],
     heads: &[u32],
     have_prefix: bool,
     bound: &P,
@@ -118,29 +118,29 @@ pub fn raise_entry<P: Bound, const N: usize>(
     index: usize,
     leaf: RaisedLeaf,
     bound: &P,
-) -> Outcome
+) -> LeafOutcome
     requires can_raise { CanRaise (P.bytes bound.now) nodes.old slot index }
     ensures rebalanced { (height : ℕ)
         → IsFamilyAt nodes.old (least_of N) height slot index (index + 1)
-        → TellsWritten nodes.old height slot index leaf.version
+        → DescribesWritten nodes.old height slot index leaf.version
         → IsRebalancedAt nodes.old nodes.new (least_of N) height slot }
     ensures rest { LosesOneAtMost (P.bytes bound.now) nodes.old nodes.new
         (entries_at nodes.old slot) (entries_at nodes.new slot) }
-    ensures outcome { (result ≡ Outcome.Changed)
-        ⊎ ((result ≡ Outcome.Raised leaf)
+    ensures outcome { (result ≡ LeafOutcome.Changed)
+        ⊎ ((result ≡ LeafOutcome.Raised leaf)
         × HasRaisedEntry nodes.old nodes.new slot index leaf.version) }
 {
     let entry = nodes.header_ref(slot).entries()[index];
     if entry.version > leaf.version {
         rebalance_child(nodes, slot, index, bound);
-        return Outcome::Changed;
+        return LeafOutcome::Changed;
     }
-    let raised = Entry {
+    let raised = NodeEntry {
         version: leaf.version,
         ..entry
     };
     nodes.header_mut(slot).set(index, raised);
-    Outcome::Raised(leaf)
+    LeafOutcome::Raised(leaf)
 }
 
 /// Stores a node in a spare slot.

@@ -4,10 +4,10 @@ ghost use Rattle.std.specs.Prelude.{◌≡◌, ◌≤◌, length};
 ghost use Rattle.arena.specs.Arena.{IsLive};
 ghost use Rattle.tree.specs.Heads.{AllAreHeads, IsCommonPrefixAt};
 ghost use Rattle.tree.specs.Node.{all_heads_of};
-ghost use Rattle.tree.specs.Reached.{CanReach};
+ghost use Rattle.tree.specs.ReachedLeaf.{CanReach};
 ghost use Rattle.tree.specs.Subtree.{entries_at};
 ghost use Rattle.tree.specs.Tree.{least_of};
-ghost use Rattle.tree.specs.Path.{leaf_in, behind_leaf, first_key};
+ghost use Rattle.tree.specs.Path.{leaf_in, after_leaf, first_key};
 
 use crate::bound::Bound;
 use crate::entry::key_at;
@@ -16,13 +16,13 @@ use arena::{Arena, Slot};
 
 /// The position of a search.
 #[derive(Clone, Copy, Debug)]
-pub struct Reached {
+pub struct ReachedLeaf {
     pub leaf: Slot,
     /// How many bytes the first key of the leaf and the target begin with in common, or none if
     /// that key isn't below the bound.
     pub common_prefix_len: Option<usize>,
     /// The key of the first item after the leaf.
-    pub behind: Option<Slot>,
+    pub following: Option<Slot>,
 }
 
 /// Returns how many bytes the first key of a node and the target begin with in common, or none if
@@ -44,16 +44,16 @@ pub fn common_prefix_len_at<P: Bound, const N: usize>(
 
 /// Finds the leaf that has the last item below the bound, or else the first leaf.
 /// `common_prefix_len` is how many bytes the first key of the subtree and the target begin with in
-/// common, or none if that key isn't below the bound. `behind` is the key of the first item after
-/// the subtree.
+/// common, or none if that key isn't below the bound. `following` is the key of the first item
+/// after the subtree.
 pub fn find<P: Bound, const N: usize>(
     nodes: &Arena<Node<N>>,
     slot: Slot,
     height: usize,
     bound: &P,
     common_prefix_len: Option<usize>,
-    behind: Option<Slot>,
-) -> Reached
+    following: Option<Slot>,
+) -> ReachedLeaf
     requires can_reach { CanReach (P.bytes bound.now) (P.below bound.now) nodes.now (least_of N)
         height slot }
     requires known { IsCommonPrefixAt (P.bytes bound.now) (P.below bound.now) (P.target bound.now)
@@ -63,20 +63,20 @@ pub fn find<P: Bound, const N: usize>(
         result.common_prefix_len
         (entries_at nodes.now result.leaf) 0 }
     ensures some { 1 ≤ length (entries_at nodes.now result.leaf) }
-    ensures behind { result.behind
-        ≡ first_key behind (behind_leaf nodes.now height slot (P.below bound.now)) }
+    ensures following { result.following
+        ≡ first_key following (after_leaf nodes.now height slot (P.below bound.now)) }
 {
     if height == 0 {
-        return Reached {
+        return ReachedLeaf {
             leaf: slot,
             common_prefix_len,
-            behind,
+            following,
         };
     }
     let node = nodes.header_ref(slot);
     let entries = node.entries();
     let step = node.step(bound, common_prefix_len);
-    let next = key_at(entries, step.index + 1, behind);
+    let next = key_at(entries, step.index + 1, following);
     let child = entries[step.index].child;
     find(
         nodes,

@@ -8,7 +8,7 @@ use arena::Slot;
 
 /// What a node knows of an item, or of the subtree of a child.
 #[derive(Clone, Copy, Debug, Default, PartialEq, Eq)]
-pub struct Entry {
+pub struct NodeEntry {
     /// The key of the item, or of the first item of the subtree.
     pub key: Slot,
     /// The child's slot. In a leaf it is the key's.
@@ -17,12 +17,12 @@ pub struct Entry {
     pub version: i64,
 }
 
-/// Returns the key of the entry at an index, or `behind` if there is none.
-pub fn key_at(entries: &[Entry], index: usize, behind: Option<Slot>) -> Option<Slot>
-    ensures key { result ≡ first_key behind (map item_of (drop index entries.now)) }
+/// Returns the key of the entry at an index, or `following` if there is none.
+pub fn key_at(entries: &[NodeEntry], index: usize, following: Option<Slot>) -> Option<Slot>
+    ensures key { result ≡ first_key following (map item_of (drop index entries.now)) }
 {
     match entries.get(index) {
         Some(entry) => Some(entry.key),
-        None => behind,
+        None => following,
     }
 }

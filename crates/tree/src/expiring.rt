@@ -10,9 +10,9 @@ ghost use Rattle.tree.specs.Expire.{GivesUnexpired};
 ghost use Rattle.tree.specs.Tree.{IsLast, unexpired, expired};
 
 use crate::bound::Bound;
-use crate::entry::{Entry, key_at};
+use crate::entry::{NodeEntry, key_at};
 use crate::node::Node;
-use crate::walk::{LeafChange, Outcome, Place};
+use crate::walk::{LeafChange, LeafOutcome, LeafPlace};
 use arena::{Arena, Slot};
 use arrayvec::ArrayVec;
 
@@ -66,49 +66,49 @@ impl<'a, P: Bound, const N: usize> LeafChange<N> for Expiring<'a, P> {
         &mut self,
         nodes: &mut Arena<Node<N>>,
         slot: Slot,
-        place: Place,
-        taken: &mut ArrayVec<Entry, N>,
-    ) -> Outcome {
+        place: LeafPlace,
+        taken: &mut ArrayVec<NodeEntry, N>,
+    ) -> LeafOutcome {
         let leaf = nodes.header_ref(slot);
         let below = leaf.lower_bound(self.bound, place.common_prefix_len);
         if below == 0 {
-            return Outcome::Same;
+            return LeafOutcome::Same;
         }
         let begin = below - 1;
         let end = begin + self.count.min(leaf.len() - begin);
         let Expiring { edge, before, .. } = *self;
-        self.removal = look_at(leaf.entries(), begin, end, place.behind);
+        self.removal = look_at(leaf.entries(), begin, end, place.following);
         if !has_expired(&leaf.entries()[begin..end], edge, before) {
-            return Outcome::Same;
+            return LeafOutcome::Same;
         }
         let leaf = nodes.header_mut(slot);
         remove_expired(leaf, begin, end, edge, before, taken);
         leaf.lengthen_prefix(self.bound);
-        Outcome::Changed
+        LeafOutcome::Changed
     }
 
-    ghost part = { λ t before items behind wanted. wanted };
+    ghost part = { λ t before items following wanted. wanted };
 }
 
 // Looks at the entries of a leaf from one index up to another, and returns the result of a removal.
-// `behind` is the key of the item after the leaf.
-fn look_at(entries: &[Entry], from: usize, to: usize, behind: Option<Slot>) -> Removal
+// `following` is the key of the item after the leaf.
+fn look_at(entries: &[NodeEntry], from: usize, to: usize, following: Option<Slot>) -> Removal
     requires some { from < to }
     requires within { to ≤ length entries.now }
     ensures looked_at { result.looked_at ≡ to - from }
     ensures last { IsLast result.last (map version_of (take (to - from) (drop from entries.now))) }
-    ensures next { result.next ≡ first_key behind (map item_of (drop to entries.now)) }
+    ensures next { result.next ≡ first_key following (map item_of (drop to entries.now)) }
 {
     Removal {
         looked_at: to - from,
         last: entries[to - 1].version,
-        next: key_at(entries, to, behind),
+        next: key_at(entries, to, following),
     }
 }
 
 // Returns whether the version of one of these entries and that of its predecessor are below `edge`.
 // `before` is the version of the entry before the first of them.
-fn has_expired(entries: &[Entry], edge: i64, before: i64) -> bool
+fn has_expired(entries: &[NodeEntry], edge: i64, before: i64) -> bool
     ensures expired { IsTrue result ↔ (expired edge before (map item_of entries.now) ≢ []) }
 {
     let mut last = before;
@@ -130,7 +130,7 @@ fn remove_expired<const N: usize>(
     to: usize,
     edge: i64,
     before: i64,
-    taken: &mut ArrayVec<Entry, N>,
+    taken: &mut ArrayVec<NodeEntry, N>,
 )
     requires none_taken { taken.old.items ≡ [] }
     requires some { from < to }

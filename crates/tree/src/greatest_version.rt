@@ -6,12 +6,12 @@ ghost use Rattle.std.specs.List.{Any};
 ghost use Rattle.tree.specs.Finding.{CanFind, IsLowerBound};
 ghost use Rattle.tree.specs.Item.{IsGreatest, IsGreatestWith, greater_of, version_of};
 ghost use Rattle.tree.specs.Path.{below_from, below_to, from_last};
-ghost use Rattle.tree.specs.Reached.{CanReach};
+ghost use Rattle.tree.specs.ReachedLeaf.{CanReach};
 ghost use Rattle.tree.specs.Subtree.{items_in, IsSubtree};
 ghost use Rattle.tree.specs.Tree.{least_of};
 
 use crate::bound::Bound;
-use crate::entry::Entry;
+use crate::entry::NodeEntry;
 use crate::node::Node;
 use arena::{Arena, Slot};
 
@@ -67,7 +67,7 @@ pub fn greatest<'a, P: Bound, Q: Bound, const N: usize>(
 }
 
 /// Returns whether the version of some entry is above this one.
-pub fn any_above(entries: &[Entry], version: i64) -> bool
+pub fn any_above(entries: &[NodeEntry], version: i64) -> bool
     ensures above { IsTrue result ↔ Any (λ e. version <ℤ e.version) entries.now }
 {
     entries.iter().any(|entry| entry.version > version)
@@ -98,7 +98,7 @@ fn end_of<Q: Bound, const N: usize>(node: &Node<N>, to: Option<&Q>) -> usize
 }
 
 // Returns the greatest version of the entries, or none if there is no entry.
-fn greatest_of(entries: &[Entry]) -> Option<i64>
+fn greatest_of(entries: &[NodeEntry]) -> Option<i64>
     ensures greatest { MatchOption result (entries.now ≡ [])
         (λ version. IsGreatest version_of version entries.now) }
 {

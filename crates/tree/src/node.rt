@@ -4,7 +4,7 @@ ghost use Rattle.std.specs.Prelude.{◌≤◌, ◌≡◌, ◌+◌, ◌-◌, ℕ,
 ghost use Rattle.std.specs.List.{copy_within};
 ghost use Rattle.tree.specs.declared.node.TheConstants.{PADDING};
 
-use crate::entry::Entry;
+use crate::entry::NodeEntry;
 
 mod heads;
 mod lower_bound;
@@ -24,7 +24,7 @@ pub struct Node<const N: usize> {
     // The head of each key, after these bytes. The greatest number follows the heads of the keys,
     // so that a search need not look at the length.
     heads: [u32; N],
-    entries: [Entry; N],
+    entries: [NodeEntry; N],
     ghost within: { len ≤ N },
     ghost padded: { (index : ℕ) → len ≤ index → get_or heads index PADDING ≡ PADDING },
 }
@@ -39,7 +39,7 @@ impl<const N: usize> Node<N> {
     ghost use Rattle.tree.specs.Splice.{AreHalfFull};
 
     /// Returns a node of one entry. What it knows is right if the key is empty.
-    pub fn of(entry: Entry) -> Self
+    pub fn of(entry: NodeEntry) -> Self
         requires room { 1 ≤ N }
         ensures entries { entries_of result ≡ entry ∷ [] }
         ensures key_heads { key_heads_of result
@@ -56,7 +56,7 @@ impl<const N: usize> Node<N> {
     }
 
     /// Returns the entries.
-    pub fn entries(&self) -> &[Entry]
+    pub fn entries(&self) -> &[NodeEntry]
         ensures entries { result.now ≡ entries_of self.now }
         ensures most { length (entries_of self.now) ≤ N }
     {
@@ -79,7 +79,7 @@ impl<const N: usize> Node<N> {
     }
 
     /// Replaces the entry at an index.
-    pub fn set(&mut self, index: usize, entry: Entry)
+    pub fn set(&mut self, index: usize, entry: NodeEntry)
         requires within { index < length (entries_of self.old) }
         ensures entries { (entries_of self.new) ≡ slice_set (entries_of self.old) index entry }
         ensures key_heads { key_heads_of self.new
@@ -92,7 +92,7 @@ impl<const N: usize> Node<N> {
     pub fn copy(&mut self, from: usize, to: usize)
         requires from { from < length (entries_of self.old) }
         requires to { to < length (entries_of self.old) }
-        ensures entries { (e : Entry) → slice_get (entries_of self.old) from ≡ Some e
+        ensures entries { (e : NodeEntry) → slice_get (entries_of self.old) from ≡ Some e
             → (entries_of self.new) ≡ slice_set (entries_of self.old) to e }
         ensures headed { (bytes : KeyBytes) → AreHeads bytes (key_heads_of self.old)
             → AreHeads bytes (key_heads_of self.new) }
@@ -128,7 +128,7 @@ impl<const N: usize> Node<N> {
     {
         let end = self.len;
         // The slots after the last entry are moved too, so that the loops have full turns.
-        let moved = whole_turns(end - from, N - from.max(to));
+        let moved = multiple_of_four(end - from, N - from.max(to));
         move_within(&mut self.entries, from, from + moved, to);
         move_within(&mut self.heads, from, from + moved, to);
         self.len = to + (end - from);
@@ -139,7 +139,7 @@ impl<const N: usize> Node<N> {
     }
 
     /// Replaces the entries from one index up to another by these, with their heads.
-    pub fn splice(&mut self, from: usize, to: usize, new: &[Entry], heads: &[u32])
+    pub fn splice(&mut self, from: usize, to: usize, new: &[NodeEntry], heads: &[u32])
         requires ordered { from ≤ to }
         requires within { to ≤ length (entries_of self.old) }
         requires same_len { length heads.now ≡ length new.now }
@@ -159,7 +159,7 @@ impl<const N: usize> Node<N> {
     }
 
     // Appends entries of another node, with their heads.
-    fn append(&mut self, more: &[Entry], heads: &[u32])
+    fn append(&mut self, more: &[NodeEntry], heads: &[u32])
         requires same_len { length heads.now ≡ length more.now }
         requires room { length (entries_of self.old) + length more.now ≤ N }
         ensures entries { (entries_of self.new) ≡ (entries_of self.old) ++ more.now }
@@ -175,7 +175,7 @@ impl<const N: usize> Node<N> {
     }
 
     // Puts entries of another node, with their heads, before these.
-    fn prepend(&mut self, more: &[Entry], heads: &[u32])
+    fn prepend(&mut self, more: &[NodeEntry], heads: &[u32])
         requires same_len { length heads.now ≡ length more.now }
         requires room { length (entries_of self.old) + length more.now ≤ N }
         ensures entries { (entries_of self.new) ≡ more.now ++ (entries_of self.old) }
@@ -237,7 +237,7 @@ impl<const N: usize> Node<N> {
 }
 
 // Returns the least multiple of four that isn't below the count, but no more than `most`.
-fn whole_turns(count: usize, most: usize) -> usize
+fn multiple_of_four(count: usize, most: usize) -> usize
     requires within { count ≤ most }
     ensures least { count ≤ result }
     ensures most { result ≤ most }

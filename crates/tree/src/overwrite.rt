@@ -6,34 +6,34 @@ ghost use Rattle.tree.specs.Item.{item_of};
 ghost use Rattle.tree.specs.Overwrite.{GivesWritten, IsPartOfPartitioned, part_of_part, put_of};
 
 use crate::bound::Bound;
-use crate::entry::Entry;
+use crate::entry::NodeEntry;
 use crate::node::Node;
 use crate::rebalance::least;
-use crate::run::{Run, put_taken, write_run};
-use crate::walk::{LeafChange, Outcome, Place, RaisedLeaf};
+use crate::run::{EntryRun, put_taken, write_run};
+use crate::walk::{LeafChange, LeafOutcome, LeafPlace, RaisedLeaf};
 use arena::{Arena, Slot};
 use arrayvec::ArrayVec;
 
 /// How far the writing over a run has come.
 #[derive(Clone, Copy, Debug)]
-pub enum Written {
+pub enum OverwriteResult {
     /// Items at the end of the run are taken out, of which the last one had this version. Nothing
     /// is put in.
     Partly { last: i64 },
     /// The run is written over. `ended` tells whether an item had the key of the second new one,
     /// which was not put in.
-    Whole { ended: bool },
+    Entirely { ended: bool },
 }
 
-impl Written {
+impl OverwriteResult {
     /// Returns how many items replace the run.
     pub fn put(self) -> usize
         ensures put { result ≡ put_of self }
     {
         match self {
-            Written::Partly { .. } => 0,
-            Written::Whole { ended: true } => 1,
-            Written::Whole { ended: false } => 2,
+            OverwriteResult::Partly { .. } => 0,
+            OverwriteResult::Entirely { ended: true } => 1,
+            OverwriteResult::Entirely { ended: false } => 2,
         }
     }
 }
@@ -48,7 +48,7 @@ pub struct Overwrite<'a, P: Bound, Q: Bound, R: Bound> {
     /// How many bytes the targets of the first two bounds begin with in common, or fewer.
     pub targets_prefix_len: usize,
     /// The entry that replaces the run.
-    pub first: Entry,
+    pub first: NodeEntry,
     /// The key of the entry after it.
     pub second: Slot,
     /// The version of that entry. If it is missing, that of the last item before the second bound
@@ -72,7 +72,7 @@ pub struct Overwrite<'a, P: Bound, Q: Bound, R: Bound> {
 pub struct Overwriting<'a, 'b, P: Bound, Q: Bound, R: Bound> {
     pub new: &'b Overwrite<'a, P, Q, R>,
     /// How far it has come.
-    pub written: Written,
+    pub written: OverwriteResult,
 }
 
 impl<'a, 'b, P: Bound, Q: Bound, R: Bound, const N: usize> LeafChange<N>
@@ -100,9 +100,9 @@ impl<'a, 'b, P: Bound, Q: Bound, R: Bound, const N: usize> LeafChange<N>
         &mut self,
         nodes: &mut Arena<Node<N>>,
         slot: Slot,
-        place: Place,
-        taken: &mut ArrayVec<Entry, N>,
-    ) -> Outcome {
+        place: LeafPlace,
+        taken: &mut ArrayVec<NodeEntry, N>,
+    ) -> LeafOutcome {
         let new = self.new;
         let leaf = nodes.header_ref(slot);
         let common_prefix_len = place.common_prefix_len.unwrap_or(0);
@@ -120,17 +120,17 @@ impl<'a, 'b, P: Bound, Q: Bound, R: Bound, const N: usize> LeafChange<N>
             .last()
             .map_or(0, |entry| entry.version);
         if begin == 0 && (end == 0 || !place.is_first) {
-            self.written = Written::Partly { last };
+            self.written = OverwriteResult::Partly { last };
             nodes.header_mut(slot).remove(0, end);
-            return Outcome::Changed;
+            return LeafOutcome::Changed;
         }
         let ended = if end < leaf.len() {
             leaf.is_below_at(end, new.past, to_head)
         } else {
-            place.behind.is_some_and(|key| new.past.is_below(key))
+            place.following.is_some_and(|key| new.past.is_below(key))
         };
-        self.written = Written::Whole { ended };
-        let run = Run {
+        self.written = OverwriteResult::Entirely { ended };
+        let run = EntryRun {
             begin,
             end,
             begin_head: head,
@@ -138,13 +138,13 @@ impl<'a, 'b, P: Bound, Q: Bound, R: Bound, const N: usize> LeafChange<N>
             ended,
         };
         if let Some(added) = write_run(nodes, slot, new, run, last) {
-            return Outcome::Split(added);
+            return LeafOutcome::Split(added);
         }
         let is_short = nodes.header_ref(slot).len() < least(N);
         if begin == 0 || new.last.is_some() || is_short {
-            return Outcome::Changed;
+            return LeafOutcome::Changed;
         }
-        Outcome::Raised(RaisedLeaf {
+        LeafOutcome::Raised(RaisedLeaf {
             slot,
             version: new.first.version,
             index: begin,

@@ -9,13 +9,14 @@ ghost use Rattle.tree.specs.Finding.{IsLowerBound, IsHeadFor, IsSearched};
 ghost use Rattle.tree.specs.Heads.{AllAreHeads};
 ghost use Rattle.tree.specs.Node.{all_heads_of, entries_of};
 ghost use Rattle.tree.specs.Path.{IsPartitioned};
-ghost use Rattle.tree.specs.Question.{Exceeds, IsApproach, IsAsked, IsLeading, IsLooked, IsNear};
-ghost use Rattle.tree.specs.Question.{IsTold};
+ghost use Rattle.tree.specs.Question.{Exceeds, IsApproach, IsAsked, IsLeading, IsLooked};
+ghost use Rattle.tree.specs.Question.{IsLeafHint};
+ghost use Rattle.tree.specs.Question.{IsAnswer};
 ghost use Rattle.tree.specs.Subtree.{items_in};
 ghost use Rattle.tree.specs.Tree.{least_of};
 ghost use Rattle.tree.specs.declared.question.TheConstants.{SIDE};
 
-use crate::approach::{Approach, Near, descend_from, end_head};
+use crate::approach::{Approach, LeafHint, descend_from, end_head};
 use crate::bound::Bound;
 use crate::greatest_version::{any_above, greatest};
 use crate::node::Node;
@@ -42,44 +43,44 @@ fn look_at<P: Bound, const N: usize>(nodes: &Arena<Node<N>>, approach: &Approach
     ensures looked { IsLooked nodes.now (P.bytes from.now) (P.target from.now) approach.now
         result.from_head }
 {
-    let Approach::Leaf(near) = approach else {
+    let Approach::Leaf(hint) = approach else {
         return Look {
             approach: *approach,
             from_head: None,
         };
     };
-    let leaf = nodes.header_ref(near.leaf);
+    let leaf = nodes.header_ref(hint.leaf);
     Look {
         approach: *approach,
-        from_head: leaf.head_for(from, near.common_prefix_len),
+        from_head: leaf.head_for(from, hint.common_prefix_len),
     }
 }
 
 // Answers a question if the leaf decides it. `from_head` is the result of the first look at the
 // leaf.
-fn leaf_told<P: Bound, Q: Bound, const N: usize>(
+fn leaf_answer<P: Bound, Q: Bound, const N: usize>(
     nodes: &Arena<Node<N>>,
-    near: Near,
+    hint: LeafHint,
     question: &Question<P, Q>,
     from_head: Option<u32>,
 ) -> Option<bool>
-    requires asked { IsAsked nodes.now (least_of N) 0 near.leaf (P.bytes question.now.from)
+    requires asked { IsAsked nodes.now (least_of N) 0 hint.leaf (P.bytes question.now.from)
         (P.below question.now.from)
         (Q.below question.now.to) }
-    requires near { IsNear nodes.now (P.bytes question.now.from) (P.below question.now.from)
-        (P.target question.now.from) near }
-    requires from_head { IfSome (all_heads_of nodes.now near.leaf)
+    requires hint { IsLeafHint nodes.now (P.bytes question.now.from) (P.below question.now.from)
+        (P.target question.now.from) hint }
+    requires from_head { IfSome (all_heads_of nodes.now hint.leaf)
         (IsHeadFor (P.bytes question.now.from) (P.target question.now.from)
-        near.common_prefix_len from_head) }
-    ensures told { IsTold (P.below question.now.from) (Q.below question.now.to) question.now.version
-        near.clear
-        (items_in nodes.now 0 near.leaf) result }
+        hint.common_prefix_len from_head) }
+    ensures answered { IsAnswer (P.below question.now.from) (Q.below question.now.to) question.now.version
+        hint.clear
+        (items_in nodes.now 0 hint.leaf) result }
 {
-    let node = nodes.header_ref(near.leaf);
+    let node = nodes.header_ref(hint.leaf);
     let entries = node.entries();
     let begin = node.lower_bound_by_head(&question.from, from_head);
-    let end = end_in(node, begin, question, near.common_prefix_len, from_head);
-    if end == entries.len() && !near.clear {
+    let end = end_in(node, begin, question, hint.common_prefix_len, from_head);
+    if end == entries.len() && !hint.clear {
         return None;
     }
     Some(any_above(&entries[begin - 1..end], question.version))
@@ -133,7 +134,7 @@ fn answer<P: Bound, Q: Bound, const N: usize>(
         from_head,
     } = look;
     match approach {
-        Approach::Leaf(near) => match leaf_told(nodes, near, question, from_head) {
+        Approach::Leaf(hint) => match leaf_answer(nodes, hint, question, from_head) {
             Some(above) => above,
             None => exceeds(nodes, root, question),
         },
@@ -224,7 +225,7 @@ pub fn answer_each<P: Bound, Q: Bound, const N: usize>(
         looks.now }
     requires looked { AllZip (λ q l. IsLooked nodes.now (P.bytes q.from) (P.target q.from)
         l.approach l.from_head) questions.now looks.now }
-    ensures told { AllZip (λ q above. IsTrue above
+    ensures answered { AllZip (λ q above. IsTrue above
         ↔ Exceeds (P.below q.from) (Q.below q.to) q.version
         (items_in nodes.now root.now.height root.now.slot)) questions.now result.items }
 {

@@ -2,7 +2,7 @@
 
 ghost use Rattle.std.specs.Prelude.{◌≡◌, ◌≤◌, ◌<◌, ◌+◌, ◌++◌, ◌∷◌, ℕ, [], length};
 ghost use Rattle.arena.specs.Arena.{IsLive};
-ghost use Rattle.tree.specs.Item.{Tells};
+ghost use Rattle.tree.specs.Item.{Describes};
 ghost use Rattle.tree.specs.Heads.{AllAreHeads, IsKnown, KeyBytes};
 ghost use Rattle.tree.specs.Rebalancing.{AreTwo, CanMerge, LosesOneAtMost};
 ghost use Rattle.tree.specs.Node.{all_heads_of};
@@ -12,7 +12,7 @@ ghost use Rattle.tree.specs.Tree.{least_of};
 ghost use Rattle.tree.specs.Children.{Changes, IsFamilyAt, IsRebalancedAt};
 
 use crate::bound::Bound;
-use crate::entry::Entry;
+use crate::entry::NodeEntry;
 use crate::node::Node;
 use arena::{Arena, Slot};
 
@@ -25,17 +25,17 @@ pub fn least(fan_out: usize) -> usize
 }
 
 /// Returns the entry for a child.
-pub fn entry_for<const N: usize>(nodes: &Arena<Node<N>>, child: Slot) -> Entry
+pub fn entry_for<const N: usize>(nodes: &Arena<Node<N>>, child: Slot) -> NodeEntry
     requires live { IsLive nodes.now child }
     requires some { 0 < length (entries_at nodes.now child) }
     ensures child { result.child ≡ child }
-    ensures tells { (height least : ℕ) → IsSubtree nodes.now least height child
-        → Tells result (items_in nodes.now height child) }
+    ensures describes { (height least : ℕ) → IsSubtree nodes.now least height child
+        → Describes result (items_in nodes.now height child) }
     ensures known { (bytes : KeyBytes) → AllAreHeads bytes (all_heads_of nodes.now)
         → IsKnown bytes result.key }
 {
     let node = nodes.header_ref(child);
-    Entry {
+    NodeEntry {
         key: node.entries()[0].key,
         child,
         version: node.greatest(),

@@ -1,17 +1,17 @@
 //! A write into the leaf of the previous write. The writes of a batch come in the order of their
-//! keys, so those of one leaf are adjacent: one walk leads to the leaf, and the writes that continue
-//! there need no other.
+//! keys, so those of one leaf are adjacent: one walk leads to the leaf, and the writes that
+//! continue there need no other.
 
 ghost use Rattle.std.specs.Prelude.{◌≡◌, MatchOption, IfSome, map};
 ghost use Rattle.tree.specs.Item.{item_of};
-ghost use Rattle.tree.specs.Run.{CanFindRun, CanWriteInLeaf, IsFoundRun, IsWrittenInLeaf};
+ghost use Rattle.tree.specs.EntryRun.{CanFindRun, CanWriteInLeaf, IsFoundRun, IsWrittenInLeaf};
 
 use crate::bound::Bound;
-use crate::entry::Entry;
+use crate::entry::NodeEntry;
 use crate::node::Node;
 use crate::overwrite::Overwrite;
 use crate::rebalance::least;
-use crate::run::{Run, put_taken, write_run};
+use crate::run::{EntryRun, put_taken, write_run};
 use crate::walk::RaisedLeaf;
 use arena::Arena;
 use arrayvec::ArrayVec;
@@ -24,7 +24,7 @@ pub fn write_in_leaf<P: Bound, Q: Bound, R: Bound, const N: usize>(
     nodes: &mut Arena<Node<N>>,
     leaf: RaisedLeaf,
     new: &Overwrite<'_, P, Q, R>,
-    taken: &mut ArrayVec<Entry, N>,
+    taken: &mut ArrayVec<NodeEntry, N>,
 ) -> Option<bool>
     requires can_write { CanWriteInLeaf (P.below new.now.from.now) (Q.below new.now.to.now)
         (Q.bytes new.now.to.now) nodes.old leaf.slot
@@ -55,7 +55,7 @@ fn find_run<P: Bound, Q: Bound, R: Bound, const N: usize>(
     leaf: &Node<N>,
     index: usize,
     new: &Overwrite<'_, P, Q, R>,
-) -> Option<Run>
+) -> Option<EntryRun>
     requires can_find { CanFindRun (P.below new.now.from.now) (Q.below new.now.to.now)
         (Q.bytes new.now.to.now) leaf.now }
     ensures run { IfSome result (λ run. IsFoundRun (P.bytes new.now.from.now)
@@ -77,7 +77,7 @@ fn find_run<P: Bound, Q: Bound, R: Bound, const N: usize>(
         return None;
     }
     let ended = leaf.is_below_at(end, new.past, end_head);
-    Some(Run {
+    Some(EntryRun {
         begin,
         end,
         begin_head,

@@ -7,22 +7,22 @@ ghost use Rattle.tree.specs.Overwrite.{GivesWritten, IsPartOfPartitioned};
 ghost use Rattle.tree.specs.Rebalancing.{CanGrow, CanShrink};
 ghost use Rattle.tree.specs.Node.{all_heads_of};
 ghost use Rattle.tree.specs.Subtree.{items_in};
-ghost use Rattle.tree.specs.Path.{items_below, behind, first_key};
-ghost use Rattle.tree.specs.Reached.{CanReach, IsReached};
+ghost use Rattle.tree.specs.Path.{items_below, following, first_key};
+ghost use Rattle.tree.specs.ReachedLeaf.{CanReach, IsReached};
 ghost use Rattle.tree.specs.Children.{items_with};
 ghost use Rattle.tree.specs.Tree.{least_of, IsLast};
 ghost use Rattle.tree.specs.Walk.{CanChangeBy, IsChangedWithin, IsNewTree, IsRaisedInTree};
 
 use crate::bound::Bound;
 use crate::children::place;
-use crate::descent::{Reached, common_prefix_len_at, find};
-use crate::entry::{Entry, key_at};
+use crate::descent::{ReachedLeaf, common_prefix_len_at, find};
+use crate::entry::{NodeEntry, key_at};
 use crate::node::Node;
-use crate::overwrite::{Overwrite, Overwriting, Written};
+use crate::overwrite::{Overwrite, OverwriteResult, Overwriting};
+use crate::path_cache::PathCache;
 use crate::rebalance::entry_for;
 use crate::remembered::write_in_leaf;
-use crate::walk::{LeafChange, Outcome, Place, RaisedLeaf, change_leaf};
-use crate::way::Way;
+use crate::walk::{LeafChange, LeafOutcome, LeafPlace, RaisedLeaf, change_leaf};
 use arena::{Arena, Slot};
 use arrayvec::ArrayVec;
 
@@ -35,7 +35,7 @@ pub struct Root {
 }
 
 // Finds the leaf that has the last item below the bound, or else the first leaf.
-fn reach<P: Bound, const N: usize>(nodes: &Arena<Node<N>>, root: Root, bound: &P) -> Reached
+fn reach<P: Bound, const N: usize>(nodes: &Arena<Node<N>>, root: Root, bound: &P) -> ReachedLeaf
     requires can_reach { CanReach (P.bytes bound.now) (P.below bound.now) nodes.now (least_of N)
         root.height root.slot }
     ensures reached { IsReached (P.bytes bound.now) (P.below bound.now) (P.target bound.now)
@@ -57,7 +57,7 @@ pub fn last_and_next<P: Bound, const N: usize>(
     nodes: &Arena<Node<N>>,
     root: Root,
     bound: &P,
-) -> (Option<Entry>, Option<Slot>)
+) -> (Option<NodeEntry>, Option<Slot>)
     requires can_reach { CanReach (P.bytes bound.now) (P.below bound.now) nodes.now (least_of N)
         root.height root.slot }
     ensures last { MatchOption result.0
@@ -65,7 +65,7 @@ pub fn last_and_next<P: Bound, const N: usize>(
         (λ e. IsLast (item_of e) (items_below (P.below bound.now)
         (items_in nodes.now root.height root.slot))) }
     ensures next { result.1 ≡ first_key None
-        (behind (P.below bound.now) (items_in nodes.now root.height root.slot)) }
+        (following (P.below bound.now) (items_in nodes.now root.height root.slot)) }
 {
     let reached = reach(nodes, root, bound);
     let leaf = nodes.header_ref(reached.leaf);
@@ -73,7 +73,7 @@ pub fn last_and_next<P: Bound, const N: usize>(
     let entries = leaf.entries();
     (
         entries[..count].last().copied(),
-        key_at(entries, count, reached.behind),
+        key_at(entries, count, reached.following),
     )
 }
 
@@ -84,8 +84,8 @@ pub fn change<C: LeafChange<N>, const N: usize>(
     nodes: &mut Arena<Node<N>>,
     root: &mut Root,
     change: &mut C,
-    taken: &mut ArrayVec<Entry, N>,
-    way: &mut Way,
+    taken: &mut ArrayVec<NodeEntry, N>,
+    path_cache: &mut PathCache,
 ) -> Option<RaisedLeaf>
     requires can_change { CanChangeBy (C.LeafBound.bytes (C.bound_of change.old))
         (C.LeafBound.below (C.bound_of change.old))
@@ -98,19 +98,27 @@ pub fn change<C: LeafChange<N>, const N: usize>(
     ensures tree { IsNewTree (C.LeafBound.bytes (C.bound_of change.old)) nodes.old nodes.new
         root.new.slot root.new.height result }
 {
-    let place = Place {
+    let place = LeafPlace {
         common_prefix_len: common_prefix_len_at(nodes, root.slot, change.leaf_bound()),
-        behind: None,
+        following: None,
         is_first: true,
     };
-    match change_leaf(nodes, root.slot, root.height, change, place, taken, way) {
-        Outcome::Same => None,
-        Outcome::Raised(leaf) => Some(leaf),
-        Outcome::Changed => {
+    match change_leaf(
+        nodes,
+        root.slot,
+        root.height,
+        change,
+        place,
+        taken,
+        path_cache,
+    ) {
+        LeafOutcome::Same => None,
+        LeafOutcome::Raised(leaf) => Some(leaf),
+        LeafOutcome::Changed => {
             *root = shrink(nodes, *root);
             None
         }
-        Outcome::Split(added) => {
+        LeafOutcome::Split(added) => {
             *root = grow(nodes, *root, added, change.leaf_bound());
             None
         }
@@ -124,9 +132,9 @@ pub fn overwrite<P: Bound, Q: Bound, R: Bound, const N: usize>(
     root: &mut Root,
     raised: &mut Option<RaisedLeaf>,
     new: &Overwrite<'_, P, Q, R>,
-    taken: &mut ArrayVec<Entry, N>,
-    way: &mut Way,
-) -> Written
+    taken: &mut ArrayVec<NodeEntry, N>,
+    path_cache: &mut PathCache,
+) -> OverwriteResult
     requires can_change { CanChangeBy (Q.bytes new.now.to.now) (Q.below new.now.to.now)
         (IsPartOfPartitioned (P.below new.now.from.now))
         nodes.old root.old.slot root.old.height taken.old.items }
@@ -142,14 +150,14 @@ pub fn overwrite<P: Bound, Q: Bound, R: Bound, const N: usize>(
 {
     if let Some(leaf) = *raised {
         if let Some(ended) = write_in_leaf(nodes, leaf, new, taken) {
-            return Written::Whole { ended };
+            return OverwriteResult::Entirely { ended };
         }
     }
     let mut overwriting = Overwriting {
         new,
-        written: Written::Partly { last: 0 },
+        written: OverwriteResult::Partly { last: 0 },
     };
-    *raised = change(nodes, root, &mut overwriting, taken, way);
+    *raised = change(nodes, root, &mut overwriting, taken, path_cache);
     overwriting.written
 }
 

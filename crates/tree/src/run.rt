@@ -5,13 +5,13 @@ ghost use Rattle.std.specs.Prelude.{unwrap_or};
 ghost use Rattle.tree.specs.Item.{item_of};
 ghost use Rattle.tree.specs.Rebalancing.{IsStored};
 ghost use Rattle.tree.specs.Children.{items_with};
-ghost use Rattle.tree.specs.Run.{CanWriteRun};
+ghost use Rattle.tree.specs.EntryRun.{CanWriteRun};
 ghost use Rattle.tree.specs.Subtree.{entries_at};
 ghost use Rattle.tree.specs.Tree.{ended_by};
 
 use crate::bound::Bound;
 use crate::children::split;
-use crate::entry::Entry;
+use crate::entry::NodeEntry;
 use crate::node::Node;
 use crate::overwrite::Overwrite;
 use crate::tree::item;
@@ -20,7 +20,7 @@ use arrayvec::ArrayVec;
 
 /// The position of a run among the entries of a leaf.
 #[derive(Clone, Copy, Debug)]
-pub struct Run {
+pub struct EntryRun {
     /// How many entries are below the first bound.
     pub begin: usize,
     /// How many are below the second one.
@@ -34,7 +34,7 @@ pub struct Run {
 }
 
 /// Puts a run of entries, mostly none or a few, behind those that are taken out.
-pub fn put_taken<const N: usize>(taken: &mut ArrayVec<Entry, N>, run: &[Entry])
+pub fn put_taken<const N: usize>(taken: &mut ArrayVec<NodeEntry, N>, run: &[NodeEntry])
     requires room { length taken.old.items + length run.now ≤ N }
     ensures taken { taken.new.items ≡ taken.old.items ++ run.now }
 {
@@ -51,7 +51,7 @@ pub fn write_run<P: Bound, Q: Bound, R: Bound, const N: usize>(
     nodes: &mut Arena<Node<N>>,
     slot: Slot,
     new: &Overwrite<'_, P, Q, R>,
-    run: Run,
+    run: EntryRun,
     last: i64,
 ) -> Option<Slot>
     requires can_write { CanWriteRun (P.bytes new.now.from.now) (Q.bytes new.now.to.now)

@@ -7,24 +7,24 @@ ghost use Rattle.tree.specs.Item.{item_of, IsGreatest};
 ghost use Rattle.tree.specs.Heads.{AllAreHeads, KeyBytes};
 ghost use Rattle.tree.specs.Overwrite.{CanOverwrite, Overwrites};
 ghost use Rattle.tree.specs.Expire.{CanRemoveExpired, RemovesExpired};
-ghost use Rattle.tree.specs.Path.{IsPartitioned, items_below, behind, first_key, from_last};
+ghost use Rattle.tree.specs.Path.{IsPartitioned, items_below, following, first_key, from_last};
 ghost use Rattle.tree.specs.Question.{Exceeds};
 ghost use Rattle.tree.specs.declared.question.TheConstants.{SIDE};
 ghost use Rattle.tree.specs.Tree.{CanSearchItems, IsLast, tree_heads, KnowItems, unexpired};
 
 use crate::bound::Bound;
-use crate::entry::Entry;
+use crate::entry::NodeEntry;
 use crate::expiring::{Expiring, Removal};
 use crate::greatest_version::greatest;
 use crate::node::Node;
-use crate::overwrite::{Overwrite, Written};
+use crate::overwrite::{Overwrite, OverwriteResult};
+use crate::path_cache::PathCache;
 use crate::question::{Question, SIDE};
 use crate::questions::{answer_each, descend_each, look_at_each};
 use crate::rebalance::least;
 use crate::root::{Root, change, last_and_next, overwrite};
 use crate::unexpired::{Unexpired, count_unexpired};
 use crate::walk::RaisedLeaf;
-use crate::way::Way;
 use arena::{Arena, ArenaError, Slot};
 use arrayvec::ArrayVec;
 use std::alloc::Global;
@@ -33,7 +33,7 @@ use std::marker::Model;
 
 // How many nodes a change may use beyond those that the items need. No leaf has more than 62 nodes
 // above it.
-const WAY: usize = 66;
+const LONGEST_PATH: usize = 66;
 
 // How many bytes of memory an entry takes, with the head of its key.
 const ENTRY_BYTES: usize = 20;
@@ -50,7 +50,7 @@ pub struct Tree<const N: usize> {
     len: usize,
     // for how many items nodes are reserved
     room: usize,
-    way: Way,
+    path_cache: PathCache,
     // the leaf of the last write, if the next one may continue there
     raised: Option<RaisedLeaf>,
 }
@@ -74,10 +74,10 @@ impl<const N: usize> Model for Tree<N> {
 }
 
 /// Returns the entry of an item.
-pub fn item(key: Slot, version: i64) -> Entry
+pub fn item(key: Slot, version: i64) -> NodeEntry
     ensures item { item_of result ≡ record { key = key; version = version } }
 {
-    Entry {
+    NodeEntry {
         key,
         child: key,
         version,
@@ -97,14 +97,14 @@ impl<const N: usize> Tree<N> {
         ensures memory { IsOkUnless result ArenaError.Memory }
     {
         let mut nodes = Arena::new(alloc);
-        nodes.reserve_slots(0, WAY + 1)?;
+        nodes.reserve_slots(0, LONGEST_PATH + 1)?;
         let slot = nodes.place(Node::of(item(key, version)), &[])?;
         Ok(Tree {
             nodes,
             root: Root { slot, height: 0 },
             len: 1,
             room: 1,
-            way: Way::new(),
+            path_cache: PathCache::new(),
             raised: None,
         })
     }
@@ -122,7 +122,7 @@ impl<const N: usize> Tree<N> {
         if room <= self.room {
             return Ok(());
         }
-        let Some(wanted) = (room / (least(N) - 1)).checked_add(WAY + 1) else {
+        let Some(wanted) = (room / (least(N) - 1)).checked_add(LONGEST_PATH + 1) else {
             return Err(ArenaError::Memory);
         };
         let missing = wanted.saturating_sub(self.nodes.live());
@@ -147,11 +147,11 @@ impl<const N: usize> Tree<N> {
     }
 
     /// Returns the last item below the bound, and the key of the first one that isn't.
-    pub fn last_and_next<P: Bound>(&self, bound: &P) -> (Option<Entry>, Option<Slot>)
+    pub fn last_and_next<P: Bound>(&self, bound: &P) -> (Option<NodeEntry>, Option<Slot>)
         requires can_search { CanSearchItems (P.below bound.now) (P.bytes bound.now) self.now }
         ensures last { MatchOption result.0 (items_below (P.below bound.now) self.now.items ≡ [])
             (λ e. IsLast (item_of e) (items_below (P.below bound.now) self.now.items)) }
-        ensures next { result.1 ≡ first_key None (behind (P.below bound.now) self.now.items) }
+        ensures next { result.1 ≡ first_key None (following (P.below bound.now) self.now.items) }
     {
         last_and_next(&self.nodes, self.root, bound)
     }
@@ -169,7 +169,7 @@ impl<const N: usize> Tree<N> {
         requires to { All (λ q. IsPartitioned (λ x. Q.below q.to x.key) self.now.items)
             questions.now }
         requires some { All (λ q. items_below (P.below q.from) self.now.items ≢ []) questions.now }
-        ensures told { AllZip (λ q above. IsTrue above
+        ensures answered { AllZip (λ q above. IsTrue above
             ↔ Exceeds (P.below q.from) (Q.below q.to) q.version self.now.items)
             questions.now result.items }
     {
@@ -216,8 +216,8 @@ impl<const N: usize> Tree<N> {
     pub fn overwrite<P: Bound, Q: Bound, R: Bound>(
         &mut self,
         new: &Overwrite<'_, P, Q, R>,
-        taken: &mut ArrayVec<Entry, N>,
-    ) -> Written
+        taken: &mut ArrayVec<NodeEntry, N>,
+    ) -> OverwriteResult
         requires can_overwrite { CanOverwrite (P.below new.now.from.now) (Q.below new.now.to.now)
             (R.below new.now.past.now)
             (Q.bytes new.now.to.now) self.old taken.old.items }
@@ -235,7 +235,7 @@ impl<const N: usize> Tree<N> {
             &mut self.raised,
             new,
             taken,
-            &mut self.way,
+            &mut self.path_cache,
         );
         self.len = self.len + written.put() - taken.len();
         written
@@ -250,7 +250,7 @@ impl<const N: usize> Tree<N> {
         count: usize,
         edge: i64,
         before: i64,
-        taken: &mut ArrayVec<Entry, N>,
+        taken: &mut ArrayVec<NodeEntry, N>,
     ) -> Removal
         requires can_remove { CanRemoveExpired (P.below bound.now) (P.bytes bound.now) count edge
             before self.old
@@ -278,7 +278,7 @@ impl<const N: usize> Tree<N> {
             &mut self.root,
             &mut expiring,
             taken,
-            &mut self.way,
+            &mut self.path_cache,
         );
         self.len -= taken.len();
         expiring.removal

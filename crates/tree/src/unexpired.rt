@@ -7,7 +7,7 @@ ghost use Rattle.tree.specs.Item.{item_of};
 ghost use Rattle.tree.specs.Subtree.{entries_at, IsSubtree};
 ghost use Rattle.tree.specs.Tree.{least_of};
 
-use crate::entry::Entry;
+use crate::entry::NodeEntry;
 use crate::node::Node;
 use arena::{Arena, Slot};
 use std::alloc::Allocator;
@@ -72,7 +72,7 @@ pub fn count_unexpired<A: Allocator + Copy, const N: usize>(
 }
 
 // Counts the items of a leaf, too.
-fn count_entries(entries: &[Entry], edge: i64, before: Unexpired) -> Unexpired
+fn count_entries(entries: &[NodeEntry], edge: i64, before: Unexpired) -> Unexpired
     requires few { before.count + length entries.now < 2 ^ 64 }
     ensures counted { IsCounted edge before (map item_of entries.now) result }
 {

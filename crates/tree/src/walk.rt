@@ -9,20 +9,20 @@ ghost use Rattle.tree.specs.Walk.{added_by, CanChangeLeaf, IsChanged, IsChangedW
 
 use crate::bound::Bound;
 use crate::children::{insert_child, raise_entry, rebalance_child};
-use crate::entry::{Entry, key_at};
+use crate::entry::{NodeEntry, key_at};
 use crate::node::Node;
-use crate::way::Way;
+use crate::path_cache::PathCache;
 use arena::{Arena, Slot};
 use arrayvec::ArrayVec;
 
 /// What a walk knows of the subtree that it has come to.
 #[derive(Clone, Copy, Debug)]
-pub struct Place {
+pub struct LeafPlace {
     /// How many bytes its first key and the target begin with in common, or none if that key isn't
     /// below the bound.
     pub common_prefix_len: Option<usize>,
     /// The key of the first item after it.
-    pub behind: Option<Slot>,
+    pub following: Option<Slot>,
     /// Whether no item stands before it.
     pub is_first: bool,
 }
@@ -39,7 +39,7 @@ pub struct RaisedLeaf {
 
 /// What a change made of a subtree.
 #[derive(Clone, Copy, Debug)]
-pub enum Outcome {
+pub enum LeafOutcome {
     /// It is as it was.
     Same,
     /// Its first key is as it was, and an item came into this leaf of it; no other item has a
@@ -51,14 +51,14 @@ pub enum Outcome {
     Split(Slot),
 }
 
-impl Outcome {
+impl LeafOutcome {
     /// Returns the slot of the right neighbour that the subtree was split from, if it was.
     pub fn added(self) -> Option<Slot>
         ensures added { result ≡ added_by self }
     {
         match self {
-            Outcome::Split(slot) => Some(slot),
-            Outcome::Same | Outcome::Raised(_) | Outcome::Changed => None,
+            LeafOutcome::Split(slot) => Some(slot),
+            LeafOutcome::Same | LeafOutcome::Raised(_) | LeafOutcome::Changed => None,
         }
     }
 }
@@ -92,9 +92,9 @@ pub trait LeafChange<const N: usize> {
         &mut self,
         nodes: &mut Arena<Node<N>>,
         slot: Slot,
-        place: Place,
-        taken: &mut ArrayVec<Entry, N>,
-    ) -> Outcome
+        place: LeafPlace,
+        taken: &mut ArrayVec<NodeEntry, N>,
+    ) -> LeafOutcome
         requires can_change { CanChangeLeaf (Self.LeafBound.bytes (bound_of self.old))
             (Self.LeafBound.below (bound_of self.old))
             (Self.LeafBound.target (bound_of self.old)) (wants self.old) nodes.old 0 slot
@@ -102,13 +102,13 @@ pub trait LeafChange<const N: usize> {
         ensures changed { IsChanged (Self.LeafBound.bytes (bound_of self.old)) nodes.old nodes.new 0
             slot result }
         ensures items { gives self.old self.new (map item_of taken.new.items) place.is_first
-            place.behind (items_in nodes.old 0 slot)
+            place.following (items_in nodes.old 0 slot)
             (items_with nodes.new 0 slot (added_by result)) }
         ensures leaf_bound { bound_of self.new ≡ bound_of self.old };
 
     // What is wanted of items is wanted of a part of them.
-    ghost part: { (change : Self) (before items behind : List Item)
-        → wants change (before ++ (items ++ behind))
+    ghost part: { (change : Self) (before items following : List Item)
+        → wants change (before ++ (items ++ following))
         → wants change items };
 }
 
@@ -120,10 +120,10 @@ pub fn change_leaf<C: LeafChange<N>, const N: usize>(
     slot: Slot,
     height: usize,
     change: &mut C,
-    place: Place,
-    taken: &mut ArrayVec<Entry, N>,
-    way: &mut Way,
-) -> Outcome
+    place: LeafPlace,
+    taken: &mut ArrayVec<NodeEntry, N>,
+    path_cache: &mut PathCache,
+) -> LeafOutcome
     requires can_change { CanChangeLeaf (C.LeafBound.bytes (C.bound_of change.old))
         (C.LeafBound.below (C.bound_of change.old))
         (C.LeafBound.target (C.bound_of change.old)) (C.wants change.old) nodes.old height slot
@@ -132,7 +132,7 @@ pub fn change_leaf<C: LeafChange<N>, const N: usize>(
         height slot result }
     ensures items { IsChangedWithin (C.LeafBound.below (C.bound_of change.old))
         (C.gives change.old change.new (map item_of taken.new.items))
-        place.is_first place.behind (items_in nodes.old height slot)
+        place.is_first place.following (items_in nodes.old height slot)
         (items_with nodes.new height slot (added_by result)) }
     ensures leaf_bound { C.bound_of change.new ≡ C.bound_of change.old }
 {
@@ -140,28 +140,34 @@ pub fn change_leaf<C: LeafChange<N>, const N: usize>(
         return change.change(nodes, slot, place, taken);
     }
     let node = nodes.header_ref(slot);
-    let step = way.step(node, height, change.leaf_bound(), place.common_prefix_len);
+    let step = path_cache.step(node, height, change.leaf_bound(), place.common_prefix_len);
     let entries = node.entries();
     let child = entries[step.index].child;
     if height == 1 && change.goes_along() {
-        way.read_ahead(nodes, entries.get(step.index + 1));
+        path_cache.read_ahead(nodes, entries.get(step.index + 1));
     }
-    let below = Place {
+    let below = LeafPlace {
         common_prefix_len: step.common_prefix_len,
-        behind: key_at(entries, step.index + 1, place.behind),
+        following: key_at(entries, step.index + 1, place.following),
         is_first: place.is_first && step.index == 0,
     };
-    match change_leaf(nodes, child, height - 1, change, below, taken, way) {
-        Outcome::Same => Outcome::Same,
-        Outcome::Raised(leaf) => raise_entry(nodes, slot, step.index, leaf, change.leaf_bound()),
-        Outcome::Changed => {
+    match change_leaf(nodes, child, height - 1, change, below, taken, path_cache) {
+        LeafOutcome::Same => LeafOutcome::Same,
+        LeafOutcome::Raised(leaf) => raise_entry(
+            nodes,
+            slot,
+            step.index,
+            leaf,
+            change.leaf_bound(),
+        ),
+        LeafOutcome::Changed => {
             rebalance_child(nodes, slot, step.index, change.leaf_bound());
-            Outcome::Changed
+            LeafOutcome::Changed
         }
-        Outcome::Split(added) => {
+        LeafOutcome::Split(added) => {
             match insert_child(nodes, slot, step.index, added, change.leaf_bound()) {
-                Some(added) => Outcome::Split(added),
-                None => Outcome::Changed,
+                Some(added) => LeafOutcome::Split(added),
+                None => LeafOutcome::Changed,
             }
         }
     }

@@ -261,10 +261,10 @@ body_again body rest short =
     length-append (big_bytes 4 n) (body ++ rest) ∙ ap (λ (l : ℕ). 4 + l) (length-append body rest) in
     let there : ltb (length (big_bytes 4 n ++ (body ++ rest))) 4 ≡ false = le-ltb _ _ (omega arith) in
     let low : ltb 4194304 n ≡ false = le-ltb _ _ short in
-    let whole : ltb (length (big_bytes 4 n ++ (body ++ rest))) (4 + n) ≡ false = le-ltb _ _ (omega arith) in
+    let entire : ltb (length (big_bytes 4 n ++ (body ++ rest))) (4 + n) ≡ false = le-ltb _ _ (omega arith) in
     let after : drop 4 (big_bytes 4 n ++ (body ++ rest)) ≡ body ++ rest =
     drop_at (big_bytes 4 n) (body ++ rest) 4 refl in
-    ap body_at regrouped ∙ rw (there, number, low, whole, after, take_at body rest n refl) refl
+    ap body_at regrouped ∙ rw (there, number, low, entire, after, take_at body rest n refl) refl
 
 -- a body that is the text of a value is read as that value
 pub all_again : {A : Type 0} (one : List ℕ → Reading A) (text : A → List ℕ) (Holds : A → Type 0)

@@ -10,16 +10,16 @@ use Rattle.keyspace.proofs.callers.Rows.{rows_rise}
 use Rattle.wire.specs.Lying.{txn_read, txns_read, IsBetween, AreApart}
 
 -- what one more element does to those behind the first n
-pub pushed_behind : {X Y : Type 0} (f : X → Y) (n : ℕ) (xs new : List X) (x : X) → n ≤ length xs
+pub pushed_after : {X Y : Type 0} (f : X → Y) (n : ℕ) (xs new : List X) (x : X) → n ≤ length xs
     → new ≡ xs ++ x ∷ [] → map f (drop n new) ≡ map f (drop n xs) ++ f x ∷ []
-pushed_behind f n xs new x le is = rw (is, drop-append-le n xs (x ∷ []) le) (map_push f (drop n xs) x)
+pushed_after f n xs new x le is = rw (is, drop-append-le n xs (x ∷ []) le) (map_push f (drop n xs) x)
 
 -- .. and to the first n
 pub front_stays : {X : Type 0} (n : ℕ) (xs ys new : List X) → n ≤ length xs → new ≡ xs ++ ys → take n new ≡ take n xs
 front_stays n xs ys new le is = rw is (take-append-le n xs ys le)
 
-behind_front : {X : Type 0} (xs new : List X) → take (length xs) new ≡ xs → new ≡ xs ++ drop (length xs) new
-behind_front xs new front =
+after_front : {X : Type 0} (xs new : List X) → take (length xs) new ≡ xs → new ≡ xs ++ drop (length xs) new
+after_front xs new front =
     sym (take-append-drop (length xs) new) ∙ ap (λ t. t ++ drop (length xs) new) front
 
 part_of_appended : {X : Type 0} (xs ys : List X) (from to : ℕ) → from ≤ to → to ≤ length xs
@@ -33,7 +33,7 @@ part_of_appended xs ys from to ordered within =
 pub part_stays : {X : Type 0} (xs new : List X) (from to : ℕ) → from ≤ to → to ≤ length xs
     → take (length xs) new ≡ xs → slice_range new from to ≡ slice_range xs from to
 part_stays {X} xs new from to ordered within front =
-    ap (λ (l : List X). slice_range l from to) (behind_front xs new front)
+    ap (λ (l : List X). slice_range l from to) (after_front xs new front)
     ∙ part_of_appended xs (drop (length xs) new) from to ordered within
 
 -- a part up to the end

@@ -10,7 +10,7 @@ use Rattle.wire.specs.declared.version.WireVersion.{WireVersion}
 use Rattle.wire.specs.declared.version.WireVersion.TheVariants.{One, Two}
 use Rattle.wire.specs.Fields.{BatchFields, batch_fields}
 use Rattle.wire.specs.Spelling.{frame, IsShort, batch_kind, batch_body, BatchHolds, SpellsBatch}
-use Rattle.wire.specs.Reading.{number_at, body_at, batch_at, all_of, read_batch, version_told}
+use Rattle.wire.specs.Reading.{number_at, body_at, batch_at, all_of, read_batch, version_at_front}
 use Rattle.wire.proofs.Loop.{Reading}
 use Rattle.wire.proofs.Steps.{bind_ok, passed_over, passed, ok_is}
 use Rattle.wire.proofs.Taken.{AreBytes, AreBytes-take, AreBytes-drop, Takes, Takes-then, back_4, number_takes}
@@ -42,12 +42,12 @@ body_is_at bytes body fits e =
     let second : Takes after made (drop n after) =
     record { parts = sym (take-append-drop n after); rest_fits = AreBytes-drop n after t.0.rest_fits } in
     let len : length made ≡ n = omega (arith, length-take n after, length-drop 4 bytes) in
-    let whole : Takes bytes (frame made) (drop n after) =
+    let entire : Takes bytes (frame made) (drop n after) =
     subst (λ (l : ℕ). Takes bytes (big_bytes 4 l ++ made) (drop n after)) (sym len)
     (Takes-then t.0 second) in
     let frame_len : length (frame made) ≡ 4 + length made = length-append (big_bytes 4 (length made)) made in
     let front : take (4 + length made) bytes ≡ frame made =
-    ap (take (4 + length made)) whole.parts
+    ap (take (4 + length made)) entire.parts
     ∙ take_at (frame made) (drop n after) (4 + length made) frame_len in
     subst (λ (b : List ℕ). IsBodyAt bytes b) (ok_is made body k.1)
     (record {
@@ -67,9 +67,9 @@ all_taken {A} one text Holds each body a fits e =
     let g = passed (eqb (length b.0.1) 0) Trailing (Ok b.0.0) a b.2 in
     let nothing : b.0.1 ≡ [] = nil_from_length b.0.1 (eqb-true _ _ g.0) in
     let t = each body b.0 fits b.1 in
-    let whole : body ≡ text b.0.0 = t.0.parts ∙ ap (λ (r : List ℕ). text b.0.0 ++ r) nothing
+    let entire : body ≡ text b.0.0 = t.0.parts ∙ ap (λ (r : List ℕ). text b.0.0 ++ r) nothing
     ∙ append-nil (text b.0.0) in
-    subst (λ (v : A). (body ≡ text v) × Holds v) (ok_is b.0.0 a g.1) (whole, t.1)
+    subst (λ (v : A). (body ≡ text v) × Holds v) (ok_is b.0.0 a g.1) (entire, t.1)
 
 -- the wire version that was read is the one that the kind tells
 kind_stands : (version : WireVersion) (batch : BatchFields) (rest : List ℕ)
@@ -77,17 +77,17 @@ kind_stands : (version : WireVersion) (batch : BatchFields) (rest : List ℕ)
 unfolding batch_body
 kind_stands version batch rest = refl
 
-told_kind : (version : WireVersion) (n : ℕ) → n ≡ batch_kind version → (if n == 3 then Two else One) ≡ version
-told_kind One n e = rw e refl
-told_kind Two n e = rw e refl
+reported_kind : (version : WireVersion) (n : ℕ) → n ≡ batch_kind version → (if n == 3 then Two else One) ≡ version
+reported_kind One n e = rw e refl
+reported_kind Two n e = rw e refl
 
-pub told_again : (version : WireVersion) (bytes rest : List ℕ) (batch : Batch)
+pub reported_again : (version : WireVersion) (bytes rest : List ℕ) (batch : Batch)
     → SpellsBatch version bytes batch
-    → version_told (bytes ++ rest) ≡ version
-told_again version bytes rest batch s =
+    → version_at_front (bytes ++ rest) ≡ version
+reported_again version bytes rest batch s =
     let stands : slice_index (bytes ++ rest) 4 ≡ batch_kind version =
     ap (λ (x : List ℕ). slice_index (x ++ rest) 4) s.text ∙ kind_stands version (batch_fields batch) rest in
-    told_kind version (slice_index (bytes ++ rest) 4) stands
+    reported_kind version (slice_index (bytes ++ rest) 4) stands
 
 -- what is read keeps its limits
 pub read_holds : (bytes : List ℕ) (x : WireVersion × BatchFields) → AreBytes bytes → read_batch bytes ≡ Ok x
@@ -100,7 +100,7 @@ read_holds bytes x fits e =
 
 pub batch_is_spelled : (bytes : List ℕ) (version : WireVersion) (batch : Batch) (n : ℕ) → AreBytes bytes
     → read_batch bytes ≡ Ok (version, batch_fields batch) → n ≡ 4 + big_number 4 bytes
-    → SpellsBatch (version_told bytes) (take n bytes) batch × (n ≤ length bytes)
+    → SpellsBatch (version_at_front bytes) (take n bytes) batch × (n ≤ length bytes)
 unfolding read_batch
 batch_is_spelled bytes version batch n fits e n-is =
     let fields = batch_fields batch in
@@ -116,7 +116,7 @@ batch_is_spelled bytes version batch n fits e n-is =
       holds = taken.1;
       short = subst IsShort taken.0 at.short;
     } in
-    let told : version_told bytes ≡ version =
-    ap version_told (sym (take-append-drop n bytes))
-    ∙ told_again version (take n bytes) (drop n bytes) batch spelled in
-    (subst (λ (v : WireVersion). SpellsBatch v (take n bytes) batch) (sym told) spelled, rw same at.within)
+    let reported : version_at_front bytes ≡ version =
+    ap version_at_front (sym (take-append-drop n bytes))
+    ∙ reported_again version (take n bytes) (drop n bytes) batch spelled in
+    (subst (λ (v : WireVersion). SpellsBatch v (take n bytes) batch) (sym reported) spelled, rw same at.within)

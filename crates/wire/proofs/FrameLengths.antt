@@ -18,10 +18,10 @@ long_length : (bytes : List ℕ) → 4 ≤ length bytes → 4194304 < big_number
 unfolding frame_length
 long_length bytes le lt = let a = le-ltb _ _ le in let b = lt-ltb _ _ lt in rw (a, b) refl
 
-whole_length : (bytes : List ℕ) → 4 ≤ length bytes → big_number 4 bytes ≤ 4194304
+entire_length : (bytes : List ℕ) → 4 ≤ length bytes → big_number 4 bytes ≤ 4194304
     → frame_length bytes ≡ 4 + big_number 4 bytes
 unfolding frame_length
-whole_length bytes le low = let a = le-ltb _ _ le in let b = le-ltb _ _ low in rw (a, b) refl
+entire_length bytes le low = let a = le-ltb _ _ le in let b = le-ltb _ _ low in rw (a, b) refl
 
 pub at_least_four : (bytes : List ℕ) → 4 ≤ frame_length bytes
 at_least_four bytes =
@@ -32,18 +32,18 @@ at_least_four bytes =
           arith,
           long_length bytes le lt,
         )
-        | inr low ↦ omega (arith, whole_length bytes le low)
+        | inr low ↦ omega (arith, entire_length bytes le low)
       ]
     ]
 
-pub at_most_whole : (bytes : List ℕ) → 4 ≤ length bytes → frame_length bytes ≤ 4 + big_number 4 bytes
-at_most_whole bytes le =
+pub at_most_entire : (bytes : List ℕ) → 4 ≤ length bytes → frame_length bytes ≤ 4 + big_number 4 bytes
+at_most_entire bytes le =
     elim (cases_lt 4194304 (big_number 4 bytes)) [
       | inl lt ↦ omega (
         arith,
         long_length bytes le lt,
       )
-      | inr low ↦ omega (arith, whole_length bytes le low)
+      | inr low ↦ omega (arith, entire_length bytes le low)
     ]
 
 -- more bytes don't change the length that the front tells
@@ -58,8 +58,8 @@ same_length front bytes e more =
             let number : big_number 4 bytes ≡ big_number 4 front =
             sym (big_from-take 0 4 (length front) bytes (omega arith)) ∙ ap (big_number 4) e in
             let there : 4 ≤ length bytes = omega (arith, length-take (length front) bytes, ap length e) in
-            whole_length bytes there (omega arith) ∙ ap (λ (n : ℕ). 4 + n) number
-            ∙ sym (whole_length front le low)
+            entire_length bytes there (omega arith) ∙ ap (λ (n : ℕ). 4 + n) number
+            ∙ sym (entire_length front le low)
       ]
     ]
 
@@ -77,9 +77,9 @@ same_body front rest settled =
       | inl lt ↦ let d : ltb 4194304 (big_number 4 front) ≡ true = lt-ltb _ _ lt in rw (a, b, number, d) refl
       | inr low ↦
           let d : ltb 4194304 (big_number 4 front) ≡ false = le-ltb _ _ low in
-          let whole : 4 + big_number 4 front ≤ length front = omega (arith, whole_length front le low) in
+          let entire : 4 + big_number 4 front ≤ length front = omega (arith, entire_length front le low) in
           let e : ltb (length (front ++ rest)) (4 + big_number 4 front) ≡ false = le-ltb _ _ (omega arith) in
-          let f : ltb (length front) (4 + big_number 4 front) ≡ false = le-ltb _ _ whole in
+          let f : ltb (length front) (4 + big_number 4 front) ≡ false = le-ltb _ _ entire in
           let after : drop 4 (front ++ rest) ≡ drop 4 front ++ rest = drop-append-le 4 front rest le in
           let body : take (big_number 4 front) (drop 4 front ++ rest) ≡ take (big_number 4 front)
           (drop 4 front) = take-append-le (big_number 4 front) (drop 4 front) rest
@@ -104,17 +104,17 @@ settled_frame body short =
     let small : n < 256 ^ 4 = omega arith in
     let number : big_number 4 (frame body) ≡ n = big_number-reads_back 4 n body small in
     let len : length (frame body) ≡ 4 + n = length-append (big_bytes 4 n) body in
-    whole_length (frame body) (omega (arith, len)) (omega (arith, number)) ∙ ap (λ (l : ℕ). 4 + l) number ∙ sym len
+    entire_length (frame body) (omega (arith, len)) (omega (arith, number)) ∙ ap (λ (l : ℕ). 4 + l) number ∙ sym len
 
 -- bytes that begin with a frame, and are no longer than their front says, are that frame
-pub whole_is_frame : (body bytes : List ℕ) (used : ℕ) → IsShort body → take used bytes ≡ frame body
+pub entire_is_frame : (body bytes : List ℕ) (used : ℕ) → IsShort body → take used bytes ≡ frame body
     → used ≤ length bytes → length bytes ≤ frame_length bytes → take used bytes ≡ bytes
-whole_is_frame body bytes used short text there within =
+entire_is_frame body bytes used short text there within =
     let n = length body in
     let small : n < 256 ^ 4 = omega arith in
     let len : length (take used bytes) ≡ 4 + n = ap length text ∙ length-append (big_bytes 4 n) body in
     let is : used ≡ 4 + n = omega (arith, len, length-take used bytes) in
     let number : big_number 4 bytes ≡ n =
     sym (big_from-take 0 4 used bytes (omega arith)) ∙ ap (big_number 4) text ∙ big_number-reads_back 4 n body small in
-    let most = at_most_whole bytes (omega arith) in
+    let most = at_most_entire bytes (omega arith) in
     take_all used bytes (omega (arith, most, number))

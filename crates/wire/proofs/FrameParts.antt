@@ -7,7 +7,7 @@ use Rattle.wire.specs.declared.error.WireError.{WireError}
 use Rattle.wire.specs.declared.error.WireError.TheVariants.{Long, Memory, Read}
 use Rattle.wire.specs.Fields.{batch_fields}
 use Rattle.wire.specs.Spelling.{batch_body, frame}
-use Rattle.wire.specs.Reading.{version_told}
+use Rattle.wire.specs.Reading.{version_at_front}
 use Rattle.wire.specs.Filling.{MovesInto, TakesFewer}
 use Rattle.wire.specs.FrameLength.{frame_length}
 use Rattle.wire.specs.NextFrame.{IsPartOfFrame, TakesPart, TakesFrame}
@@ -34,10 +34,10 @@ longer_front old new front all moved more =
     same_length front all fronts more
 
 -- the front was, and the frame wasn't
-pub cut_behind_front : (e : WireError) (old now new : Option (List ℕ)) (front : List ℕ) → Consumes old now front
+pub cut_after_front : (e : WireError) (old now new : Option (List ℕ)) (front : List ℕ) → Consumes old now front
     → 4 < frame_length front → TakesFewer (frame_length front - length front) now new → TakesPart old new e
-cut_behind_front e old now None front taken more fewer = tt
-cut_behind_front e old now (Some ys) front taken more fewer =
+cut_after_front e old now None front taken more fewer = tt
+cut_after_front e old now (Some ys) front taken more fewer =
     let part = front ++ fewer.0 in
     let fronts : take (length front) part ≡ front =
     take-append-le (length front) front fewer.0 (omega arith) ∙ take_all (length front) front (omega arith) in
@@ -53,11 +53,11 @@ held_part e old (Some ys) held taken within not_read =
     (held, record { within = within; cut_short = λ is. absurd (not_read is) }, taken)
 
 -- a batch was read
-pub whole_part : (e : WireError) (old new : Option (List ℕ)) (batch : Batch) → TakesFrame old new batch
+pub entire_part : (e : WireError) (old new : Option (List ℕ)) (batch : Batch) → TakesFrame old new batch
     → e ≢ Read → TakesPart old new e
-whole_part e old new batch takes not_read =
+entire_part e old new batch takes not_read =
     let bytes = takes.0 in
-    let body = batch_body (version_told bytes) (batch_fields batch) in
+    let body = batch_body (version_at_front bytes) (batch_fields batch) in
     let settled : frame_length bytes ≡ length bytes =
     subst (λ (b : List ℕ). frame_length b ≡ length b) (sym takes.1.text) (settled_frame body takes.1.short) in
     held_part e old new bytes takes.2 (omega (arith, settled)) not_read

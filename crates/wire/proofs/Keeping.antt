@@ -5,11 +5,11 @@ use Rattle.std.proofs.lemmas.List.Elements.{All-nil, All-cons}
 use Rattle.keyspace.specs.declared.span.Span.{Span}
 use Rattle.keyspace.specs.declared.row.Row.{Row}
 use Rattle.keyspace.specs.Fields.{TxnLimits}
-use Rattle.keyspace.specs.Tables.{range_told, txn_told, txns_from, LiesWithin, AreRows, AreTables}
-use Rattle.wire.specs.declared.tables.Tables.{Tables}
+use Rattle.keyspace.specs.Tables.{range_of_span, txn_of_row, txns_from, LiesWithin, AreRows, AreTables}
+use Rattle.wire.specs.declared.tables.FrameTables.{FrameTables}
 use Rattle.wire.specs.Fields.{RangeFields, TxnFields}
 use Rattle.wire.specs.Spelling.{RangeHolds, TxnHolds, BatchHolds}
-use Rattle.wire.specs.Lying.{range_read, txn_read, txns_read, batch_told, IsBetween, AreApart}
+use Rattle.wire.specs.Lying.{range_read, txn_read, txns_read, batch_of_tables, IsBetween, AreApart}
 use Rattle.wire.proofs.Sealing.{apart_rises}
 use Rattle.wire.proofs.Appending.{map_part}
 
@@ -32,27 +32,27 @@ spans_within from (span ∷ spans) to bound h le =
     (spans_within h.0 spans to bound h.2 le)
 
 part_sealed : (frame buffer : List ℕ) (spans : List Span) (from to : ℕ)
-    → map (range_told buffer) spans ≡ map (range_read frame) spans
-    → map (range_told buffer) (slice_range spans from to) ≡ map (range_read frame) (slice_range spans from to)
-part_sealed frame buffer spans from to told =
-    map_part (range_told buffer) spans from to ∙ ap (λ (l : List RangeFields). slice_range l from to) told
+    → map (range_of_span buffer) spans ≡ map (range_read frame) spans
+    → map (range_of_span buffer) (slice_range spans from to) ≡ map (range_read frame) (slice_range spans from to)
+part_sealed frame buffer spans from to reported =
+    map_part (range_of_span buffer) spans from to ∙ ap (λ (l : List RangeFields). slice_range l from to) reported
     ∙ sym (map_part (range_read frame) spans from to)
 
 txn_sealed : (frame buffer : List ℕ) (spans : List Span) (from : ℕ) (row : Row)
-    → map (range_told buffer) spans ≡ map (range_read frame) spans
-    → txn_told buffer spans from row ≡ txn_read frame spans from row
-txn_sealed frame buffer spans from row told =
-    let reads = part_sealed frame buffer spans from (row.end - row.writes) told in
-    let writes = part_sealed frame buffer spans (row.end - row.writes) row.end told in
+    → map (range_of_span buffer) spans ≡ map (range_read frame) spans
+    → txn_of_row buffer spans from row ≡ txn_read frame spans from row
+txn_sealed frame buffer spans from row reported =
+    let reads = part_sealed frame buffer spans from (row.end - row.writes) reported in
+    let writes = part_sealed frame buffer spans (row.end - row.writes) row.end reported in
     λ i. record { snapshot = row.snapshot; marked = row.marked; reads = reads i; writes = writes i }
 
 pub txns_sealed : (frame buffer : List ℕ) (spans : List Span) (from : ℕ) (rows : List Row)
-    → map (range_told buffer) spans ≡ map (range_read frame) spans
+    → map (range_of_span buffer) spans ≡ map (range_read frame) spans
     → txns_from buffer spans from rows ≡ txns_read frame spans from rows
-txns_sealed frame buffer spans from [] told = refl
-txns_sealed frame buffer spans from (row ∷ rows) told =
-    let first = txn_sealed frame buffer spans from row told in
-    let others = txns_sealed frame buffer spans row.end rows told in
+txns_sealed frame buffer spans from [] reported = refl
+txns_sealed frame buffer spans from (row ∷ rows) reported =
+    let first = txn_sealed frame buffer spans from row reported in
+    let others = txns_sealed frame buffer spans row.end rows reported in
     λ i. first i ∷ others i
 
 pub length-read : (frame : List ℕ) (spans : List Span) (from : ℕ) (rows : List Row)
@@ -76,16 +76,16 @@ limits (txn ∷ txns) h =
       writes = all_hold RangeHolds txn.writes h.0.writes;
     }) (limits txns h.1)
 
-pub are_tables : (frame buffer : List ℕ) (tables : Tables) → AreApart 0 tables.spans.items (length frame)
+pub are_tables : (frame buffer : List ℕ) (tables : FrameTables) → AreApart 0 tables.spans.items (length frame)
     → length buffer ≡ length frame + 1
-    → map (range_told buffer) tables.spans.items ≡ map (range_read frame) tables.spans.items
-    → BatchHolds (batch_told frame tables) → AreTables buffer tables.spans.items tables.rows.items
-are_tables frame buffer tables apart more told holds =
+    → map (range_of_span buffer) tables.spans.items ≡ map (range_read frame) tables.spans.items
+    → BatchHolds (batch_of_tables frame tables) → AreTables buffer tables.spans.items tables.rows.items
+are_tables frame buffer tables apart more reported holds =
     let spans = tables.spans.items in
     let rows = tables.rows.items in
     record {
       spans_within = spans_within 0 spans (length frame) (length buffer) apart (omega (arith, more));
       rows_fit = subst (AreRows 0 rows) tables.spans.ok.0 tables.rows_fit;
-      holds = subst (λ (txns : List TxnFields). All TxnLimits txns) (sym (txns_sealed frame buffer spans 0 rows told))
+      holds = subst (λ (txns : List TxnFields). All TxnLimits txns) (sym (txns_sealed frame buffer spans 0 rows reported))
           (limits (txns_read frame spans 0 rows) holds.txns);
     }

@@ -20,12 +20,12 @@ regroup : {A : Type 0} (front : List A) (a : A) (read : Reading (List A))
 regroup {A} front a (Ok x) = ap (λ (all : List A). Ok (all, x.1)) (simp append_assoc)
 regroup front a (Err e) = refl
 
-pub goes_on : {A : Type 0} (one : List ℕ → Reading A) (front : List A) (count i : ℕ) (bytes : List ℕ) (a : A)
+pub continues : {A : Type 0} (one : List ℕ → Reading A) (front : List A) (count i : ℕ) (bytes : List ℕ) (a : A)
     (after : List ℕ) (total : Reading (List A)) → i < count → one bytes ≡ Ok (a, after)
     → with_front front (many_at one (count - i) bytes) ≡ total
     → with_front (front ++ a ∷ []) (many_at one (count - (i + 1)) after) ≡ total
 unfolding many_at
-goes_on one front count i bytes a after total lt h so_far =
+continues one front count i bytes a after total lt h so_far =
     let k : count - i ≡ suc (count - (i + 1)) = omega arith in
     let next = with_front front (many_at one (count - i) bytes) in
     let step : next ≡ with_front (front ++ a ∷ []) (many_at one (count - (i + 1)) after) =

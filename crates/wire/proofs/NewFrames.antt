@@ -33,13 +33,13 @@ memory_comes None = tt
 memory_comes (Some xs) = λ not_memory not_read. absurd (not_memory refl)
 
 -- what a failed write of a whole slice leaves
-pub begun : (before after : Option (List ℕ)) (whole : List ℕ)
-    → IfSome after (λ _. (n : ℕ) × Appends before after (take n whole))
-    → IfSome after (λ _. (bytes rest : List ℕ) × (whole ≡ bytes ++ rest) × Appends before after bytes)
-begun before None whole part = tt
-begun before (Some zs) whole part =
+pub begun : (before after : Option (List ℕ)) (entire : List ℕ)
+    → IfSome after (λ _. (n : ℕ) × Appends before after (take n entire))
+    → IfSome after (λ _. (bytes rest : List ℕ) × (entire ≡ bytes ++ rest) × Appends before after bytes)
+begun before None entire part = tt
+begun before (Some zs) entire part =
     let n = part.0 in
-    (take n whole, drop n whole, sym (take-append-drop n whole), part.1)
+    (take n entire, drop n entire, sym (take-append-drop n entire), part.1)
 
 -- the frames of so many batches were taken, and their new frames were written
 pub record SoFar (left now before after : Option (List ℕ)) (count : ℕ) : Type 0 where
@@ -96,8 +96,8 @@ all_frames : (left now : Option (List ℕ)) (bytes : List ℕ) (batches : List B
 all_frames None now bytes batches frames taken end = tt
 all_frames (Some xs) None bytes batches frames taken end = absurd taken
 all_frames (Some xs) (Some ys) bytes batches frames taken end =
-    let whole : bytes ≡ xs = sym (taken ∙ ap (λ (x : List ℕ). bytes ++ x) end ∙ append-nil bytes) in
-    subst (λ (x : List ℕ). AreFrames x batches) whole frames
+    let entire : bytes ≡ xs = sym (taken ∙ ap (λ (x : List ℕ). bytes ++ x) end ∙ append-nil bytes) in
+    subst (λ (x : List ℕ). AreFrames x batches) entire frames
 
 begin_with : (left now : Option (List ℕ)) (bytes : List ℕ) (batches : List Batch) (Then : List ℕ → Type 0)
     → AreFrames bytes batches → Consumes left now bytes → IfSome now Then
@@ -136,16 +136,16 @@ anything : (now : Option (List ℕ)) → IfSome now (λ _. Unit {0})
 anything None = tt
 anything (Some xs) = tt
 
-break_here : (before after later : Option (List ℕ)) (whole new : List ℕ) → Appends before after whole
+break_here : (before after later : Option (List ℕ)) (entire new : List ℕ) → Appends before after entire
     → IfSome later (λ _. (bytes rest : List ℕ) × (new ≡ bytes ++ rest) × Appends after later bytes)
-    → IfSome later (λ _. (bytes rest : List ℕ) × (whole ++ new ≡ bytes ++ rest) × Appends before later bytes)
-break_here before after None whole new written part = tt
-break_here before after (Some zs) whole new written part =
+    → IfSome later (λ _. (bytes rest : List ℕ) × (entire ++ new ≡ bytes ++ rest) × Appends before later bytes)
+break_here before after None entire new written part = tt
+break_here before after (Some zs) entire new written part =
     let bytes = part.0 in
     let rest = part.1 in
-    let parts : whole ++ new ≡ (whole ++ bytes) ++ rest =
-    ap (λ (x : List ℕ). whole ++ x) part.2 ∙ sym (append_assoc whole bytes rest) in
-    (whole ++ bytes, rest, parts, appends_then before after (Some zs) whole bytes written part.3)
+    let parts : entire ++ new ≡ (entire ++ bytes) ++ rest =
+    ap (λ (x : List ℕ). entire ++ x) part.2 ∙ sym (append_assoc entire bytes rest) in
+    (entire ++ bytes, rest, parts, appends_then before after (Some zs) entire bytes written part.3)
 
 -- the sink gives up within the frame of one batch more
 pub breaks : (left now next before after later : Option (List ℕ)) (count : ℕ) (batch : Batch)

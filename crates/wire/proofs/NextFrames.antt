@@ -12,21 +12,21 @@ use Rattle.wire.specs.Fields.{batch_fields}
 use Rattle.wire.specs.Spelling.{SpellsBatch}
 use Rattle.wire.specs.FrameLength.{frame_length}
 use Rattle.wire.specs.NextFrame.{TakesFrame, IsFaultOf}
-use Rattle.wire.specs.Reading.{read_batch, batch_fault, refusal, version_told}
+use Rattle.wire.specs.Reading.{read_batch, batch_fault, refusal, version_at_front}
 use Rattle.wire.proofs.Taken.{AreBytes}
 use Rattle.wire.proofs.Batches.{batch_is_spelled}
-use Rattle.wire.proofs.FrameLengths.{at_most_whole, same_read}
+use Rattle.wire.proofs.FrameLengths.{at_most_entire, same_read}
 
 -- what is held is no more than its first frame
-pub whole_frame : (held bytes frame : List ℕ) → bytes ≡ held → frame ≡ take (4 + big_number 4 bytes) bytes
+pub entire_frame : (held bytes frame : List ℕ) → bytes ≡ held → frame ≡ take (4 + big_number 4 bytes) bytes
     → length frame ≡ 4 + big_number 4 bytes → length held ≤ frame_length held → frame ≡ held
-whole_frame held bytes frame same front count within =
+entire_frame held bytes frame same front count within =
     let n = 4 + big_number 4 held in
     let is : frame ≡ take n held = front ∙ ap (λ (x : List ℕ). take (4 + big_number 4 x) x) same in
     let len : length frame ≡ n = count ∙ ap (λ (x : List ℕ). 4 + big_number 4 x) same in
     let taken : length frame ≤ length held = omega (arith, ap length is, length-take n held) in
     let four : 4 ≤ length held = omega (arith, taken, len) in
-    is ∙ take_all n held (omega (arith, at_most_whole held four, within))
+    is ∙ take_all n held (omega (arith, at_most_entire held four, within))
 
 pub takes_frame : (old new : Option (List ℕ)) (held : List ℕ) (version : WireVersion) (batch : Batch)
     → AreBytes held
@@ -36,9 +36,9 @@ takes_frame old new held version batch fits taken within read =
     let n = 4 + big_number 4 held in
     let found = batch_is_spelled held version batch n fits read refl in
     let four : 4 ≤ length held = omega (arith, found.1) in
-    let whole : take n held ≡ held = take_all n held (omega (arith, at_most_whole held four)) in
-    let spelled : SpellsBatch (version_told held) held batch =
-    subst (λ (bytes : List ℕ). SpellsBatch (version_told held) bytes batch) whole found.0 in
+    let entire : take n held ≡ held = take_all n held (omega (arith, at_most_entire held four)) in
+    let spelled : SpellsBatch (version_at_front held) held batch =
+    subst (λ (bytes : List ℕ). SpellsBatch (version_at_front held) bytes batch) entire found.0 in
     (held, spelled, taken)
 
 pub not_nil : (held rest : List ℕ) → held ≢ [] → held ++ rest ≢ []

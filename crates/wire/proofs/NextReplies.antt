@@ -14,7 +14,7 @@ use Rattle.wire.specs.NextReply.{TakesReply, IsReplyFaultOf}
 use Rattle.wire.specs.Reading.{◌>>=◌, reply_at, all_of, read_reply, reply_fault, refusal}
 use Rattle.wire.proofs.Taken.{AreBytes}
 use Rattle.wire.proofs.Replies.{reply_decoded}
-use Rattle.wire.proofs.FrameLengths.{at_most_whole, same_body}
+use Rattle.wire.proofs.FrameLengths.{at_most_entire, same_body}
 use Rattle.wire.proofs.NextFrames.{not_nil}
 
 same_reply : (front rest : List ℕ) → (length front < frame_length front → rest ≡ [])
@@ -33,8 +33,8 @@ pub takes_reply : (old new : Option (List ℕ)) (held : List ℕ) (reply : Reply
 takes_reply old new held reply n fits taken within read used =
     let found = reply_decoded held (Ok (reply, n)) fits read used in
     let four : 4 ≤ length held = omega (arith, found.1) in
-    let whole : take n held ≡ held = take_all n held (omega (arith, at_most_whole held four)) in
-    (held, subst (λ (bytes : List ℕ). SpellsReply bytes reply) whole found.0, taken)
+    let entire : take n held ≡ held = take_all n held (omega (arith, at_most_entire held four)) in
+    (held, subst (λ (bytes : List ℕ). SpellsReply bytes reply) entire found.0, taken)
 
 pub is_reply_fault : (e : WireError) (old new : Option (List ℕ)) (held : List ℕ)
     → Consumes old new held

@@ -109,7 +109,7 @@ key_takes limit bytes x low fits e =
       parts = sym (take-append-drop n.0 n.1);
       rest_fits = AreBytes-drop n.0 n.1 t.0.rest_fits;
     } in
-    let whole : Takes bytes (key_text (take n.0 n.1)) (drop n.0 n.1) =
+    let entire : Takes bytes (key_text (take n.0 n.1)) (drop n.0 n.1) =
     subst (λ (k : ℕ). Takes bytes (big_bytes 2 k ++ take n.0 n.1) (drop n.0 n.1)) (sym len)
     (Takes-then t.0 second) in
     let is_key : IsKey (take n.0 n.1) = record {
@@ -117,7 +117,7 @@ key_takes limit bytes x low fits e =
       short = omega arith;
     } in
     subst (λ (p : List ℕ × List ℕ). Takes bytes (key_text p.0) p.1 × IsKeyUpTo limit p.0)
-    (ok_is (take n.0 n.1, drop n.0 n.1) x h.1) (whole, (is_key, omega arith))
+    (ok_is (take n.0 n.1, drop n.0 n.1) x h.1) (entire, (is_key, omega arith))
 
 ends_take : (bytes : List ℕ) (x : RangeFields × List ℕ) → AreBytes bytes → ends_at bytes ≡ Ok x
     → Takes bytes (ends_text x.0) x.1 × RangeHolds x.0
@@ -174,9 +174,9 @@ formed_takes bytes x fits e =
     let t = number_takes 1 back_1 bytes b.0.0 b.0.1 fits b.1 in
     let f = form_takes b.0.0 b.0.1 x t.0.rest_fits b.2 in
     let form : big_bytes 1 b.0.0 ≡ b.0.0 ∷ [] = one_byte b.0.0 t.1 in
-    let whole : Takes bytes (big_bytes 1 b.0.0 ++ f.0) x.1 = Takes-then t.0 f.1 in
+    let entire : Takes bytes (big_bytes 1 b.0.0 ++ f.0) x.1 = Takes-then t.0 f.1 in
     let text : big_bytes 1 b.0.0 ++ f.0 ≡ formed_text x.0 = ap (λ (p : List ℕ). p ++ f.0) form ∙ sym f.2 in
-    (subst (λ (p : List ℕ). Takes bytes p x.1) text whole, f.3)
+    (subst (λ (p : List ℕ). Takes bytes p x.1) text entire, f.3)
 
 pub range_takes : (version : WireVersion) (bytes : List ℕ) (x : RangeFields × List ℕ) → AreBytes bytes
     → range_at version bytes ≡ Ok x → Takes bytes (range_text version x.0) x.1 × RangeHolds x.0
@@ -310,7 +310,7 @@ txn_takes version bytes x fits e =
     let first : Takes b_marked.0.1 (big_bytes 2
     (length reads_are) ++ (big_bytes 2 (length writes_are) ++ ranges_text)) b_writes.0.1 =
     rw reads.1 (Takes-then read_count.0 second) in
-    let whole : Takes bytes (txn_text version made.0) made.1 =
+    let entire : Takes bytes (txn_text version made.0) made.1 =
     Takes-then snapshot.0 (Takes-then marked first) in
     let holds : TxnHolds made.0 = record {
       snapshot_fits = snapshot.1;
@@ -321,7 +321,7 @@ txn_takes version bytes x fits e =
       writes = writes.2;
     } in
     subst (λ (p : TxnFields × List ℕ). Takes bytes (txn_text version p.0) p.1 × TxnHolds p.0)
-    (ok_is made x b_writes.2) (whole, holds)
+    (ok_is made x b_writes.2) (entire, holds)
 
 -- what must hold of the three versions of a batch
 pub record HeaderHolds (previous version received : ℤ) : Type 0 where
@@ -356,7 +356,7 @@ header_takes bytes x fits e =
     let previous = version_takes from bytes b_previous.0 fits b_previous.1 in
     let version = version_takes (above p) b_previous.0.1 b_version.0 previous.0.rest_fits b_version.1 in
     let received = version_takes (before v) b_version.0.1 b_received.0 version.0.rest_fits b_received.1 in
-    let whole : Takes bytes (header_text p v r) b_received.0.1 =
+    let entire : Takes bytes (header_text p v r) b_received.0.1 =
     Takes-then previous.0 (Takes-then version.0 received.0) in
     let holds : HeaderHolds p v r = record {
       previous_fits = previous.1;
@@ -370,7 +370,7 @@ header_takes bytes x fits e =
     } in
     subst (λ (y : (ℤ × ℤ × ℤ) × List ℕ). Takes bytes (header_text y.0.0 y.0.1 y.0.2) y.1
     × HeaderHolds y.0.0 y.0.1 y.0.2)
-    (ok_is made x b_received.2) (whole, holds)
+    (ok_is made x b_received.2) (entire, holds)
 
 -- what follows the kind of a batch
 abbrev pub rest_text : WireVersion → BatchFields → List ℕ
@@ -429,7 +429,7 @@ fields_take version bytes x fits e =
     count.0.rest_fits b_txns.1 in
     let listed : Takes b_header.0.1 (big_bytes 2 (length txns_are) ++ flat_map text txns_are) b_txns.0.1 =
     rw txns.1 (Takes-then count.0 txns.0) in
-    let whole : Takes bytes (rest_text version made.0) made.1 = Takes-then header.0 listed in
+    let entire : Takes bytes (rest_text version made.0) made.1 = Takes-then header.0 listed in
     let h = header.1 in
     let holds : BatchHolds made.0 = record {
       previous_fits = h.previous_fits;
@@ -444,7 +444,7 @@ fields_take version bytes x fits e =
       txns = txns.2;
     } in
     subst (λ (p : BatchFields × List ℕ). Takes bytes (rest_text version p.0) p.1 × BatchHolds p.0)
-    (ok_is made x b_txns.2) (whole, holds)
+    (ok_is made x b_txns.2) (entire, holds)
 
 version_spelled : (kind : ℕ) (version : WireVersion) → version_of_kind kind ≡ Ok version
     → kind ≡ batch_kind version
@@ -489,7 +489,7 @@ batch_takes bytes x fits e =
     let kind = version_takes_kind bytes b.0 fits b.1 in
     let fields = fields_take b.0.0 b.0.1 d.0 kind.rest_fits d.1 in
     let made : (WireVersion × BatchFields) × List ℕ = ((b.0.0, d.0.0), d.0.1) in
-    let whole : Takes bytes (batch_body b.0.0 d.0.0) d.0.1 = Takes-then kind fields.0 in
+    let entire : Takes bytes (batch_body b.0.0 d.0.0) d.0.1 = Takes-then kind fields.0 in
     subst (λ (p : (WireVersion × BatchFields) × List ℕ). Takes bytes (versioned_body p.0) p.1
     × VersionedHolds p.0)
-    (ok_is made x d.2) (whole, fields.1)
+    (ok_is made x d.2) (entire, fields.1)

@@ -131,12 +131,12 @@ regroup : (front : List ℕ) (p : ℕ) (read : Reading (List ℕ))
 regroup front p (Ok x) = ap (λ (all : List ℕ). Ok (all, x.1)) (simp append_assoc)
 regroup front p (Err e) = refl
 
-pub goes_on : (least : ℕ) (front : List ℕ) (count i : ℕ) (bytes : List ℕ) (p : ℕ) (after : List ℕ)
+pub continues : (least : ℕ) (front : List ℕ) (count i : ℕ) (bytes : List ℕ) (p : ℕ) (after : List ℕ)
     (total : Reading (List ℕ)) → i < count → place_at least bytes ≡ Ok (p, after)
     → with_front front (places_at least (count - i) bytes) ≡ total
     → with_front (front ++ p ∷ []) (places_at (p + 1) (count - (i + 1)) after) ≡ total
 unfolding places_at
-goes_on least front count i bytes p after total lt h so_far =
+continues least front count i bytes p after total lt h so_far =
     let k : count - i ≡ suc (count - (i + 1)) = omega arith in
     let step : with_front front (places_at least (count - i) bytes) ≡ with_front (front ++ p ∷ [])
     (places_at (p + 1) (count - (i + 1)) after) =

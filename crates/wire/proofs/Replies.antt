@@ -79,7 +79,7 @@ entry_takes bytes x fits e =
     let listed : Takes b_verdict.0.1 (big_bytes 2
     (length b_places.0.0) ++ places_text b_places.0.0) b_places.0.1 =
     rw places.1 (Takes-then count.0 places.0) in
-    let whole : Takes bytes (entry_text made.0) made.1 = Takes-then verdict listed in
+    let entire : Takes bytes (entry_text made.0) made.1 = Takes-then verdict listed in
     let most : length b_places.0.0 ≤ most_places b_verdict.0.0 = rw places.1 count.1 in
     let holds : EntryHolds made.0 = record {
       few = few_of b_verdict.0.0 (length b_places.0.0) most;
@@ -88,7 +88,7 @@ entry_takes bytes x fits e =
           are_places b_places.0.0 places.2;
     } in
     subst (λ (p : EntryFields × List ℕ). Takes bytes (entry_text p.0) p.1 × EntryHolds p.0)
-    (ok_is made x b_places.2) (whole, holds)
+    (ok_is made x b_places.2) (entire, holds)
 
 most_of : (verdict : Verdict) (places : List ℕ) → length places ≤ 1024 → (verdict ≢ Conflict → places ≡ [])
     → length places ≤ most_places verdict
@@ -145,7 +145,7 @@ reply_takes bytes x fits e =
     let listed : Takes b_version.0.1 (big_bytes 2
     (length b_entries.0.0) ++ flat_map entry_text b_entries.0.0) b_entries.0.1 =
     rw entries.1 (Takes-then count.0 entries.0) in
-    let whole : Takes bytes (reply_body made.0) made.1 = Takes-then kind (Takes-then version.0 listed) in
+    let entire : Takes bytes (reply_body made.0) made.1 = Takes-then kind (Takes-then version.0 listed) in
     let holds : ReplyHolds made.0 = record {
       version_fits = version.1;
       version = at_most _ _ version.2;
@@ -153,7 +153,7 @@ reply_takes bytes x fits e =
       entries = entries.2;
     } in
     subst (λ (p : ReplyFields × List ℕ). Takes bytes (reply_body p.0) p.1 × ReplyHolds p.0)
-    (ok_is made x b_entries.2) (whole, holds)
+    (ok_is made x b_entries.2) (entire, holds)
 
 reply_again : (reply : ReplyFields) (rest : List ℕ) → ReplyHolds reply
     → reply_at (reply_body reply ++ rest) ≡ Ok (reply, rest)

@@ -5,15 +5,15 @@ use Rattle.keyspace.specs.Tables.{bytes_at}
 use Rattle.wire.specs.Lying.{IsRestOf, index_of}
 use Rattle.wire.proofs.Taken.{Takes}
 
-pub rest_behind : (frame a b : List ℕ) → IsRestOf frame (a ++ b) → IsRestOf frame b
-rest_behind frame a b r = (r.0 ++ a, r.1 ∙ sym (append_assoc r.0 a b))
+pub rest_following : (frame a b : List ℕ) → IsRestOf frame (a ++ b) → IsRestOf frame b
+rest_following frame a b r = (r.0 ++ a, r.1 ∙ sym (append_assoc r.0 a b))
 
 pub rest_parts : (frame bytes text rest : List ℕ) → IsRestOf frame bytes → bytes ≡ text ++ rest → IsRestOf frame (text ++ rest)
 rest_parts frame bytes text rest r e = (r.0, r.1 ∙ ap (λ (b : List ℕ). r.0 ++ b) e)
 
 -- what was taken from the front leaves a rest
 pub rest_after : (frame bytes text rest : List ℕ) → IsRestOf frame bytes → Takes bytes text rest → IsRestOf frame rest
-rest_after frame bytes text rest r t = rest_behind frame text rest (rest_parts frame bytes text rest r t.parts)
+rest_after frame bytes text rest r t = rest_following frame text rest (rest_parts frame bytes text rest r t.parts)
 
 pub front_length : (frame rest : List ℕ) (r : IsRestOf frame rest) → length frame ≡ length r.0 + length rest
 front_length frame rest r = ap length r.1 ∙ length-append r.0 rest

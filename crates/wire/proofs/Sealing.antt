@@ -5,7 +5,7 @@ use Rattle.std.proofs.lemmas.Bool.{eq-eqb, ne_eqb}
 use Rattle.std.proofs.lemmas.List.{length-append, length-take, take-take, drop-drop, take-set, take_more_set, take-set-le, drop-set-lt, length-set, drop-append-le, take-append-le, drop_all}
 use Rattle.std.proofs.Math.Seq.{drop-cons}
 use Rattle.keyspace.specs.declared.span.Span.{Span}
-use Rattle.keyspace.specs.Tables.{bytes_at, range_told}
+use Rattle.keyspace.specs.Tables.{bytes_at, range_of_span}
 use Rattle.wire.specs.Fields.{RangeFields}
 use Rattle.wire.specs.Spelling.{single_key}
 use Rattle.wire.specs.Lying.{range_read, IsBetween, HasSingleKey, AreApart}
@@ -37,7 +37,7 @@ pub read_single : (frame : List ℕ) (span : Span) → span.end ≡ span.begin
 read_single frame span h = let test = eq-eqb span.begin span.end (sym h) in rw test refl
 
 pub read_both : (frame : List ℕ) (span : Span) → span.begin + span.begin_length < span.end
-    → range_read frame span ≡ range_told frame span
+    → range_read frame span ≡ range_of_span frame span
 read_both frame span h = let test = both_test span h in rw test refl
 
 -- bytes that lie among the first ones alone
@@ -59,9 +59,9 @@ take_fewer : (a b : List ℕ) (n m : ℕ) → take n a ≡ take n b → m ≤ n 
 take_fewer a b n m e le = sym (take-take m n a le) ∙ ap (λ (x : List ℕ). take m x) e ∙ take-take m n b le
 
 -- .. and behind the first ones
-same_behind : (a b : List ℕ) (n from count : ℕ) → drop n a ≡ drop n b → n ≤ from
+same_after : (a b : List ℕ) (n from count : ℕ) → drop n a ≡ drop n b → n ≤ from
     → bytes_at a from count ≡ bytes_at b from count
-same_behind a b n from count e le =
+same_after a b n from count e le =
     ap (λ (x : List ℕ). take ((from + count) - from) x) (drop_more a b n from e le)
 
 abbrev range_of : List ℕ → List ℕ → RangeFields
@@ -70,9 +70,9 @@ range_of begin end = record { begin = begin; end = end }
 same_ends : (a b c d : List ℕ) → a ≡ b → c ≡ d → range_of a c ≡ range_of b d
 same_ends a b c d e f = λ i. range_of (e i) (f i)
 
-told_in_front : (a b : List ℕ) (from : ℕ) (span : Span) (to : ℕ) → IsBetween from span to
-    → take (to + 1) a ≡ take (to + 1) b → range_told a span ≡ range_told b span
-told_in_front a b from span to h e =
+reported_in_front : (a b : List ℕ) (from : ℕ) (span : Span) (to : ℕ) → IsBetween from span to
+    → take (to + 1) a ≡ take (to + 1) b → range_of_span a span ≡ range_of_span b span
+reported_in_front a b from span to h e =
     elim h.keys [
       | inl one ↦ same_ends _ _ _ _
           (same_in_front a b (to + 1) span.begin span.begin_length e (omega (arith, one.2)))
@@ -96,18 +96,18 @@ read_in_front a b from span to h e =
           ∙ sym (read_both b span two.0)
     ]
 
-read_behind : (a b : List ℕ) (from : ℕ) (span : Span) (to : ℕ) → IsBetween from span to
+read_after : (a b : List ℕ) (from : ℕ) (span : Span) (to : ℕ) → IsBetween from span to
     → drop (from + 1) a ≡ drop (from + 1) b → range_read a span ≡ range_read b span
-read_behind a b from span to h e =
+read_after a b from span to h e =
     let least : from + 1 ≤ span.begin = omega (arith, h.begin) in
     elim h.keys [
       | inl one ↦ read_single a span one.0
-          ∙ ap single_key (same_behind a b (from + 1) span.begin span.begin_length e least)
+          ∙ ap single_key (same_after a b (from + 1) span.begin span.begin_length e least)
           ∙ sym (read_single b span one.0)
       | inr two ↦ read_both a span two.0
           ∙ same_ends _ _ _ _
-          (same_behind a b (from + 1) span.begin span.begin_length e least)
-          (same_behind a b (from + 1) span.end span.end_length e (omega (arith, least, two.0)))
+          (same_after a b (from + 1) span.begin span.begin_length e least)
+          (same_after a b (from + 1) span.end span.end_length e (omega (arith, least, two.0)))
           ∙ sym (read_both b span two.0)
     ]
 
@@ -132,13 +132,13 @@ reads_in_front a b from (span ∷ spans) to h e =
     let others = reads_in_front a b h.0 spans to h.2 e in
     λ i. first i ∷ others i
 
-reads_behind : (a b : List ℕ) (from : ℕ) (spans : List Span) (to : ℕ) → AreApart from spans to
+reads_after : (a b : List ℕ) (from : ℕ) (spans : List Span) (to : ℕ) → AreApart from spans to
     → drop (from + 1) a ≡ drop (from + 1) b → map (range_read a) spans ≡ map (range_read b) spans
-reads_behind a b from [] to h e = refl
-reads_behind a b from (span ∷ spans) to h e =
+reads_after a b from [] to h e = refl
+reads_after a b from (span ∷ spans) to h e =
     let least : from + 1 ≤ h.0 + 1 = omega (arith, between_rises from span h.0 h.1) in
-    let first = read_behind a b from span h.0 h.1 e in
-    let others = reads_behind a b h.0 spans to h.2 (drop_more a b (from + 1) (h.0 + 1) e least) in
+    let first = read_after a b from span h.0 h.1 e in
+    let others = reads_after a b h.0 spans to h.2 (drop_more a b (from + 1) (h.0 + 1) e least) in
     λ i. first i ∷ others i
 
 -- one span changes nothing before its key
@@ -152,9 +152,9 @@ one_in_front frame from span to h =
     ]
 
 -- .. nor behind its end
-one_behind : (frame : List ℕ) (from : ℕ) (span : Span) (to : ℕ) → IsBetween from span to
+one_after : (frame : List ℕ) (from : ℕ) (span : Span) (to : ℕ) → IsBetween from span to
     → drop (to + 1) (sealed_one frame span) ≡ drop (to + 1) frame
-one_behind frame from span to h =
+one_after frame from span to h =
     elim h.keys [
       | inl one ↦ ap (λ (x : List ℕ). drop (to + 1) x) (sealed_single frame span to one)
           ∙ drop-set-lt (to + 1) frame (span.begin + span.begin_length) 0 (omega (arith, one.2))
@@ -191,9 +191,9 @@ before_zero frame from count =
     ∙ sym (bytes_by_front frame from count)
 
 -- one span means what was read once it has its end
-one_told : (frame : List ℕ) (from : ℕ) (span : Span) (to : ℕ) → IsBetween from span to → to < length frame
-    → range_told (sealed_one frame span) span ≡ range_read frame span
-one_told frame from span to h lt =
+one_reported : (frame : List ℕ) (from : ℕ) (span : Span) (to : ℕ) → IsBetween from span to → to < length frame
+    → range_of_span (sealed_one frame span) span ≡ range_read frame span
+one_reported frame from span to h lt =
     elim h.keys [
       | inl one ↦
           let k = span.begin + span.begin_length in
@@ -201,11 +201,11 @@ one_told frame from span to h lt =
           let low : k < length frame = omega (arith, one.2, lt) in
           let ends : bytes_at new span.end span.end_length ≡ bytes_at new span.begin (span.begin_length + 1) =
           λ i. bytes_at new (one.0 i) (one.1 i) in
-          ap (λ (x : List ℕ). range_told x span) (sealed_single frame span to one)
+          ap (λ (x : List ℕ). range_of_span x span) (sealed_single frame span to one)
           ∙ same_ends _ _ _ _ (before_zero frame span.begin span.begin_length)
           (ends ∙ with_zero frame span.begin span.begin_length low)
           ∙ sym (read_single frame span one.0)
-      | inr two ↦ ap (λ (x : List ℕ). range_told x span) (sealed_both frame span two.0)
+      | inr two ↦ ap (λ (x : List ℕ). range_of_span x span) (sealed_both frame span two.0)
           ∙ sym (read_both frame span two.0)
     ]
 
@@ -220,29 +220,29 @@ all_in_front frame from (span ∷ spans) to h =
     ∙ one_in_front frame from span h.0 h.1
 
 -- the spans mean what was read once all have their ends
-all_told : (frame : List ℕ) (from : ℕ) (spans : List Span) (to : ℕ) → AreApart from spans to → to < length frame
-    → map (range_told (sealed frame spans)) spans ≡ map (range_read frame) spans
-all_told frame from [] to h lt = refl
-all_told frame from (span ∷ spans) to h lt =
+all_reported : (frame : List ℕ) (from : ℕ) (spans : List Span) (to : ℕ) → AreApart from spans to → to < length frame
+    → map (range_of_span (sealed frame spans)) spans ≡ map (range_read frame) spans
+all_reported frame from [] to h lt = refl
+all_reported frame from (span ∷ spans) to h lt =
     let one = sealed_one frame span in
     let least : h.0 ≤ to = omega (arith, apart_rises h.0 spans to h.2) in
     let here : h.0 < length frame = omega (arith, least, lt) in
     let still : to < length one = rw (one_length frame from span h.0 h.1) lt in
-    let first : range_told (sealed one spans) span ≡ range_read frame span =
-    told_in_front (sealed one spans) one from span h.0 h.1 (all_in_front one h.0 spans to h.2)
-    ∙ one_told frame from span h.0 h.1 here in
-    let others : map (range_told (sealed one spans)) spans ≡ map (range_read frame) spans =
-    all_told one h.0 spans to h.2 still
-    ∙ reads_behind one frame h.0 spans to h.2 (one_behind frame from span h.0 h.1) in
+    let first : range_of_span (sealed one spans) span ≡ range_read frame span =
+    reported_in_front (sealed one spans) one from span h.0 h.1 (all_in_front one h.0 spans to h.2)
+    ∙ one_reported frame from span h.0 h.1 here in
+    let others : map (range_of_span (sealed one spans)) spans ≡ map (range_read frame) spans =
+    all_reported one h.0 spans to h.2 still
+    ∙ reads_after one frame h.0 spans to h.2 (one_after frame from span h.0 h.1) in
     λ i. first i ∷ others i
 
 -- .. a byte more than the frame has
-pub sealed_told : (frame : List ℕ) (spans : List Span) → AreApart 0 spans (length frame)
-    → map (range_told (sealed (frame ++ 0 ∷ []) spans)) spans ≡ map (range_read frame) spans
-sealed_told frame spans h =
+pub sealed_reported : (frame : List ℕ) (spans : List Span) → AreApart 0 spans (length frame)
+    → map (range_of_span (sealed (frame ++ 0 ∷ []) spans)) spans ≡ map (range_read frame) spans
+sealed_reported frame spans h =
     let more = frame ++ 0 ∷ [] in
     let lt : length frame < length more = omega (arith, length-append frame (0 ∷ [])) in
-    all_told more 0 spans (length frame) h lt
+    all_reported more 0 spans (length frame) h lt
     ∙ reads_in_front more frame 0 spans (length frame) h
     (take-append-le (length frame) frame (0 ∷ []) (omega arith))
 
@@ -267,8 +267,8 @@ next_key spans i d from to lt h =
 -- all spans have their ends
 pub sealed_all : (frame made : List ℕ) (spans : List Span) (i : ℕ) → AreApart 0 spans (length frame) → length spans ≤ i
     → sealed made (drop i spans) ≡ sealed (frame ++ 0 ∷ []) spans
-    → map (range_told made) spans ≡ map (range_read frame) spans
+    → map (range_of_span made) spans ≡ map (range_read frame) spans
 sealed_all frame made spans i h le e =
     let is : made ≡ sealed (frame ++ 0 ∷ []) spans =
     ap (λ (l : List Span). sealed made l) (sym (drop_all i spans le)) ∙ e in
-    ap (λ (x : List ℕ). map (range_told x) spans) is ∙ sealed_told frame spans h
+    ap (λ (x : List ℕ). map (range_of_span x) spans) is ∙ sealed_reported frame spans h

@@ -2,8 +2,8 @@
 use Rattle.std.specs.Prelude.{◌≡◌, ◌⊎◌, ℕ, ◌+◌, ◌-◌, ◌<◌, ◌≤◌, List, [], ◌∷◌, ◌++◌, length, map, slice_range, ◌==◌, if◌then◌else◌}
 use Rattle.keyspace.specs.declared.span.Span.{Span}
 use Rattle.keyspace.specs.declared.row.Row.{Row}
-use Rattle.keyspace.specs.Tables.{bytes_at, range_told}
-use Rattle.wire.specs.declared.tables.Tables.{Tables}
+use Rattle.keyspace.specs.Tables.{bytes_at, range_of_span}
+use Rattle.wire.specs.declared.tables.FrameTables.{FrameTables}
 use Rattle.wire.specs.Fields.{RangeFields, TxnFields, BatchFields}
 use Rattle.wire.specs.Spelling.{single_key}
 
@@ -19,7 +19,7 @@ index_of frame rest = length frame - length rest
 abbrev pub range_read : List ℕ → Span → RangeFields
 range_read frame span =
     if span.begin == span.end then single_key (bytes_at frame span.begin span.begin_length)
-    else range_told frame span
+    else range_of_span frame span
 
 -- the transaction of a row, whose spans begin at an index, as the frame spells it
 abbrev pub txn_read : List ℕ → List Span → ℕ → Row → TxnFields
@@ -36,8 +36,8 @@ txns_read frame spans from [] = []
 txns_read frame spans from (row ∷ rows) = txn_read frame spans from row ∷ txns_read frame spans row.end rows
 
 -- the batch of the tables, as the frame spells it
-abbrev pub batch_told : List ℕ → Tables → BatchFields
-batch_told frame tables = record {
+abbrev pub batch_of_tables : List ℕ → FrameTables → BatchFields
+batch_of_tables frame tables = record {
   previous = tables.previous;
   version = tables.version;
   received = tables.received;

@@ -6,11 +6,11 @@ use Rattle.wire.specs.declared.error.WireError.{WireError}
 use Rattle.wire.specs.declared.error.WireError.TheVariants.{Read}
 use Rattle.wire.specs.FrameLength.{frame_length}
 use Rattle.wire.specs.Spelling.{SpellsBatch}
-use Rattle.wire.specs.Reading.{batch_fault, version_told}
+use Rattle.wire.specs.Reading.{batch_fault, version_at_front}
 
 -- the bytes are the frame of the batch, in the wire version that its kind tells
 abbrev pub IsFrameOf : List ℕ → Batch → Type 0
-IsFrameOf bytes batch = SpellsBatch (version_told bytes) bytes batch
+IsFrameOf bytes batch = SpellsBatch (version_at_front bytes) bytes batch
 
 -- the frame of the batch is at the front, and just that frame leaves
 abbrev pub TakesFrame : Option (List ℕ) → Option (List ℕ) → Batch → Type 0

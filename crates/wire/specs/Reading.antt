@@ -235,5 +235,5 @@ abbrev pub reply_fault : List ℕ → Option WireError
 reply_fault bytes = refusal (read_reply bytes)
 
 -- the wire version that the kind of the frame at the front tells
-abbrev pub version_told : List ℕ → WireVersion
-version_told bytes = if slice_index bytes 4 == 3 then Two else One
+abbrev pub version_at_front : List ℕ → WireVersion
+version_at_front bytes = if slice_index bytes 4 == 3 then Two else One

@@ -4,16 +4,16 @@ ghost use Rattle.std.specs.Prelude.{◌≡◌, ◌≢◌, ◌+◌, ◌≤◌, �
 ghost use Rattle.std.specs.Prelude.{IfOk, IfErr, OnOk, Some, None};
 ghost use Rattle.byteorder.specs.Endian.{big_number};
 ghost use Rattle.wire.specs.Fields.{batch_fields};
-ghost use Rattle.wire.specs.Lying.{IsRestOf, AreApart, index_of, batch_told};
+ghost use Rattle.wire.specs.Lying.{IsRestOf, AreApart, index_of, batch_of_tables};
 ghost use Rattle.wire.specs.Spelling.{BatchHolds, SpellsBatch};
 ghost use Rattle.wire.specs.Reading.{Gives, body_at, batch_kind_at, header_at, fields_at, batch_at};
-ghost use Rattle.wire.specs.Reading.{read_batch, batch_fault, version_told};
+ghost use Rattle.wire.specs.Reading.{read_batch, batch_fault, version_at_front};
 ghost use Rattle.wire.specs.declared.field.TheConstants.{MAX_BODY_LENGTH};
 
 use crate::error::WireError;
 use crate::field::{body_of, count_of, i64_at, u8_at};
 use crate::seal::seal;
-use crate::tables::Tables;
+use crate::tables::FrameTables;
 use crate::txn::txns_of;
 use crate::version::WireVersion;
 use keyspace::{Batch, MAX_TXNS, UnorderedBatch};
@@ -63,17 +63,17 @@ fn fields_of<'a>(
     version: WireVersion,
     frame: &[u8],
     bytes: &'a [u8],
-) -> Result<(Tables, &'a [u8]), WireError>
+) -> Result<(FrameTables, &'a [u8]), WireError>
     requires short { length frame.now ≤ 4 + MAX_BODY_LENGTH }
     requires rest { IsRestOf frame.now bytes.now }
-    ensures reads { Gives (λ x. (batch_told frame.now x.0, x.1.now)) result
+    ensures reads { Gives (λ x. (batch_of_tables frame.now x.0, x.1.now)) result
         (fields_at version bytes.now) }
     ensures apart { IfOk result (λ x. AreApart 0 x.0.spans.items (index_of frame.now x.1.now)) }
 {
     let ((previous, batch_version, received), rest) = header_of(bytes)?;
     let (count, rest) = count_of(MAX_TXNS as u16, rest)?;
     let ((spans, rows), rest) = txns_of(alloc, version, count, frame, rest)?;
-    let tables = Tables {
+    let tables = FrameTables {
         previous,
         version: batch_version,
         received,
@@ -89,10 +89,10 @@ fn body_of_batch<'a>(
     alloc: Global,
     frame: &[u8],
     bytes: &'a [u8],
-) -> Result<((WireVersion, Tables), &'a [u8]), WireError>
+) -> Result<((WireVersion, FrameTables), &'a [u8]), WireError>
     requires short { length frame.now ≤ 4 + MAX_BODY_LENGTH }
     requires rest { IsRestOf frame.now bytes.now }
-    ensures reads { Gives (λ x. ((x.0.0, batch_told frame.now x.0.1), x.1.now)) result
+    ensures reads { Gives (λ x. ((x.0.0, batch_of_tables frame.now x.0.1), x.1.now)) result
         (batch_at bytes.now) }
     ensures apart { IfOk result (λ x. AreApart 0 x.0.1.spans.items (index_of frame.now x.1.now)) }
 {
@@ -116,12 +116,15 @@ fn frame_of(bytes: &[u8]) -> Result<(&[u8], &[u8]), WireError>
 /// Reads the frame at the front into tables, and returns its wire version, these and the frame. No
 /// key is copied.
 #[tactic(auto, unfolding(crate::specs::Reading::read_batch))]
-pub fn tables_of(alloc: Global, bytes: &[u8]) -> Result<(WireVersion, Tables, &[u8]), WireError>
-    ensures reads { Gives (λ x. (x.0, batch_told x.2.now x.1)) result (read_batch bytes.now) }
+pub fn tables_of(
+    alloc: Global,
+    bytes: &[u8],
+) -> Result<(WireVersion, FrameTables, &[u8]), WireError>
+    ensures reads { Gives (λ x. (x.0, batch_of_tables x.2.now x.1)) result (read_batch bytes.now) }
     ensures frame { IfOk result (λ x. x.2.now ≡ take (4 + big_number 4 bytes.now) bytes.now) }
     ensures length { IfOk result (λ x. length x.2.now ≡ 4 + big_number 4 bytes.now) }
     ensures apart { IfOk result (λ x. AreApart 0 x.1.spans.items (length x.2.now)) }
-    ensures holds { IfOk result (λ x. BatchHolds (batch_told x.2.now x.1)) }
+    ensures holds { IfOk result (λ x. BatchHolds (batch_of_tables x.2.now x.1)) }
 {
     let (frame, body) = frame_of(bytes)?;
     let ((version, tables), rest) = body_of_batch(alloc, frame, body)?;
@@ -133,10 +136,11 @@ pub fn tables_of(alloc: Global, bytes: &[u8]) -> Result<(WireVersion, Tables, &[
 
 /// Makes the batch of the tables, without ordering its ranges. It keeps the frame, in which each
 /// single key is given its end.
-pub fn unordered_of(frame: Vec<u8>, tables: Tables) -> Result<UnorderedBatch, AllocError>
+pub fn unordered_of(frame: Vec<u8>, tables: FrameTables) -> Result<UnorderedBatch, AllocError>
     requires apart { AreApart 0 tables.spans.items (vec_len frame) }
-    requires holds { BatchHolds (batch_told frame.items tables) }
-    ensures fields { IfOk result (λ batch. batch_fields batch ≡ batch_told frame.items tables) }
+    requires holds { BatchHolds (batch_of_tables frame.items tables) }
+    ensures fields { IfOk result (λ batch. batch_fields batch
+        ≡ batch_of_tables frame.items tables) }
 {
     let mut buffer = frame;
     seal(&mut buffer, &tables.spans)?;
@@ -149,10 +153,11 @@ pub fn unordered_of(frame: Vec<u8>, tables: Tables) -> Result<UnorderedBatch, Al
 }
 
 /// Makes the batch of the tables, as [`unordered_of`] does, and orders its ranges.
-pub fn batch_of(alloc: Global, frame: Vec<u8>, tables: Tables) -> Result<Batch, AllocError>
+pub fn batch_of(alloc: Global, frame: Vec<u8>, tables: FrameTables) -> Result<Batch, AllocError>
     requires apart { AreApart 0 tables.spans.items (vec_len frame) }
-    requires holds { BatchHolds (batch_told frame.items tables) }
-    ensures fields { IfOk result (λ batch. batch_fields batch ≡ batch_told frame.items tables) }
+    requires holds { BatchHolds (batch_of_tables frame.items tables) }
+    ensures fields { IfOk result (λ batch. batch_fields batch
+        ≡ batch_of_tables frame.items tables) }
 {
     let batch = unordered_of(frame, tables)?;
     batch.order(alloc)
@@ -164,7 +169,7 @@ pub fn batch_of(alloc: Global, frame: Vec<u8>, tables: Tables) -> Result<Batch, 
 pub fn decode_batch(alloc: Global, bytes: &[u8]) -> Result<(Batch, usize), WireError>
     ensures within { IfOk result (λ found. found.1 ≤ length bytes.now) }
     ensures spelled { IfOk result (λ found.
-        SpellsBatch (version_told bytes.now) (take found.1 bytes.now) found.0) }
+        SpellsBatch (version_at_front bytes.now) (take found.1 bytes.now) found.0) }
     ensures ok { OnOk result (batch_fault bytes.now ≡ None) }
     ensures fault { IfErr result (λ e. e ≢ WireError.Memory → batch_fault bytes.now ≡ Some e) }
     ensures never_read { IfErr result (λ e. e ≢ WireError.Read) }

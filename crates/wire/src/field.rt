@@ -106,7 +106,7 @@ pub fn key_of<'a>(
     requires rest { IsRestOf frame.now bytes.now }
     ensures reads { Gives (λ x. (x.1.now, x.2.now)) result (key_at limit bytes.now) }
     ensures key { IfOk result (λ x. bytes_at frame.now x.0 (length x.1.now) ≡ x.1.now) }
-    ensures behind { IfOk result (λ x. index_of frame.now bytes.now < x.0) }
+    ensures after { IfOk result (λ x. index_of frame.now bytes.now < x.0) }
     ensures end { IfOk result (λ x. x.0 + length x.1.now ≡ index_of frame.now x.2.now) }
     ensures rest { IfOk result (λ x. IsRestOf frame.now x.2.now) }
     ensures limit { IfOk result (λ x. length x.1.now ≤ limit) }

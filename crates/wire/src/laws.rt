@@ -8,7 +8,7 @@ ghost use Rattle.keyspace.specs.Judged.{Judged};
 ghost use Rattle.wire.specs.declared.version.WireVersion.{WireVersion as WireVersionValue};
 ghost use Rattle.wire.specs.Fields.{batch_fields, reply_fields};
 ghost use Rattle.wire.specs.Spelling.{batch_body, reply_body, IsShort, SpellsBatch, SpellsReply};
-ghost use Rattle.wire.specs.Reading.{batch_fault, reply_fault, version_told};
+ghost use Rattle.wire.specs.Reading.{batch_fault, reply_fault, version_at_front};
 
 /// A value has at most one spelling in each wire version, a text spells at most one value, and no
 /// frame begins another. So decoding returns the encoded value, whatever follows it.
@@ -20,8 +20,8 @@ pub fn one_spelling()
         → SpellsBatch v x a → SpellsBatch v y a → x ≡ y }
     ensures batch_read { (v : WireVersionValue) (x s : List ℕ) (a : BatchValue)
         → SpellsBatch v x a → batch_fault (x ++ s) ≡ None }
-    ensures batch_told { (v : WireVersionValue) (x s : List ℕ) (a : BatchValue)
-        → SpellsBatch v x a → version_told (x ++ s) ≡ v }
+    ensures batch_of_tables { (v : WireVersionValue) (x s : List ℕ) (a : BatchValue)
+        → SpellsBatch v x a → version_at_front (x ++ s) ≡ v }
 
     ensures replies { (x y s t : List ℕ) (a b : ReplyValue)
         → SpellsReply x a → SpellsReply y b → x ++ s ≡ y ++ t → (x ≡ y) × (a ≡ b) }

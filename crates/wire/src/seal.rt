@@ -1,7 +1,7 @@
 //! Puts the end of each single key into the frame that its key lies in.
 
 ghost use Rattle.std.specs.Prelude.{◌≡◌, ◌+◌, OnOk, vec_len, map};
-ghost use Rattle.keyspace.specs.Tables.{range_told};
+ghost use Rattle.keyspace.specs.Tables.{range_of_span};
 ghost use Rattle.wire.specs.Lying.{AreApart, range_read};
 
 use keyspace::Span;
@@ -11,8 +11,9 @@ use std::alloc::AllocError;
 /// the form or the length of a range, or a count. One byte is appended for a key at the very end.
 pub fn seal(frame: &mut Vec<u8>, spans: &[Span]) -> Result<(), AllocError>
     requires apart { AreApart 0 spans.now (vec_len frame.old) }
-    ensures told { OnOk result
-        (map (range_told frame.new.items) spans.now ≡ map (range_read frame.old.items) spans.now) }
+    ensures reported { OnOk result
+        (map (range_of_span frame.new.items) spans.now
+        ≡ map (range_read frame.old.items) spans.now) }
     ensures count { OnOk result (vec_len frame.new ≡ vec_len frame.old + 1) }
 {
     frame.push(0)?;

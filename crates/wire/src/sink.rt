@@ -40,8 +40,8 @@ pub trait Sink {
 /// Writes all of the bytes, in as many calls as it takes. After a failure the sink was given a
 /// prefix of them.
 pub fn write_all<W: Sink>(writer: &mut W, bytes: &[u8]) -> Result<(), Failed>
-    ensures whole { OnOk result (Appends (W.given writer.old) (W.given writer.new) bytes.now) }
-    ensures beginning { OnErr result (IfSome (W.given writer.new) (λ _.
+    ensures entire { OnOk result (Appends (W.given writer.old) (W.given writer.new) bytes.now) }
+    ensures prefix { OnErr result (IfSome (W.given writer.new) (λ _.
         (n : ℕ) × Appends (W.given writer.old) (W.given writer.new) (take n bytes.now))) }
     ensures ok { OnOk result (W.failures writer.new ≡ W.failures writer.old) }
     ensures failed { OnErr result (W.failures writer.old < W.failures writer.new) }
@@ -55,8 +55,8 @@ pub fn write_all<W: Sink>(writer: &mut W, bytes: &[u8]) -> Result<(), Failed>
 
 /// Writes all of the bytes, as [`write_all`] does, and flushes the sink.
 pub fn write_and_flush<W: Sink>(writer: &mut W, bytes: &[u8]) -> Result<(), Failed>
-    ensures whole { OnOk result (Appends (W.given writer.old) (W.given writer.new) bytes.now) }
-    ensures beginning { OnErr result (IfSome (W.given writer.new) (λ _.
+    ensures entire { OnOk result (Appends (W.given writer.old) (W.given writer.new) bytes.now) }
+    ensures prefix { OnErr result (IfSome (W.given writer.new) (λ _.
         (n : ℕ) × Appends (W.given writer.old) (W.given writer.new) (take n bytes.now))) }
     ensures ok { OnOk result (W.failures writer.new ≡ W.failures writer.old) }
     ensures failed { OnErr result (W.failures writer.old < W.failures writer.new) }
@@ -94,7 +94,7 @@ impl<W> StdSink<W> {
     }
 }
 
-#[tactic(auto, using(crate::proofs::callers::Known::keeps_same, crate::proofs::callers::Known::keeps_then, crate::proofs::callers::Given::told_appends))]
+#[tactic(auto, using(crate::proofs::callers::Known::keeps_same, crate::proofs::callers::Known::keeps_then, crate::proofs::callers::Given::reported_appends))]
 impl<W: Write> Sink for StdSink<W> {
     ghost given = { sink_given W.contents };
 

@@ -58,7 +58,7 @@ impl<R> StdSource<R> {
     }
 }
 
-#[tactic(auto, using(crate::proofs::callers::Known::keeps_same, crate::proofs::callers::Known::keeps_then, crate::proofs::callers::Known::told_consumes))]
+#[tactic(auto, using(crate::proofs::callers::Known::keeps_same, crate::proofs::callers::Known::keeps_then, crate::proofs::callers::Known::reported_consumes))]
 impl<R: Read> Source for StdSource<R> {
     ghost remaining = { source_remaining R.remaining };
 

@@ -7,7 +7,7 @@ use keyspace::{Row, Span};
 
 /// What a frame says, as long as its keys lie in it.
 #[derive(Debug, Drop)]
-pub struct Tables {
+pub struct FrameTables {
     pub previous: i64,
     pub version: i64,
     pub received: i64,

@@ -3,7 +3,7 @@ use Rattle.std.proofs.Common.{◌≡◌, ℕ, ◌<◌, ◌≤◌, List, [], ◌�
 use Rattle.std.specs.Prelude.{Option, Some, None, IfNone}
 use Rattle.workload_program.specs.declared.plan.Plan.{Plan}
 use Rattle.workload_program.specs.declared.plan.TheConstants.{MAX_BATCHES, MAX_TRANSACTIONS}
-use Rattle.workload_program.specs.Words.{AskFor, IsNumberTo}
+use Rattle.workload_program.specs.Arguments.{AskFor, IsNumberTo}
 
 pub if_none : {T X : Type 0} (o : Option T) → X → IfNone o X
 if_none None x = x

@@ -51,14 +51,14 @@ write_breaks shape count number batches batch last before between (Some given) f
     let front = so_far.0 in
     let begun = take part.0 last in
     let left = drop part.0 last in
-    let whole : (front ++ begun) ++ left ≡ front ++ last =
+    let entire : (front ++ begun) ++ left ≡ front ++ last =
     append_assoc front begun left ∙ ap (λ (bytes : List ℕ). front ++ bytes) (take-append-drop part.0 last) in
     let least : suc number ≤ batches = omega (arith, few) in (
       suc number,
       least,
       front ++ begun,
       left,
-      (front, last, batch, whole, so_far.1, is_batch, spelled),
+      (front, last, batch, entire, so_far.1, is_batch, spelled),
       appends_then before between (Some given) front begun so_far.2 part.1,
     )
 
@@ -70,7 +70,7 @@ flush_breaks shape count batches before between None so_far kept = tt
 flush_breaks shape count batches None between (Some given) so_far kept =
     so_far_breaks shape count batches batches None (Some given) (omega arith) (so_far.0, so_far.1, tt)
 flush_breaks shape count batches (Some old) None (Some given) so_far kept = absurd so_far.2
-flush_breaks shape count batches (Some old) (Some told) (Some given) so_far kept =
+flush_breaks shape count batches (Some old) (Some reported) (Some given) so_far kept =
     so_far_breaks shape count batches batches (Some old) (Some given) (omega arith)
     (so_far.0, so_far.1, kept ∙ so_far.2)
 

@@ -30,13 +30,13 @@ lowest_in_order : (k n m : ℕ) → n ≤ m → n / 256 ^ k ≡ m / 256 ^ k
 lowest_in_order zero n m least same = refl
 lowest_in_order (suc k) n m least same =
     let rest = slice_cmp nat_cmp (bytes_high_first k m) (bytes_high_first k n) in
-    let alike : n / 256 ^ k / 256 ≡ m / 256 ^ k / 256 = sym (high_on k n) ∙ same ∙ high_on k m in
+    let same_above : n / 256 ^ k / 256 ≡ m / 256 ^ k / 256 = sym (high_on k n) ∙ same ∙ high_on k m in
     let rises = high_rises k n m least in
     let low = byte_is k n in
     let high = byte_is k m in
     elim (cases_lt (n / 256 ^ k) (m / 256 ^ k)) [
       | inl below ↦
-          let above : byte_at k n < byte_at k m = omega (arith, alike, below, low, high) in
+          let above : byte_at k n < byte_at k m = omega (arith, same_above, below, low, high) in
           subst (λ (o : Ordering). not (is_lt (ordering_then o rest)) ≡ true)
           (nat_cmp_is (byte_at k m) (byte_at k n) Greater above) refl
       | inr not_below ↦
@@ -51,12 +51,12 @@ pub keys_in_order : (n m : ℕ) → n ≤ m → m < 2 ^ 64 → IsAtMost (numbere
 keys_in_order n m least few = lowest_in_order 8 n m least (omega (arith, least, few))
 
 -- what follows a text isn't before it
-pub longer_behind : (key more : List ℕ) → IsAtMost key (key ++ more)
-longer_behind [] [] = refl
-longer_behind [] (x ∷ xs) = refl
-longer_behind (x ∷ xs) more =
+pub longer_after : (key more : List ℕ) → IsAtMost key (key ++ more)
+longer_after [] [] = refl
+longer_after [] (x ∷ xs) = refl
+longer_after (x ∷ xs) more =
     subst (λ (o : Ordering). not (is_lt (ordering_then o (slice_cmp nat_cmp (xs ++ more) xs))) ≡ true)
-    (nat_cmp_is x x Equal refl) (longer_behind xs more)
+    (nat_cmp_is x x Equal refl) (longer_after xs more)
 
 -- the ends of a range aren't inverted
 pub not_inverted : (begin end first second : List ℕ) → begin ≡ first → end ≡ second → IsAtMost first second

@@ -11,9 +11,9 @@ drawn_key SkipListTest state = number_below (keys_of SkipListTest) (state_after 
 drawn_key Points state = number_below (1 + number_below (keys_of Points) (state_after state)) (state_after (state_after state))
 
 -- the state after the draw of a key
-abbrev pub behind_key : Shape → ℕ → ℕ
-behind_key SkipListTest state = state_after state
-behind_key Points state = state_after (state_after state)
+abbrev pub after_key : Shape → ℕ → ℕ
+after_key SkipListTest state = state_after state
+after_key Points state = state_after (state_after state)
 
 -- how many batches back a transaction reads: 50, or any number from 1 to 8
 abbrev pub drawn_back : Shape → ℕ → ℕ
@@ -21,6 +21,6 @@ drawn_back SkipListTest state = 50
 drawn_back Points state = 1 + number_below 8 (state_after state)
 
 -- the state after that draw
-abbrev pub behind_back : Shape → ℕ → ℕ
-behind_back SkipListTest state = state
-behind_back Points state = state_after state
+abbrev pub after_back : Shape → ℕ → ℕ
+after_back SkipListTest state = state
+after_back Points state = state_after state

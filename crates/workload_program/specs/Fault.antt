@@ -15,8 +15,8 @@ line_of Limit = codes "workload: a batch is outside its limits\n"
 line_of Write = codes "workload: a write failed\n"
 
 -- the sink, between these bytes and these failures of it, was given the line, or it failed
-abbrev pub IsTold : List ℕ → Option (List ℕ) → Option (List ℕ) → ℕ → ℕ → Type 0
-IsTold line given_before given_after failures_before failures_after =
+abbrev pub IsReported : List ℕ → Option (List ℕ) → Option (List ℕ) → ℕ → ℕ → Type 0
+IsReported line given_before given_after failures_before failures_after =
     (failures_before < failures_after) ⊎ Appends given_before given_after line
 
 -- the line that tells which words are expected

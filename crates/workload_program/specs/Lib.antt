@@ -3,7 +3,7 @@ pub mod Versions
 pub mod Draws
 pub mod Txns
 pub mod Chain
-pub mod Words
+pub mod Arguments
 pub mod Command
 pub mod Fault
 pub mod Run

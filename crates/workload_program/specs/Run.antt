@@ -2,7 +2,7 @@
 use Rattle.std.specs.Prelude.{ℕ, List, Option}
 use Rattle.workload_program.specs.declared.plan.Plan.{Plan}
 use Rattle.workload_program.specs.Chain.{AreFrames, BreaksOff}
-use Rattle.workload_program.specs.Words.{AskFor}
+use Rattle.workload_program.specs.Arguments.{AskFor}
 
 -- the bytes are the frames that the words ask for
 abbrev pub AreAskedFor : List (List ℕ) → List ℕ → Type 0

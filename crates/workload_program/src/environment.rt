@@ -2,7 +2,7 @@
 
 ghost use Rattle.std.specs.Prelude.{◌≡◌, ◌<◌, ◌⊎◌, ℕ, List, IfErr};
 ghost use Rattle.std.specs.Io.KnownBytes.{Appends};
-ghost use Rattle.workload_program.specs.Fault.{IsTold, expected_line, line_of};
+ghost use Rattle.workload_program.specs.Fault.{IsReported, expected_line, line_of};
 ghost use Rattle.workload_program.specs.declared.fault.Fault.{Fault as FaultValue};
 
 use crate::fault::{Fault, fail};
@@ -20,16 +20,16 @@ pub fn run_in<R: Env + AllocGlobal, O: Sink, E: Sink>(rt: &R, out: &mut O, error
     ensures quiet { result ≡ 0 → E.given error.new ≡ E.given error.old }
     ensures nothing { result ≡ 2 → O.given out.new ≡ O.given out.old }
     ensures expected { result ≡ 2
-        → IsTold expected_line (E.given error.old) (E.given error.new) (E.failures error.old)
+        → IsReported expected_line (E.given error.old) (E.given error.new) (E.failures error.old)
         (E.failures error.new) }
     ensures failed { O.failures out.old < O.failures out.new → (result ≡ 1)
-        × IsTold (line_of Fault.Write) (E.given error.old) (E.given error.new)
+        × IsReported (line_of Fault.Write) (E.given error.old) (E.given error.new)
         (E.failures error.old) (E.failures error.new) }
     ensures memory { result ≡ 1 → (O.failures out.old < O.failures out.new)
-        ⊎ IsTold (line_of Fault.Memory) (E.given error.old) (E.given error.new)
+        ⊎ IsReported (line_of Fault.Memory) (E.given error.old) (E.given error.new)
         (E.failures error.old) (E.failures error.new) }
-    ensures told { result ≡ 1 → (fault : FaultValue)
-        × IsTold (line_of fault) (E.given error.old) (E.given error.new) (E.failures error.old)
+    ensures reported { result ≡ 1 → (fault : FaultValue)
+        × IsReported (line_of fault) (E.given error.old) (E.given error.new) (E.failures error.old)
         (E.failures error.new) }
 {
     match command_line(rt) {

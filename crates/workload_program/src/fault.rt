@@ -1,7 +1,7 @@
 //! Why a file could not be written in full.
 
 ghost use Rattle.std.specs.Prelude.{◌≡◌};
-ghost use Rattle.workload_program.specs.Fault.{IsTold, line_of, of_frame, of_limit};
+ghost use Rattle.workload_program.specs.Fault.{IsReported, line_of, of_frame, of_limit};
 ghost use Rattle.workload_program.specs.declared.fault.Fault.TheVariants.{Limit, Memory, Write};
 
 use keyspace::{KeyError, LimitError};
@@ -35,7 +35,7 @@ impl Fault {
 /// Tells the fault, and returns the exit code. A failed write changes nothing. Takes no memory.
 pub fn fail<E: Sink>(error: &mut E, fault: Fault) -> u8
     ensures code { result ≡ 1 }
-    ensures told { IsTold (line_of fault) (E.given error.old) (E.given error.new)
+    ensures reported { IsReported (line_of fault) (E.given error.old) (E.given error.new)
         (E.failures error.old) (E.failures error.new) }
 {
     let _ = write_all(error, fault.line().as_bytes());

@@ -3,10 +3,10 @@
 ghost use Rattle.std.specs.Prelude.{◌≡◌, ◌≢◌, ◌⊎◌, ◌<◌, ◌≤◌, ℕ, List, true, false, length, map};
 ghost use Rattle.std.specs.Prelude.{string_bytes, Ok, Err, IfErr, IfOk, OnErr, OnOk};
 ghost use Rattle.std.specs.Io.KnownBytes.{Appends};
-ghost use Rattle.workload_program.specs.Fault.{IsTold, line_of, expected_line};
+ghost use Rattle.workload_program.specs.Fault.{IsReported, line_of, expected_line};
 ghost use Rattle.workload_program.specs.Command.{AsksForText, AsksForTextAlone};
 ghost use Rattle.workload_program.specs.Run.{AreAskedFor, AskForNothing, BreakOffAsked};
-ghost use Rattle.workload_program.specs.Words.{usage_lines};
+ghost use Rattle.workload_program.specs.Arguments.{usage_lines};
 ghost use Rattle.workload_program.specs.declared.fault.Fault.{Fault as FaultValue};
 
 use crate::fault::{Fault, fail};
@@ -67,18 +67,18 @@ fn answer<O: Sink, E: Sink>(alloc: Global, words: &[String], out: &mut O, error:
         ⊎ (result ≡ 1) }
     ensures refused { ¬ AsksForText (map string_bytes words.entry.now) → (result ≡ 2)
         ⊎ ((result ≡ 1)
-        × IsTold (line_of Fault.Memory) (E.given error.old) (E.given error.new)
+        × IsReported (line_of Fault.Memory) (E.given error.old) (E.given error.new)
         (E.failures error.old) (E.failures error.new)) }
     ensures code { (result ≡ 0) ⊎ ((result ≡ 1) ⊎ (result ≡ 2)) }
     ensures nothing { result ≡ 2 → O.given out.new ≡ O.given out.old }
     ensures expected { result ≡ 2
-        → IsTold expected_line (E.given error.old) (E.given error.new) (E.failures error.old)
+        → IsReported expected_line (E.given error.old) (E.given error.new) (E.failures error.old)
         (E.failures error.new) }
     ensures failed { O.failures out.old < O.failures out.new → (result ≡ 1)
-        × IsTold (line_of Fault.Write) (E.given error.old) (E.given error.new)
+        × IsReported (line_of Fault.Write) (E.given error.old) (E.given error.new)
         (E.failures error.old) (E.failures error.new) }
     ensures memory { result ≡ 1 → (O.failures out.old < O.failures out.new)
-        ⊎ IsTold (line_of Fault.Memory) (E.given error.old) (E.given error.new)
+        ⊎ IsReported (line_of Fault.Memory) (E.given error.old) (E.given error.new)
         (E.failures error.old) (E.failures error.new) }
 {
     match asked_text(alloc, words) {
@@ -112,22 +112,22 @@ pub fn run<O: Sink, E: Sink>(alloc: Global, words: &[String], out: &mut O, error
         → (2 ≤ length words.entry.now) × AskForNothing (map string_bytes words.entry.now) }
     ensures refused { 2 ≤ length words.entry.now → AskForNothing (map string_bytes words.entry.now)
         → ¬ AsksForText (map string_bytes words.entry.now) → (result ≡ 2) ⊎ ((result ≡ 1)
-        × IsTold (line_of Fault.Memory) (E.given error.old) (E.given error.new)
+        × IsReported (line_of Fault.Memory) (E.given error.old) (E.given error.new)
         (E.failures error.old) (E.failures error.new)) }
     ensures code { (result ≡ 0) ⊎ ((result ≡ 1) ⊎ (result ≡ 2)) }
     ensures quiet { result ≡ 0 → E.given error.new ≡ E.given error.old }
     ensures nothing { result ≡ 2 → O.given out.new ≡ O.given out.old }
     ensures expected { result ≡ 2
-        → IsTold expected_line (E.given error.old) (E.given error.new) (E.failures error.old)
+        → IsReported expected_line (E.given error.old) (E.given error.new) (E.failures error.old)
         (E.failures error.new) }
     ensures failed { O.failures out.old < O.failures out.new → (result ≡ 1)
-        × IsTold (line_of Fault.Write) (E.given error.old) (E.given error.new)
+        × IsReported (line_of Fault.Write) (E.given error.old) (E.given error.new)
         (E.failures error.old) (E.failures error.new) }
     ensures memory { result ≡ 1 → (O.failures out.old < O.failures out.new)
-        ⊎ IsTold (line_of Fault.Memory) (E.given error.old) (E.given error.new)
+        ⊎ IsReported (line_of Fault.Memory) (E.given error.old) (E.given error.new)
         (E.failures error.old) (E.failures error.new) }
-    ensures told { result ≡ 1 → (fault : FaultValue)
-        × IsTold (line_of fault) (E.given error.old) (E.given error.new) (E.failures error.old)
+    ensures reported { result ≡ 1 → (fault : FaultValue)
+        × IsReported (line_of fault) (E.given error.old) (E.given error.new) (E.failures error.old)
         (E.failures error.new) }
 {
     match write_asked(alloc, words, out) {

@@ -2,10 +2,10 @@
 
 ghost use Rattle.std.specs.Prelude.{◌≡◌, ◌≢◌, ◌≤◌, ◌<◌, IfSome, IfNone};
 ghost use Rattle.workload_program.specs.Versions.{reads_of, writes_of, keys_of};
-ghost use Rattle.workload_program.specs.Draws.{behind_back, behind_key, drawn_back, drawn_key};
+ghost use Rattle.workload_program.specs.Draws.{after_back, after_key, drawn_back, drawn_key};
 ghost use Rattle.workload_program.specs.Random.{state_of};
 ghost use Rattle.workload_program.specs.Txns.{LooksBack};
-ghost use Rattle.workload_program.specs.Words.{name_of};
+ghost use Rattle.workload_program.specs.Arguments.{name_of};
 
 use crate::random::Random;
 
@@ -62,7 +62,7 @@ impl Shape {
         ensures back { LooksBack self result }
         ensures some { 1 ≤ result }
         ensures drawn { result ≡ drawn_back self (state_of random.old) }
-        ensures state { state_of random.new ≡ behind_back self (state_of random.old) }
+        ensures state { state_of random.new ≡ after_back self (state_of random.old) }
     {
         match self {
             Shape::SkipListTest => 50,
@@ -74,7 +74,7 @@ impl Shape {
     pub fn draw(self, random: &mut Random) -> u64
         ensures few { result < keys_of self }
         ensures drawn { result ≡ drawn_key self (state_of random.old) }
-        ensures state { state_of random.new ≡ behind_key self (state_of random.old) }
+        ensures state { state_of random.new ≡ after_key self (state_of random.old) }
     {
         match self {
             Shape::SkipListTest => random.below(RANGE_KEYS),

@@ -2,9 +2,9 @@
 
 ghost use Rattle.std.specs.Prelude.{◌≡◌, ℕ, IfErr, IfOk, IfSome, IfNone, IsSome, map, string_bytes};
 ghost use Rattle.workload_program.specs.Command.{AsksForText, AsksForTextAlone};
-ghost use Rattle.workload_program.specs.Fault.{IsTold, expected_line};
+ghost use Rattle.workload_program.specs.Fault.{IsReported, expected_line};
 ghost use Rattle.workload_program.specs.declared.plan.Plan.{Plan as PlanValue};
-ghost use Rattle.workload_program.specs.Words.{AskFor, IsNumberTo};
+ghost use Rattle.workload_program.specs.Arguments.{AskFor, IsNumberTo};
 
 use crate::command::command;
 use crate::fault::Fault;
@@ -62,7 +62,7 @@ fn read_number(text: &str, most: u64) -> Option<u64>
 /// nothing.
 pub fn refuse<E: Sink>(error: &mut E) -> u8
     ensures code { result ≡ 2 }
-    ensures told { IsTold expected_line (E.given error.old) (E.given error.new)
+    ensures reported { IsReported expected_line (E.given error.old) (E.given error.new)
         (E.failures error.old) (E.failures error.new) }
 {
     let _ = write_all(error, EXPECTED.as_bytes());

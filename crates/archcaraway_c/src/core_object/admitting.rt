@@ -3,7 +3,7 @@
 ghost use Rattle.std.specs.Prelude.{◌≡◌, ◌<◌, ◌↔◌, None, Err, length, IsTrue, IfSome, IfErr, OnOk};
 ghost use Rattle.keyspace.specs.declared.batch.Batch.{Batch};
 ghost use Rattle.keyspace.specs.Versions.{AreVersions};
-ghost use Rattle.resolver.specs.Core.{GoesOn};
+ghost use Rattle.resolver.specs.Core.{Continues};
 ghost use Rattle.archcaraway_c.specs.BatchObject.{IsBatchOf};
 ghost use Rattle.archcaraway_c.specs.CoreObject.{Admits, IsGateFull};
 ghost use Rattle.archcaraway_c.specs.Judging.{AdmitRefuses};
@@ -32,13 +32,14 @@ impl CoreObject {
         ensures admitted { OnOk result ((taken : Batch)
             × IsBatchOf previous version received batch.now taken
             × Admits self.old.core proxy taken self.new.core × (¬ IsGateFull self.old.core taken)) }
-        ensures goes_on { OnOk result ((self.old.core.stop ≡ None) × (self.new.core.stop ≡ None)) }
+        ensures continues { OnOk result ((self.old.core.stop ≡ None)
+            × (self.new.core.stop ≡ None)) }
         ensures refused { IfErr result (λ refusal.
             AdmitRefuses self.old self.new proxy previous version received batch.now refusal) }
         ensures stopped { proxy < length self.old.waiting
             → IfSome self.old.core.stop (λ stop. result ≡ Err (Refusal.Stop stop)) }
         ensures waiting { self.new.waiting ≡ self.old.waiting }
-        ensures same { GoesOn self.old.core self.new.core }
+        ensures same { Continues self.old.core self.new.core }
     {
         let number = match self.known(proxy) {
             Ok(number) => number,

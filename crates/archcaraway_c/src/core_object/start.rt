@@ -29,7 +29,7 @@ impl CoreObject {
     ) -> Result<Self, Refusal>
         ensures stands { IfOk result (λ object.
             Stands object.core (opening_log proxies version) (λ _. [])) }
-        ensures goes_on { IfOk result (λ object. object.core.stop ≡ None) }
+        ensures continues { IfOk result (λ object. object.core.stop ≡ None) }
         ensures waiting { IfOk result (λ object. object.waiting ≡ replicate proxies None) }
         ensures window { IfOk result (λ object. object.core.set.window ≡ window) }
         ensures limit { IfOk result (λ object. object.core.set.map.limit ≡ limit) }

@@ -62,7 +62,7 @@ impl SetObject {
 
     // Returns whether the version is negative, or not above that of the batch resolved last.
     fn is_past(&self, version: i64) -> bool
-        requires goes_on { self.now.stop ≡ None }
+        requires continues { self.now.stop ≡ None }
         ensures past { IsTrue result ↔ ((version <ℤ pos 0) ⊎ (version ≤ℤ self.now.resolved)) }
     {
         version < 0 || version <= self.resolved
@@ -75,7 +75,7 @@ impl SetObject {
         verdicts: &mut [u8],
         when_full: WhenFull,
     ) -> Result<(), Refusal>
-        requires goes_on { self.old.stop ≡ None }
+        requires continues { self.old.stop ≡ None }
         requires rising { self.old.resolved <ℤ batch.now.version }
         requires room { length batch.now.txns ≤ length verdicts.old }
         ensures judges { OnOk result (JudgesBatch self.old self.new batch.now

@@ -21,7 +21,7 @@ impl SetObject {
         ensures resolved { IfOk result (λ object. object.resolved ≡ version) }
         ensures window { IfOk result (λ object. object.window ≡ window) }
         ensures limit { IfOk result (λ object. object.map.limit ≡ limit) }
-        ensures goes_on { IfOk result (λ object. object.stop ≡ None) }
+        ensures continues { IfOk result (λ object. object.stop ≡ None) }
         ensures within { IfOk result (λ _. AreSetNumbersAt window limit version) }
         ensures room { IfOk result (λ _. ¬ IsTooSmall limit version) }
         ensures refused { IfErr result (λ refusal. SetStartRefuses window limit version refusal) }

@@ -4,18 +4,18 @@ use Rattle.std.proofs.Common.{refl, ap, sym, ◌∙◌, add-one, inl, inr, arith
 use Rattle.keyspace.specs.declared.reply.Reply.{Reply}
 use Rattle.checking.specs.Check.{TakesMemory, count_at}
 
-behind_first : {X : Type 0} (xs : List X) (place : ℕ) (x : X) (rest : List X) → x ∷ rest ≡ drop place xs
+after_first : {X : Type 0} (xs : List X) (place : ℕ) (x : X) (rest : List X) → x ∷ rest ≡ drop place xs
     → rest ≡ drop (suc place) xs
-behind_first [] zero x rest is = cc
-behind_first [] (suc place) x rest is = cc
-behind_first (y ∷ ys) zero x rest is = ap (drop 1) is
-behind_first (y ∷ ys) (suc place) x rest is = behind_first ys place x rest is
+after_first [] zero x rest is = cc
+after_first [] (suc place) x rest is = cc
+after_first (y ∷ ys) zero x rest is = ap (drop 1) is
+after_first (y ∷ ys) (suc place) x rest is = after_first ys place x rest is
 
 -- the same, one place on
-pub left_behind : {X : Type 0} (xs : List X) (place : ℕ) (x : X) (rest left : List X) → left ≡ x ∷ rest → left ≡ drop place xs
+pub left_after : {X : Type 0} (xs : List X) (place : ℕ) (x : X) (rest left : List X) → left ≡ x ∷ rest → left ≡ drop place xs
     → rest ≡ drop (place + 1) xs
-left_behind xs place x rest left first is =
-    behind_first xs place x rest (sym first ∙ is) ∙ ap (λ n. drop n xs) (sym (add-one place))
+left_after xs place x rest left first is =
+    after_first xs place x rest (sym first ∙ is) ∙ ap (λ n. drop n xs) (sym (add-one place))
 
 count_first : {W X : Type 0} (view : W → List X) (ws : List W) (place : ℕ) (w : W) (rest : List W) → w ∷ rest ≡ drop place ws
     → count_at (map view ws) place ≡ length (view w)
@@ -32,6 +32,6 @@ count_at_left view ws place w rest left first is = count_first view ws place w r
 -- one of the two lists at the place isn't empty
 pub takes_at : (expected recorded : List (List Reply)) (proxy n m : ℕ) → count_at expected proxy ≡ n → count_at recorded proxy ≡ m
     → (n ≡ 0 → m ≡ 0 → ⊥) → TakesMemory expected recorded proxy
-takes_at expected recorded proxy zero zero so_many others some = absurd (some refl refl)
-takes_at expected recorded proxy (suc n) m so_many others some = inl (omega (arith, so_many))
-takes_at expected recorded proxy zero (suc m) so_many others some = inr (inl (omega (arith, others)))
+takes_at expected recorded proxy zero zero count others some = absurd (some refl refl)
+takes_at expected recorded proxy (suc n) m count others some = inl (omega (arith, count))
+takes_at expected recorded proxy zero (suc m) count others some = inr (inl (omega (arith, others)))

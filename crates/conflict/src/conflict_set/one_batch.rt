@@ -48,7 +48,7 @@ impl ConflictSet {
         ensures unresolved { OnErr result (self.new.resolved ≡ self.old.resolved) }
         ensures window { self.new.window ≡ self.old.window }
         ensures limit { self.new.map.limit ≡ self.old.map.limit }
-        ensures goes_on { OnOk result ((self.old.stop ≡ None) × (self.new.stop ≡ None)) }
+        ensures continues { OnOk result ((self.old.stop ≡ None) × (self.new.stop ≡ None)) }
         ensures refused { when_full ≡ WhenFull.Refuse → result ≡ Err SetStop.ArenaFull
             → self.new ≡ self.old }
         ensures stops { when_full ≡ WhenFull.Stop

@@ -42,7 +42,7 @@ impl ConflictSet {
         ensures unresolved { OnErr result (self.new.resolved ≡ self.old.resolved) }
         ensures window { self.new.window ≡ self.old.window }
         ensures limit { self.new.map.limit ≡ self.old.map.limit }
-        ensures goes_on { OnOk result ((self.old.stop ≡ None) × (self.new.stop ≡ None)) }
+        ensures continues { OnOk result ((self.old.stop ≡ None) × (self.new.stop ≡ None)) }
         ensures stops { IfErr result (λ stop. self.new.stop ≡ Some stop) }
         ensures stopped { IfSome self.old.stop (λ stop. (result ≡ Err stop)
             × (self.new ≡ self.old)) }
@@ -110,7 +110,7 @@ impl ConflictSet {
         ensures unresolved { OnErr result (self.new.resolved ≡ self.old.resolved) }
         ensures window { self.new.window ≡ self.old.window }
         ensures limit { self.new.map.limit ≡ self.old.map.limit }
-        ensures goes_on { OnOk result ((self.old.stop ≡ None) × (self.new.stop ≡ None)) }
+        ensures continues { OnOk result ((self.old.stop ≡ None) × (self.new.stop ≡ None)) }
         ensures refused { result ≡ Err SetStop.ArenaFull → self.new ≡ self.old }
         ensures stops { result ≡ Err SetStop.Memory → self.new.stop ≡ Some SetStop.Memory }
         ensures stopped { IfSome self.old.stop (λ stop. (result ≡ Err stop)

@@ -80,8 +80,8 @@ after_by_first x y a b greater =
     ap (λ o. is_lt (ordering_then o (slice_cmp nat_cmp a b))) (sym (nat_cmp_is x y Greater greater))
 
 -- behind equal first bytes the others decide
-pub before_behind_first : (x : ℕ) (a b : List ℕ) → is_before (x ∷ a) (x ∷ b) ≡ is_before a b
-before_behind_first x a b =
+pub before_after_first : (x : ℕ) (a b : List ℕ) → is_before (x ∷ a) (x ∷ b) ≡ is_before a b
+before_after_first x a b =
     ap (λ o. is_lt (ordering_then o (slice_cmp nat_cmp a b))) (sym (nat_cmp_is x x Equal refl))
 
 -- the first n bytes as one number, the first byte the highest; missing bytes count as zeros
@@ -114,7 +114,7 @@ number_of-less (suc n) [] (y ∷ b) a_bytes b_bytes less = refl
 number_of-less (suc n) (x ∷ a) [] a_bytes b_bytes less = absurd (omega arith)
 number_of-less (suc n) (x ∷ a) (y ∷ b) a_bytes b_bytes less =
     elim (cases_order x y) [
-      | inl e ↦ ap (λ z. is_before (x ∷ a) (z ∷ b)) (sym e) ∙ before_behind_first x a b
+      | inl e ↦ ap (λ z. is_before (x ∷ a) (z ∷ b)) (sym e) ∙ before_after_first x a b
           ∙ number_of-less n a b (All-tail IsByte x a a_bytes) (All-tail IsByte y b b_bytes)
           (omega (arith, ap (λ z. z * 256 ^ n) e))
       | inr apart ↦ elim apart [
@@ -209,9 +209,9 @@ head_same_long a b a_bytes b_bytes same a_long b_long =
     ∙ take-append-le 8 b (replicate 8 0) b_long
 
 -- lists that agree at each of the first places begin alike
-pub begin_alike : (n : ℕ) (a b : List ℕ) → n ≤ length a → n ≤ length b
+pub have_same_begin : (n : ℕ) (a b : List ℕ) → n ≤ length a → n ≤ length b
     → ((k : ℕ) → k < n → slice_index a k ≡ slice_index b k) → take n a ≡ take n b
-begin_alike n a b in_a in_b same =
+have_same_begin n a b in_a in_b same =
     let a_length : length (take n a) ≡ n = length-take-le n a in_a in
     let b_length : length (take n b) ≡ n = length-take-le n b in_b in
     let same_at : (i : ℕ) → i < n → get_or (take n a) i 0 ≡ get_or (take n b) i 0 =
@@ -219,28 +219,28 @@ begin_alike n a b in_a in_b same =
     ext_get_or 0 (take n a) (take n b) (a_length ∙ sym b_length) (λ i below. same_at i (omega arith))
 
 -- keys that begin alike are compared by what stands behind
-pub behind_common : (n : ℕ) (a b : List ℕ) → n ≤ length a → n ≤ length b → take n a ≡ take n b
+pub after_common : (n : ℕ) (a b : List ℕ) → n ≤ length a → n ≤ length b → take n a ≡ take n b
     → is_before a b ≡ is_before (drop n a) (drop n b)
-behind_common zero a b in_a in_b same = refl
-behind_common (suc n) [] b in_a in_b same = absurd (omega arith)
-behind_common (suc n) (x ∷ a) [] in_a in_b same = absurd (omega arith)
-behind_common (suc n) (x ∷ a) (y ∷ b) in_a in_b same =
+after_common zero a b in_a in_b same = refl
+after_common (suc n) [] b in_a in_b same = absurd (omega arith)
+after_common (suc n) (x ∷ a) [] in_a in_b same = absurd (omega arith)
+after_common (suc n) (x ∷ a) (y ∷ b) in_a in_b same =
     let first : x ≡ y = cc in
     let others : take n a ≡ take n b = cc in
-    rw (← first) (before_behind_first x a b) ∙ behind_common n a b (omega arith) (omega arith) others
+    rw (← first) (before_after_first x a b) ∙ after_common n a b (omega arith) (omega arith) others
 
 -- a key that ends where another goes on comes before it
-pub behind_shorter : (n : ℕ) (a b : List ℕ) → length a ≡ n → n < length b → take n a ≡ take n b → IsBefore a b
-behind_shorter n a b a_length in_b same =
-    behind_common n a b (omega arith) (omega arith) same
+pub after_shorter : (n : ℕ) (a b : List ℕ) → length a ≡ n → n < length b → take n a ≡ take n b → IsBefore a b
+after_shorter n a b a_length in_b same =
+    after_common n a b (omega arith) (omega arith) same
     ∙ ap (λ rest. is_before rest (drop n b)) (drop_of_length-le a (omega arith))
     ∙ ap (λ rest. is_before [] rest) (drop_more b n 0 in_b)
 
 -- the first bytes that differ decide
-pub behind_differing : (n : ℕ) (a b : List ℕ) → n < length a → n < length b → take n a ≡ take n b
+pub after_differing : (n : ℕ) (a b : List ℕ) → n < length a → n < length b → take n a ≡ take n b
     → slice_index a n < slice_index b n → IsBefore a b
-behind_differing n a b in_a in_b same less =
-    behind_common n a b (omega arith) (omega arith) same
+after_differing n a b in_a in_b same less =
+    after_common n a b (omega arith) (omega arith) same
     ∙ ap (λ rest. is_before rest (drop n b)) (drop_more a n 0 in_a)
     ∙ ap (λ rest. is_before (get_or a n 0 ∷ drop (n + 1) a) rest) (drop_more b n 0 in_b)
     ∙ before_by_first (get_or a n 0) (get_or b n 0) (drop (n + 1) a) (drop (n + 1) b) less

@@ -3,7 +3,7 @@
 ghost use Rattle.std.specs.Prelude.{◌≡◌, IfOk, IfSome, OnErr};
 ghost use Rattle.clap.specs.Words.{found_of, rows_of};
 ghost use Rattle.replay_arguments.specs.Asked.{HoldsAsked};
-ghost use Rattle.replay_arguments.specs.Words.{HasNumbers, HoldsNumbers, IsOfNoUse};
+ghost use Rattle.replay_arguments.specs.Arguments.{HasNumbers, HoldsNumbers, IsOfNoUse};
 
 use crate::arguments::details::{Details, details_of};
 use crate::arguments::mistake::Mistake;

@@ -295,7 +295,7 @@ fn verbose<'a>(alloc: Global) -> Arg<'a>
     Arg::new(alloc, "verbose")
         .long("verbose")
         .action(ArgAction::SetTrue)
-        .help("Adds a line to a failure: what was found, and what to do")
+        .help("Adds a line to a failure, or if all batches are held: what was found and what to do")
 }
 
 fn file<'a>(alloc: Global) -> Arg<'a>

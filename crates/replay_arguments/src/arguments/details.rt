@@ -3,8 +3,9 @@
 ghost use Rattle.std.specs.Prelude.{◌≡◌, ◌↔◌, ℕ, IfOk, IfSome, IsTrue, OnErr, is_some, true};
 ghost use Rattle.clap.specs.Words.{found_of, rows_of};
 ghost use Rattle.replay_arguments.specs.Details.{HoldsDetails};
-ghost use Rattle.replay_arguments.specs.Words.{DetailsNothing, HasTop, HasVerbose, HoldsSummary};
-ghost use Rattle.replay_arguments.specs.Words.{HoldsTop, HoldsVerbose, IsSummarized, IsTopOf};
+ghost use Rattle.replay_arguments.specs.Arguments.{DetailsNothing, HasTop, HasVerbose};
+ghost use Rattle.replay_arguments.specs.Arguments.{HoldsSummary};
+ghost use Rattle.replay_arguments.specs.Arguments.{HoldsTop, HoldsVerbose, IsSummarized, IsTopOf};
 
 use crate::arguments::mistake::Mistake;
 use crate::arguments::printing::Printing;

@@ -2,8 +2,9 @@
 
 ghost use Rattle.std.specs.Prelude.{◌≡◌, ◌↔◌, ◌⊎◌, IfSome, IsTrue, false, true};
 ghost use Rattle.clap.specs.Words.{found_of, rows_of};
-ghost use Rattle.replay_arguments.specs.Words.{HasExplain, HoldsExplain, HoldsForm, HoldsStream};
-ghost use Rattle.replay_arguments.specs.Words.{HoldsSummary, IsPlain};
+ghost use Rattle.replay_arguments.specs.Arguments.{HasExplain, HoldsExplain, HoldsForm};
+ghost use Rattle.replay_arguments.specs.Arguments.{HoldsStream};
+ghost use Rattle.replay_arguments.specs.Arguments.{HoldsSummary, IsPlain};
 
 use clap::ArgMatches;
 use replay_output::Form;

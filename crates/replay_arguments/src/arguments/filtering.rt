@@ -3,18 +3,18 @@
 ghost use Rattle.std.specs.Prelude.{◌≡◌, ◌↔◌, ℤ, IfOk, IfSome, OnErr, OnOk, Option, false, is_some};
 ghost use Rattle.std.specs.Prelude.{option_map};
 ghost use Rattle.clap.specs.Words.{found_of, rows_of};
-ghost use Rattle.replay_arguments.specs.Words.{AreVersions, AsksForAll, HasFilter, HoldsFilter};
-ghost use Rattle.replay_arguments.specs.Words.{HoldsForm, IsEnd, IsVersions, verdict_name};
+ghost use Rattle.replay_arguments.specs.Arguments.{AreVersions, AsksForAll, HasFilter, HoldsFilter};
+ghost use Rattle.replay_arguments.specs.Arguments.{HoldsForm, IsEnd, IsVersions, verdict_name};
 ghost use Rattle.keyspace.specs.declared.reply.Verdict.{Verdict as VerdictValue};
 
 use crate::arguments::mistake::Mistake;
 use clap::ArgMatches;
 use keyspace::Verdict;
-use replay_output::{Filter, Form};
+use replay_output::{Form, LineFilter};
 
 /// Returns the filter of the lines that are requested. An error is a text that is no verdict or no
 /// range of versions, or a filter beside a comparison.
-pub fn filter_of(matches: &ArgMatches, form: Form) -> Result<Filter, Mistake>
+pub fn filter_of(matches: &ArgMatches, form: Form) -> Result<LineFilter, Mistake>
     ensures filter { IfOk result (HoldsFilter (rows_of (found_of matches.now))) }
     ensures all { OnOk result (form ≡ Form.Kept → AsksForAll (rows_of (found_of matches.now))) }
     ensures err { OnErr result (HoldsForm (rows_of (found_of matches.now)) form
@@ -33,7 +33,7 @@ pub fn filter_of(matches: &ArgMatches, form: Form) -> Result<Filter, Mistake>
     if form.is_kept() && is_filtered(quiet, name, text) {
         return Err(Mistake::FilterOfCheck);
     }
-    Ok(Filter {
+    Ok(LineFilter {
         quiet,
         only,
         least,

@@ -2,7 +2,8 @@
 
 ghost use Rattle.std.specs.Prelude.{◌≡◌, ◌↔◌, ◌+◌, ◌≤◌, IsTrue, map, option_map};
 ghost use Rattle.clap.specs.Words.{found_of, rows_of};
-ghost use Rattle.replay_arguments.specs.Words.{HasInputOnce, count_inputs, inputs_in, inputs_of};
+ghost use Rattle.replay_arguments.specs.Arguments.{HasInputOnce, count_inputs, inputs_in};
+ghost use Rattle.replay_arguments.specs.Arguments.{inputs_of};
 
 use crate::opening::STANDARD_INPUT;
 use clap::ArgMatches;

@@ -1,10 +1,10 @@
 //! Mistakes in arguments that `clap` has taken.
 
 ghost use Rattle.std.specs.Prelude.{IfOk};
-ghost use Rattle.replay_arguments.specs.Words.{IsRefusalOf};
+ghost use Rattle.replay_arguments.specs.Arguments.{IsRefusalOf};
 
 use crate::arguments::command::command;
-use crate::arguments::refusal::Refusal;
+use crate::arguments::refusal::ArgumentsRefusal;
 use clap::error::ErrorKind;
 use std::alloc::{AllocError, Global};
 
@@ -59,11 +59,11 @@ pub enum Mistake {
 
 impl Mistake {
     /// Returns the refusal that says what is wanted.
-    pub fn refuse(self, alloc: Global) -> Result<Refusal, AllocError>
+    pub fn refuse(self, alloc: Global) -> Result<ArgumentsRefusal, AllocError>
         ensures refusal { IfOk result (IsRefusalOf ErrorKind.ArgumentConflict) }
     {
         let error = command(alloc)?.error(ErrorKind::ArgumentConflict, self.message())?;
-        Refusal::of_clap(alloc, &error)
+        ArgumentsRefusal::of_clap(alloc, &error)
     }
 
     fn message(self) -> &'static str {

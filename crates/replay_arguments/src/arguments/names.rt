@@ -4,9 +4,9 @@ ghost use Rattle.std.specs.Prelude.{◌≡◌, ◌≤◌, ◌⊎◌, [], IfOk, I
 ghost use Rattle.std.specs.Prelude.{is_some, length, map, true};
 ghost use Rattle.clap.specs.Words.{all_of, found_of, rows_of};
 ghost use Rattle.replay_arguments.specs.Names.{HoldsNames};
-ghost use Rattle.replay_arguments.specs.Words.{HasFiles, HasRecords, HasReplies, HoldsExplain};
-ghost use Rattle.replay_arguments.specs.Words.{HoldsForm, HoldsStream, HoldsSummary};
-ghost use Rattle.replay_arguments.specs.Words.{NamesNothing, named};
+ghost use Rattle.replay_arguments.specs.Arguments.{HasFiles, HasRecords, HasReplies, HoldsExplain};
+ghost use Rattle.replay_arguments.specs.Arguments.{HoldsForm, HoldsStream, HoldsSummary};
+ghost use Rattle.replay_arguments.specs.Arguments.{NamesNothing, named};
 
 use crate::arguments::input::has_input_once;
 use crate::arguments::kept_inputs::writes_input;

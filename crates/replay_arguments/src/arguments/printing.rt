@@ -3,8 +3,8 @@
 ghost use Rattle.std.specs.Prelude.{◌≡◌, ◌≢◌, IfOk, IfSome, OnErr, true};
 ghost use Rattle.clap.specs.Words.{found_of, rows_of};
 ghost use Rattle.replay_arguments.specs.Printing.{HoldsPrinting};
-ghost use Rattle.replay_arguments.specs.Words.{HasForm, HasStream, HoldsForm, HoldsStream};
-ghost use Rattle.replay_arguments.specs.Words.{IsFormOf, PrintsNothing};
+ghost use Rattle.replay_arguments.specs.Arguments.{HasForm, HasStream, HoldsForm, HoldsStream};
+ghost use Rattle.replay_arguments.specs.Arguments.{IsFormOf, PrintsNothing};
 ghost use Rattle.replay_output.specs.declared.options.form.Form.{Form as FormValue};
 
 use crate::arguments::explaining::explains;

@@ -4,7 +4,7 @@ ghost use Rattle.std.specs.Prelude.{◌≡◌, ◌≢◌, ◌↔◌, ◌⊎◌, 
 ghost use Rattle.std.specs.Io.KnownBytes.{Appends};
 ghost use Rattle.clap.specs.Words.{kind_of};
 ghost use Rattle.replay_output.specs.Start.{start_line};
-ghost use Rattle.replay_arguments.specs.Words.{IsRefusalOf};
+ghost use Rattle.replay_arguments.specs.Arguments.{IsRefusalOf};
 ghost use Rattle.replay_output.specs.declared.start.StartError.TheVariants as start;
 
 use clap::error::ErrorKind;
@@ -14,7 +14,7 @@ use wire::{Failed, Sink, write_all};
 
 /// Why nothing is replayed.
 #[derive(Debug, Drop)]
-pub enum Refusal {
+pub enum ArgumentsRefusal {
     /// Help or the version was asked for: the text for standard output.
     Shown(String),
     /// The command line was refused: the text for standard error.
@@ -23,62 +23,63 @@ pub enum Refusal {
     Memory,
 }
 
-impl From<AllocError> for Refusal {
-    ghost use Rattle.replay_arguments.specs.declared.arguments.refusal.Refusal.TheVariants.{Memory};
+impl From<AllocError> for ArgumentsRefusal {
+    ghost use Rattle.replay_arguments.specs.declared.arguments.refusal.ArgumentsRefusal.TheVariants.{Memory};
 
     ghost from_gives = { λ _ refusal. refusal ≡ Memory };
 
-    fn from(_refused: AllocError) -> Refusal {
-        Refusal::Memory
+    fn from(_refused: AllocError) -> ArgumentsRefusal {
+        ArgumentsRefusal::Memory
     }
 }
 
-impl Refusal {
+impl ArgumentsRefusal {
     /// Returns what the program makes of an error of `clap`. An error is that memory was refused
     /// for its text.
     pub fn of_clap(alloc: Global, error: &clap::Error) -> Result<Self, AllocError>
         ensures kind { IfOk result (IsRefusalOf (kind_of error.now)) }
-        ensures memory { IfOk result (λ refusal. refusal ≡ Refusal.Memory
+        ensures memory { IfOk result (λ refusal. refusal ≡ ArgumentsRefusal.Memory
             ↔ kind_of error.now ≡ ErrorKind.OutOfMemory) }
     {
         if error.kind() == ErrorKind::OutOfMemory {
-            return Ok(Refusal::Memory);
+            return Ok(ArgumentsRefusal::Memory);
         }
         let text = error.to_string(alloc)?;
         if error.use_stderr() {
-            Ok(Refusal::Refused(text))
+            Ok(ArgumentsRefusal::Refused(text))
         } else {
-            Ok(Refusal::Shown(text))
+            Ok(ArgumentsRefusal::Shown(text))
         }
     }
 
     /// Prints the text, and returns how the program ends. A failed write to `error` changes
     /// nothing.
     pub fn end<O: Sink, E: Sink>(&self, out: &mut O, error: &mut E) -> Status
-        ensures shown { (text : _) → self.now ≡ Refusal.Shown text → result ≡ Status.Done
+        ensures shown { (text : _) → self.now ≡ ArgumentsRefusal.Shown text → result ≡ Status.Done
             → Appends (O.given out.old) (O.given out.new) (string_bytes text) }
-        ensures not_shown { (text : _) → self.now ≡ Refusal.Shown text → result ≢ Status.Done
+        ensures not_shown { (text : _) → self.now ≡ ArgumentsRefusal.Shown text
+            → result ≢ Status.Done
             → (result ≡ Status.Failed) × (O.failures out.old < O.failures out.new) }
-        ensures quiet { (text : _) → self.now ≡ Refusal.Shown text
+        ensures quiet { (text : _) → self.now ≡ ArgumentsRefusal.Shown text
             → E.given error.new ≡ E.given error.old }
-        ensures refused { (text : _) → self.now ≡ Refusal.Refused text
+        ensures refused { (text : _) → self.now ≡ ArgumentsRefusal.Refused text
             → (result ≡ Status.Usage) × (O.given out.new ≡ O.given out.old) }
-        ensures told { (text : _) → self.now ≡ Refusal.Refused text
+        ensures reported { (text : _) → self.now ≡ ArgumentsRefusal.Refused text
             → (E.failures error.old < E.failures error.new)
             ⊎ Appends (E.given error.old) (E.given error.new) (string_bytes text) }
-        ensures memory { self.now ≡ Refusal.Memory
+        ensures memory { self.now ≡ ArgumentsRefusal.Memory
             → (result ≡ Status.Failed) × (O.given out.new ≡ O.given out.old) }
-        ensures memory_told { self.now ≡ Refusal.Memory
+        ensures memory_reported { self.now ≡ ArgumentsRefusal.Memory
             → (E.failures error.old < E.failures error.new)
             ⊎ Appends (E.given error.old) (E.given error.new) (start_line start.Memory) }
     {
         match self {
-            Refusal::Shown(text) => Status::of(show(out, text).is_ok()),
-            Refusal::Refused(text) => {
+            ArgumentsRefusal::Shown(text) => Status::of(show(out, text).is_ok()),
+            ArgumentsRefusal::Refused(text) => {
                 let _ = write_all(error, text.as_bytes());
                 Status::Usage
             }
-            Refusal::Memory => fail_to_start(error, StartError::Memory),
+            ArgumentsRefusal::Memory => fail_to_start(error, StartError::Memory),
         }
     }
 }

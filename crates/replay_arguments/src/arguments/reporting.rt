@@ -2,7 +2,7 @@
 
 ghost use Rattle.std.specs.Prelude.{◌≡◌, IfSome, None};
 ghost use Rattle.clap.specs.Words.{found_of, rows_of};
-ghost use Rattle.replay_arguments.specs.Words.{HasReports, HoldsReports, reports_all};
+ghost use Rattle.replay_arguments.specs.Arguments.{HasReports, HoldsReports, reports_all};
 
 use clap::ArgMatches;
 use replay_output::Reports;

@@ -2,9 +2,9 @@
 
 ghost use Rattle.std.specs.Prelude.{◌≡◌, ◌≤◌, ◌↔◌, IfOk, IfSome, IsTrue, None, OnErr, false};
 ghost use Rattle.clap.specs.Words.{found_of, rows_of};
-ghost use Rattle.replay_arguments.specs.Words.{HasResolvers, HasSharding, HoldsExplain};
-ghost use Rattle.replay_arguments.specs.Words.{HoldsReports, HoldsResolvers, HoldsSharding};
-ghost use Rattle.replay_arguments.specs.Words.{HoldsStream, HoldsTop};
+ghost use Rattle.replay_arguments.specs.Arguments.{HasResolvers, HasSharding, HoldsExplain};
+ghost use Rattle.replay_arguments.specs.Arguments.{HoldsReports, HoldsResolvers, HoldsSharding};
+ghost use Rattle.replay_arguments.specs.Arguments.{HoldsStream, HoldsTop};
 ghost use Rattle.replay_output.specs.declared.options.reports.Reports.TheVariants.{Asked};
 
 use crate::arguments::details::Details;

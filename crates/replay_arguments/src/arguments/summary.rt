@@ -2,8 +2,8 @@
 
 ghost use Rattle.std.specs.Prelude.{◌≡◌, ◌↔◌, IfSome, IsTrue, false, is_some, true};
 ghost use Rattle.clap.specs.Words.{found_of, rows_of};
-ghost use Rattle.replay_arguments.specs.Words.{AsksForAll, HasSummary, HoldsForm, HoldsStream};
-ghost use Rattle.replay_arguments.specs.Words.{HoldsSummary, IsAlone, summary_form};
+ghost use Rattle.replay_arguments.specs.Arguments.{AsksForAll, HasSummary, HoldsForm, HoldsStream};
+ghost use Rattle.replay_arguments.specs.Arguments.{HoldsSummary, IsAlone, summary_form};
 
 use crate::arguments::filtering::is_filtered;
 use clap::ArgMatches;

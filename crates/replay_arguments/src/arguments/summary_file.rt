@@ -2,9 +2,9 @@
 
 ghost use Rattle.std.specs.Prelude.{◌≡◌, ◌↔◌, IfSome, IsTrue, false, is_some, true};
 ghost use Rattle.clap.specs.Words.{found_of, rows_of};
-ghost use Rattle.replay_arguments.specs.Words.{HasSummaryFile, HoldsExplain, HoldsForm};
-ghost use Rattle.replay_arguments.specs.Words.{HoldsStream, HoldsSummary, HoldsSummaryFile};
-ghost use Rattle.replay_arguments.specs.Words.{IsBeside};
+ghost use Rattle.replay_arguments.specs.Arguments.{HasSummaryFile, HoldsExplain, HoldsForm};
+ghost use Rattle.replay_arguments.specs.Arguments.{HoldsStream, HoldsSummary, HoldsSummaryFile};
+ghost use Rattle.replay_arguments.specs.Arguments.{IsBeside};
 
 use crate::arguments::printing::Printing;
 use crate::arguments::summary::form_alone;

@@ -22,7 +22,7 @@ pub enum Extent {
     /// All of it: the progress through a long file may be shown.
     Complete,
     /// Its first batches: no progress is shown.
-    Beginning,
+    FirstBatches,
 }
 
 /// Opens files by their names, and standard input by its own, [`STANDARD_INPUT`].

@@ -70,7 +70,7 @@ impl PackedText {
     {
         // No chain of `let`s, which is newer than the Rust that the Cargo edition asks for.
         if let Some(last) = self.units.last_mut() {
-            if let Some(more) = word.behind(*last) {
+            if let Some(more) = word.after(*last) {
                 *last = more;
                 return Ok(());
             }
@@ -95,8 +95,8 @@ impl PackedText {
 
     /// Prints the text. After a failure a prefix of it is printed. Takes no memory.
     pub fn print<W: Sink>(&self, out: &mut W) -> Result<(), Failed>
-        ensures whole { OnOk result (Appends (W.given out.old) (W.given out.new) self.now) }
-        ensures beginning { OnErr result (IfSome (W.given out.new) (λ _.
+        ensures entire { OnOk result (Appends (W.given out.old) (W.given out.new) self.now) }
+        ensures prefix { OnErr result (IfSome (W.given out.new) (λ _.
             (n : ℕ) × Appends (W.given out.old) (W.given out.new) (take n self.now))) }
         ensures ok { OnOk result (W.failures out.new ≡ W.failures out.old) }
         ensures failed { OnErr result (W.failures out.old < W.failures out.new) }

@@ -2,8 +2,8 @@
 
 ghost use Rattle.std.specs.Prelude.{◌≡◌, ℤ, Option};
 ghost use Rattle.std.specs.List.{list_any};
-ghost use Rattle.replay_output.specs.Filter.{all_lines, has_verdict, is_below, is_shown};
-ghost use Rattle.replay_output.specs.Filter.{is_verdict};
+ghost use Rattle.replay_output.specs.LineFilter.{all_lines, has_verdict, is_below, is_shown};
+ghost use Rattle.replay_output.specs.LineFilter.{is_verdict};
 
 use crate::version::version_of;
 use keyspace::{Answer, Entry, Verdict};
@@ -11,7 +11,7 @@ use keyspace::{Answer, Entry, Verdict};
 /// Which lines of answers are printed: those that each field shows. What is read, resolved and
 /// recorded doesn't depend on it.
 #[derive(Clone, Copy, Debug, PartialEq, Eq)]
-pub struct Filter {
+pub struct LineFilter {
     /// No line is shown.
     pub quiet: bool,
     /// Shows only replies that have this verdict, if one is given.
@@ -22,12 +22,12 @@ pub struct Filter {
     pub below: Option<i64>,
 }
 
-impl Filter {
+impl LineFilter {
     /// Creates the filter that shows every line.
     pub fn all() -> Self
         ensures all { result ≡ all_lines }
     {
-        Filter {
+        LineFilter {
             quiet: false,
             only: None,
             least: i64::MIN,

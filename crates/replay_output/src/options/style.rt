@@ -1,9 +1,9 @@
 //! How answers are printed.
 
 ghost use Rattle.std.specs.Prelude.{◌≡◌};
-ghost use Rattle.replay_output.specs.Filter.{all_lines};
+ghost use Rattle.replay_output.specs.LineFilter.{all_lines};
 
-use crate::options::filtering::Filter;
+use crate::options::filtering::LineFilter;
 use crate::options::form::Form;
 
 /// How the answers of a run are printed.
@@ -12,7 +12,7 @@ pub struct Style {
     /// The form of lines.
     pub form: Form,
     /// Which lines are printed.
-    pub filter: Filter,
+    pub filter: LineFilter,
 }
 
 impl Style {
@@ -23,7 +23,7 @@ impl Style {
     {
         Style {
             form,
-            filter: Filter::all(),
+            filter: LineFilter::all(),
         }
     }
 }

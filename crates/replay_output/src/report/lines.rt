@@ -41,7 +41,7 @@ pub fn print_answers<W: Sink>(
         → TakesToSort (map vec_items received.old) proxy }
     ensures nothing { (proxy : ℕ) → result ≡ Err (PrintError.Memory proxy)
         → W.given out.new ≡ W.given out.old }
-    ensures beginning { (print : Print) → AreLinesBy print (map vec_items received.old)
+    ensures prefix { (print : Print) → AreLinesBy print (map vec_items received.old)
         → result ≡ Err PrintError.Write
         → IfSome (W.given out.new) (λ _. (n : ℕ)
         × Appends (W.given out.old) (W.given out.new)
@@ -73,9 +73,9 @@ pub fn sort_lines(alloc: Global, received: &mut [Vec<Line>]) -> Result<(), usize
 }
 
 fn print_sorted<W: Sink>(out: &mut W, sorted: &[Vec<Line>]) -> Result<(), Failed>
-    ensures whole { OnOk result (Appends (W.given out.old) (W.given out.new)
+    ensures entire { OnOk result (Appends (W.given out.old) (W.given out.new)
         (texts (map vec_items sorted.now))) }
-    ensures beginning { OnErr result (IfSome (W.given out.new) (λ _.
+    ensures prefix { OnErr result (IfSome (W.given out.new) (λ _.
         (n : ℕ) × Appends (W.given out.old) (W.given out.new)
         (take n (texts (map vec_items sorted.now))))) }
     ensures ok { OnOk result (W.failures out.new ≡ W.failures out.old) }
@@ -88,8 +88,8 @@ fn print_sorted<W: Sink>(out: &mut W, sorted: &[Vec<Line>]) -> Result<(), Failed
 }
 
 fn print_proxy<W: Sink>(out: &mut W, lines: &[Line]) -> Result<(), Failed>
-    ensures whole { OnOk result (Appends (W.given out.old) (W.given out.new) (text_of lines.now)) }
-    ensures beginning { OnErr result (IfSome (W.given out.new) (λ _.
+    ensures entire { OnOk result (Appends (W.given out.old) (W.given out.new) (text_of lines.now)) }
+    ensures prefix { OnErr result (IfSome (W.given out.new) (λ _.
         (n : ℕ) × Appends (W.given out.old) (W.given out.new) (take n (text_of lines.now)))) }
     ensures ok { OnOk result (W.failures out.new ≡ W.failures out.old) }
     ensures failed { OnErr result (W.failures out.old < W.failures out.new) }

@@ -25,7 +25,7 @@ pub struct CheckReport {
     /// How many differences there are, where their lines were written and flushed.
     pub printed: Result<usize, PrintError>,
     /// Whether the lines of all failures were written.
-    pub told: Result<(), Failed>,
+    pub reported: Result<(), Failed>,
     pub status: Status,
 }
 
@@ -63,27 +63,27 @@ pub fn print_check<O: Sink, E: Sink>(
         → TakesToCompare (map vec_items recorded.items) (map vec_items received.items) proxy }
     ensures nothing { (proxy : ℕ) → result.printed ≡ Err (PrintError.Memory proxy)
         → O.given out.new ≡ O.given out.old }
-    ensures beginning { KeepReplies (map vec_items received.items)
+    ensures prefix { KeepReplies (map vec_items received.items)
         → result.printed ≡ Err PrintError.Write → IfSome (O.given out.new) (λ _. (n : ℕ)
         × Appends (O.given out.old) (O.given out.new)
         (take n (check_lines (map vec_items recorded.items)
         (map answers_of (map vec_items received.items))))) }
     ensures write { (result.printed ≡ Err PrintError.Write)
         ↔ (O.failures out.old < O.failures out.new) }
-    ensures failure_lines { OnOk result.told (Appends (E.given error.old) (E.given error.new)
+    ensures failure_lines { OnOk result.reported (Appends (E.given error.old) (E.given error.new)
         (failure_lines failures.new ending)) }
-    ensures told { IsErr result.told ↔ (E.failures error.old < E.failures error.new) }
+    ensures reported { IsErr result.reported ↔ (E.failures error.old < E.failures error.new) }
     ensures loss { (proxy : ℕ) → result.printed ≡ Err (PrintError.Memory proxy)
         → failures.new ≡ with_loss proxy failures.old }
     ensures no_loss { ((proxy : ℕ) → result.printed ≢ Err (PrintError.Memory proxy))
         → failures.new ≡ failures.old }
     ensures done { result.status ≡ Status.Done
-        → ((result.printed ≡ Ok 0) × IsOk result.told × NothingFailed failures.old ending) }
+        → ((result.printed ≡ Ok 0) × IsOk result.reported × NothingFailed failures.old ending) }
     ensures differs { result.status ≡ Status.Differs
-        → (IsOkAnd result.printed (λ count. count ≢ 0) × IsOk result.told
+        → (IsOkAnd result.printed (λ count. count ≢ 0) × IsOk result.reported
         × NothingFailed failures.old ending) }
     ensures failed { result.status ≡ Status.Failed
-        → ¬ (IsOk result.printed × IsOk result.told × NothingFailed failures.old ending) }
+        → ¬ (IsOk result.printed × IsOk result.reported × NothingFailed failures.old ending) }
     ensures quiet { result.status ≢ Status.Failed → Keeps (E.given error.old) (E.given error.new) }
     ensures ends { result.status ≢ Status.Usage }
 {
@@ -91,12 +91,12 @@ pub fn print_check<O: Sink, E: Sink>(
     if let Err(PrintError::Memory(proxy)) = printed {
         note_loss(failures, proxy);
     }
-    let told = print_failures(error, failures, ending);
+    let reported = print_failures(error, failures, ending);
     let clean = nothing_failed(failures, ending);
     CheckReport {
-        status: status_of(clean && told.is_ok(), &printed),
+        status: status_of(clean && reported.is_ok(), &printed),
         printed,
-        told,
+        reported,
     }
 }
 
@@ -136,7 +136,7 @@ fn print_differences<W: Sink>(
         → TakesToCompare (map vec_items recorded.items) (map vec_items received.items) proxy }
     ensures nothing { (proxy : ℕ) → result ≡ Err (PrintError.Memory proxy)
         → W.given out.new ≡ W.given out.old }
-    ensures beginning { KeepReplies (map vec_items received.items)
+    ensures prefix { KeepReplies (map vec_items received.items)
         → result ≡ Err PrintError.Write
         → IfSome (W.given out.new) (λ _. (n : ℕ) × Appends (W.given out.old) (W.given out.new)
         (take n (check_lines (map vec_items recorded.items)

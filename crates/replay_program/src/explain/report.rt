@@ -46,7 +46,7 @@ pub fn print_explained<O: Sink, E: Sink>(
         → TakesToExplain (text_of explainer.now.texts) (map vec_items received.old) proxy }
     ensures nothing { (proxy : ℕ) → result.printed ≡ Err (PrintError.Memory proxy)
         → O.given out.new ≡ O.given out.old }
-    ensures beginning { (style : Style) → explanation_form style.form ≡ explainer.now.form
+    ensures prefix { (style : Style) → explanation_form style.form ≡ explainer.now.form
         → AreLines style (map vec_items received.old)
         → result.printed ≡ Err PrintError.Write → IfSome (O.given out.new) (λ _. (n : ℕ)
         × Appends (O.given out.old) (O.given out.new)
@@ -54,15 +54,15 @@ pub fn print_explained<O: Sink, E: Sink>(
         (map answers_of (map vec_items received.old))))) }
     ensures write { (result.printed ≡ Err PrintError.Write)
         ↔ (O.failures out.old < O.failures out.new) }
-    ensures failure_lines { OnOk result.told (Appends (E.given error.old) (E.given error.new)
+    ensures failure_lines { OnOk result.reported (Appends (E.given error.old) (E.given error.new)
         (failure_lines failures.new ending)) }
-    ensures told { IsErr result.told ↔ (E.failures error.old < E.failures error.new) }
+    ensures reported { IsErr result.reported ↔ (E.failures error.old < E.failures error.new) }
     ensures loss { (proxy : ℕ) → result.printed ≡ Err (PrintError.Memory proxy)
         → failures.new ≡ with_loss proxy failures.old }
     ensures no_loss { ((proxy : ℕ) → result.printed ≢ Err (PrintError.Memory proxy))
         → failures.new ≡ failures.old }
     ensures done { result.status ≡ Status.Done
-        ↔ (IsOk result.printed × IsOk result.told × NothingFailed failures.old ending) }
+        ↔ (IsOk result.printed × IsOk result.reported × NothingFailed failures.old ending) }
     ensures quiet { result.status ≡ Status.Done → Keeps (E.given error.old) (E.given error.new) }
     ensures ends { result.status ≢ Status.Usage }
     ensures same { result.status ≢ Status.Differs }
@@ -83,16 +83,16 @@ pub fn report_loss<E: Sink>(
     requires known { proxy < length failures.old }
     ensures printed { result.printed ≡ Err (PrintError.Memory proxy) }
     ensures loss { failures.new ≡ with_loss proxy failures.old }
-    ensures failure_lines { OnOk result.told (Appends (E.given error.old) (E.given error.new)
+    ensures failure_lines { OnOk result.reported (Appends (E.given error.old) (E.given error.new)
         (failure_lines failures.new ending)) }
-    ensures told { IsErr result.told ↔ (E.failures error.old < E.failures error.new) }
+    ensures reported { IsErr result.reported ↔ (E.failures error.old < E.failures error.new) }
     ensures status { result.status ≡ Status.Failed }
 {
     note_loss(failures, proxy);
-    let told = print_failures(error, failures, ending);
+    let reported = print_failures(error, failures, ending);
     Report {
         printed: Err(PrintError::Memory(proxy)),
-        told,
+        reported,
         status: Status::Failed,
     }
 }

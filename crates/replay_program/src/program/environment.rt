@@ -1,14 +1,15 @@
 //! The words of the program's environment.
 
 ghost use Rattle.std.specs.Prelude.{◌≡◌, ◌<◌, ◌⊎◌, ℕ, List};
-ghost use Rattle.std.specs.Io.KnownBytes.{Appends, Keeps};
+ghost use Rattle.std.specs.Io.KnownBytes.{Appends};
 ghost use Rattle.replay_program.specs.Ended.{HasDifferences, HasNoMemory, IsDone, IsFailed};
-ghost use Rattle.replay_program.specs.Program.{HasReadNoText, Told, named_files, not_text};
+ghost use Rattle.replay_program.specs.Ended.{IsQuiet};
+ghost use Rattle.replay_program.specs.Program.{HasReadNoText, ReportsLine, named_files, not_text};
 ghost use Rattle.replay_program.specs.ShardedProgram.{regular_files};
 ghost use Rattle.replay_program.specs.Replayed.{written};
 ghost use Rattle.replay_stream.specs.Sinks.{state_by};
 ghost use Rattle.replay_output.specs.Start.{start_line};
-ghost use Rattle.replay_arguments.specs.Words.{IsMistaken};
+ghost use Rattle.replay_arguments.specs.Arguments.{IsMistaken};
 
 use super::run;
 use crate::report::RunReport;
@@ -23,7 +24,7 @@ use wire::{Sink, write_all};
 
 // Why the words can't be read.
 #[derive(Clone, Copy)]
-enum WordsError {
+enum ArgumentsError {
     // A word isn't UTF-8. The toolchain opens files by text names alone.
     NotText,
     // Memory was refused.
@@ -45,14 +46,19 @@ pub fn run_in<R: Threads + Wait + Copy + Send + 'static, V: Env, F: Files, O: Si
         (named_files (F.contents files.now) (F.has_opened files.now) (F.cannot_open files.now)
         (F.begun files.now) (F.has_created files.now) (F.cannot_create files.now)) words result
         (written (O.given out.old) (O.given out.new) (O.failures out.old) (O.failures out.new)) }
-    ensures quiet { result.status ≡ Status.Done → Keeps (E.given error.old) (E.given error.new) }
+    ensures quiet { result.status ≡ Status.Done → (words : List (List ℕ))
+        × IsQuiet (F.contents files.now) words
+        (written (E.given error.old) (E.given error.new) (E.failures error.old)
+        (E.failures error.new)) }
     ensures differs { result.status ≡ Status.Differs → (words : List (List ℕ))
         × HasDifferences (state_by F.Writer.given F.Writer.failures)
         (named_files (F.contents files.now) (F.has_opened files.now) (F.cannot_open files.now)
         (F.begun files.now) (F.has_created files.now) (F.cannot_create files.now)) words result
         (written (O.given out.old) (O.given out.new) (O.failures out.old) (O.failures out.new)) }
-    ensures quiet_too { result.status ≡ Status.Differs
-        → Keeps (E.given error.old) (E.given error.new) }
+    ensures quiet_too { result.status ≡ Status.Differs → (words : List (List ℕ))
+        × IsQuiet (F.contents files.now) words
+        (written (E.given error.old) (E.given error.new) (E.failures error.old)
+        (E.failures error.new)) }
     ensures failed { result.status ≡ Status.Failed → HasNoMemory
         (written (O.given out.old) (O.given out.new) (O.failures out.old) (O.failures out.new))
         (written (E.given error.old) (E.given error.new) (E.failures error.old)
@@ -71,7 +77,7 @@ pub fn run_in<R: Threads + Wait + Copy + Send + 'static, V: Env, F: Files, O: Si
         ⊎ ((words : List (List ℕ)) × IsMistaken words) }
     ensures nothing { result.status ≡ Status.Usage → O.given out.new ≡ O.given out.old }
     ensures usage { result.status ≡ Status.Usage → (text : List ℕ)
-        × Told (written (E.given error.old) (E.given error.new) (E.failures error.old)
+        × ReportsLine (written (E.given error.old) (E.given error.new) (E.failures error.old)
         (E.failures error.new)) text }
 {
     match command_line(alloc, environment) {
@@ -81,11 +87,11 @@ pub fn run_in<R: Threads + Wait + Copy + Send + 'static, V: Env, F: Files, O: Si
 }
 
 // Returns the words of the command line.
-fn command_line(alloc: Global, environment: &impl Env) -> Result<Vec<String>, WordsError> {
+fn command_line(alloc: Global, environment: &impl Env) -> Result<Vec<String>, ArgumentsError> {
     let words = env::args(&(environment, alloc)).and_then(|words| Ok(words.collect(alloc)?));
     words.map_err(|cause| match cause.kind() {
-        io::ErrorKind::OutOfMemory => WordsError::Memory,
-        _ => WordsError::NotText,
+        io::ErrorKind::OutOfMemory => ArgumentsError::Memory,
+        _ => ArgumentsError::NotText,
     })
 }
 
@@ -95,19 +101,19 @@ const NOT_TEXT: &[u8] = b"error: invalid UTF-8 was detected in one or more argum
 
 // Prints why the words can't be read, and returns how the program ends. A failed write changes
 // nothing. Takes no memory.
-fn fail_to_read<W: Sink>(error: &mut W, cause: WordsError) -> Status
-    ensures not_text { cause ≡ WordsError.NotText → (result ≡ Status.Usage)
+fn fail_to_read<W: Sink>(error: &mut W, cause: ArgumentsError) -> Status
+    ensures not_text { cause ≡ ArgumentsError.NotText → (result ≡ Status.Usage)
         × ((W.failures error.old < W.failures error.new)
         ⊎ Appends (W.given error.old) (W.given error.new) not_text) }
-    ensures memory { cause ≡ WordsError.Memory → (result ≡ Status.Failed)
+    ensures memory { cause ≡ ArgumentsError.Memory → (result ≡ Status.Failed)
         × ((W.failures error.old < W.failures error.new)
         ⊎ Appends (W.given error.old) (W.given error.new) (start_line StartError.Memory)) }
 {
     match cause {
-        WordsError::NotText => {
+        ArgumentsError::NotText => {
             let _ = write_all(error, NOT_TEXT);
             Status::Usage
         }
-        WordsError::Memory => fail_to_start(error, StartError::Memory),
+        ArgumentsError::Memory => fail_to_start(error, StartError::Memory),
     }
 }

@@ -4,9 +4,10 @@ ghost use Rattle.std.specs.Prelude.{◌≡◌, ◌≢◌, ℕ, List, true};
 ghost use Rattle.std.specs.Io.KnownBytes.{Keeps};
 ghost use Rattle.replay_arguments.specs.Asks.{Asks};
 ghost use Rattle.replay_program.specs.Met.{HasMet};
-ghost use Rattle.replay_program.specs.Program.{IsLineDone, LineFails, LineFailsAndSays};
-ghost use Rattle.replay_program.specs.Program.{LineFindsDifferences, OfOutput, SaysFurther};
-ghost use Rattle.replay_program.specs.Program.{bytes_of, named_files};
+ghost use Rattle.replay_program.specs.Program.{EndsQuietly, IsLineDone, LineFails};
+ghost use Rattle.replay_program.specs.Program.{LineFailsAndSays, LineFindsDifferences, OfOutput};
+ghost use Rattle.replay_program.specs.Program.{SaysFurther, SaysIfHeld, bytes_of, named_files};
+ghost use Rattle.replay_program.specs.Program.{texts};
 ghost use Rattle.replay_program.specs.Replayed.{HasFailed, written};
 ghost use Rattle.replay_stream.specs.Sinks.{state_by};
 
@@ -14,7 +15,7 @@ use crate::met::Met;
 use crate::program::opened::open_batches;
 use crate::program::task::run_task;
 use crate::report::RunReport;
-use crate::verbose::explain_failure;
+use crate::verbose::{explain_failure, say_if_held};
 use replay_arguments::{CommandLine, Files, WrittenFile, fail_to_create_file, fail_to_open};
 use replay_output::Status;
 use std::alloc::Global;
@@ -23,7 +24,8 @@ use std::thread::Threads;
 use wire::Sink;
 
 /// Does what a command line asks for. With `--verbose`, a failure is explained by one more line on
-/// `error`, unless there is nothing to say, or memory is refused.
+/// `error`, unless there is nothing to say, or memory is refused. Without a failure, one line says
+/// that all batches are held, if no batch of the files follows version -1.
 pub fn run_line<R: Threads + Wait + Copy + Send + 'static, F: Files, O: Sink, E: Sink>(
     rt: &R,
     alloc: Global,
@@ -45,7 +47,9 @@ pub fn run_line<R: Threads + Wait + Copy + Send + 'static, F: Files, O: Sink, E:
         (F.begun files.now) (F.has_created files.now) (F.cannot_create files.now))
         line.now result
         (written (O.given out.old) (O.given out.new) (O.failures out.old) (O.failures out.new)) }
-    ensures quiet { result.status ≢ Status.Failed → Keeps (E.given error.old) (E.given error.new) }
+    ensures quiet { result.status ≢ Status.Failed → EndsQuietly (F.contents files.now) line.now
+        (written (E.given error.old) (E.given error.new) (E.failures error.old)
+        (E.failures error.new)) }
     ensures failed { result.status ≡ Status.Failed
         → LineFailsAndSays (state_by F.Writer.given F.Writer.failures)
         (named_files (F.contents files.now) (F.has_opened files.now) (F.cannot_open files.now)
@@ -130,7 +134,8 @@ fn do_line<R: Threads + Wait + Copy + Send + 'static, F: Files, O: Sink, E: Sink
     }
 }
 
-/// Explains a failure, if the command line asks for that.
+/// Explains a failure, if the command line asks for that. Of a run that didn't fail, says if all
+/// its batches are held.
 pub fn say_more<F: Files, E: Sink>(
     alloc: Global,
     files: &F,
@@ -139,7 +144,10 @@ pub fn say_more<F: Files, E: Sink>(
     met: Met,
     error: &mut E,
 )
-    ensures quiet { status ≢ Status.Failed → error.new ≡ error.old }
+    ensures quiet { status ≢ Status.Failed → SaysIfHeld line.now.verbose
+        (F.contents files.now) (texts line.now.files.items)
+        (written (E.given error.old) (E.given error.new) (E.failures error.old)
+        (E.failures error.new)) }
     ensures further { status ≡ Status.Failed → SaysFurther line.now.verbose
         (F.contents files.now) (F.cannot_open files.now) line.now met
         (written (E.given error.old) (E.given error.new) (E.failures error.old)
@@ -151,6 +159,6 @@ pub fn say_more<F: Files, E: Sink>(
     }
     match status {
         Status::Failed => explain_failure(alloc, files, line, met, error),
-        Status::Done | Status::Differs | Status::Usage => {}
+        Status::Done | Status::Differs | Status::Usage => say_if_held(alloc, files, line, error),
     }
 }

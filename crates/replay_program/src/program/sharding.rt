@@ -5,7 +5,7 @@ ghost use Rattle.std.specs.List.{All};
 ghost use Rattle.std.specs.Io.KnownBytes.{Keeps};
 ghost use Rattle.replay_arguments.specs.Asks.{Asks};
 ghost use Rattle.replay_arguments.specs.Opening.{contents_each};
-ghost use Rattle.replay_program.specs.Program.{OfOutput, named_files, texts};
+ghost use Rattle.replay_program.specs.Program.{EndsQuietly, OfOutput, named_files, texts};
 ghost use Rattle.replay_program.specs.Sharded.{HasMetByShards};
 ghost use Rattle.replay_program.specs.ShardedProgram.{ArePointsOf, IsLineDoneByShards};
 ghost use Rattle.replay_program.specs.ShardedProgram.{IsWhyNotSharded, LineFailsAndSaysByShards};
@@ -38,7 +38,8 @@ mod task;
 /// of split points has a fault, nothing is printed to `out`, and that is reported to `error`.
 ///
 /// With `--verbose`, a failure is explained by one more line on `error`, unless there is nothing to
-/// say, or memory is refused. If a file isn't a regular one, nothing more is said.
+/// say, or memory is refused. If a file isn't a regular one, nothing more is said. Without a
+/// failure, one line says that all batches are held, if no batch of the files follows version -1.
 pub fn run_line_sharded<R: Threads + Wait + Copy + Send + 'static, F: Files, O: Sink, E: Sink>(
     rt: &R,
     alloc: Global,
@@ -61,7 +62,9 @@ pub fn run_line_sharded<R: Threads + Wait + Copy + Send + 'static, F: Files, O: 
         (F.begun files.now) (F.has_created files.now) (F.cannot_create files.now))
         line.now result
         (written (O.given out.old) (O.given out.new) (O.failures out.old) (O.failures out.new)) }
-    ensures quiet { result.status ≢ Status.Failed → Keeps (E.given error.old) (E.given error.new) }
+    ensures quiet { result.status ≢ Status.Failed → EndsQuietly (F.contents files.now) line.now
+        (written (E.given error.old) (E.given error.new) (E.failures error.old)
+        (E.failures error.new)) }
     ensures failed { result.status ≡ Status.Failed
         → LineFailsAndSaysByShards (state_by F.Writer.given F.Writer.failures)
         (regular_files (F.is_regular files.now) (F.is_irregular files.now))

@@ -85,10 +85,10 @@ pub fn print_with_summary<O: Sink, T: Sink, E: Sink>(
     };
     let printed = print_and_flush(out, received);
     let put = write_and_flush(&mut summary.writer, &text);
-    let told = print_failures(error, failures, ending);
+    let reported = print_failures(error, failures, ending);
     let output_failed = printed.is_err();
     BesideReport {
-        status: status_of(nothing_failed(failures, ending), printed, put, told),
+        status: status_of(nothing_failed(failures, ending), printed, put, reported),
         output_failed,
     }
 }
@@ -98,21 +98,21 @@ fn status_of(
     is_clean: bool,
     printed: Result<(), Failed>,
     put: Result<(), Failed>,
-    told: Result<(), Failed>,
+    reported: Result<(), Failed>,
 ) -> Status
     ensures done { result ≡ Status.Done
-        ↔ (IsTrue is_clean × IsOk printed × IsOk put × IsOk told) }
+        ↔ (IsTrue is_clean × IsOk printed × IsOk put × IsOk reported) }
     ensures ends { result ≢ Status.Usage }
     ensures same { result ≢ Status.Differs }
 {
-    Status::of(is_clean && printed.is_ok() && put.is_ok() && told.is_ok())
+    Status::of(is_clean && printed.is_ok() && put.is_ok() && reported.is_ok())
 }
 
 // Prints lines that are sorted, and flushes.
 fn print_and_flush<W: Sink>(out: &mut W, sorted: &[Vec<Line>]) -> Result<(), Failed>
-    ensures whole { OnOk result (Appends (W.given out.old) (W.given out.new)
+    ensures entire { OnOk result (Appends (W.given out.old) (W.given out.new)
         (texts (map vec_items sorted.now))) }
-    ensures beginning { OnErr result (IfSome (W.given out.new) (λ _.
+    ensures prefix { OnErr result (IfSome (W.given out.new) (λ _.
         (n : ℕ) × Appends (W.given out.old) (W.given out.new)
         (take n (texts (map vec_items sorted.now))))) }
     ensures ok { OnOk result (W.failures out.new ≡ W.failures out.old) }
@@ -123,9 +123,9 @@ fn print_and_flush<W: Sink>(out: &mut W, sorted: &[Vec<Line>]) -> Result<(), Fai
 }
 
 fn print_sorted<W: Sink>(out: &mut W, sorted: &[Vec<Line>]) -> Result<(), Failed>
-    ensures whole { OnOk result (Appends (W.given out.old) (W.given out.new)
+    ensures entire { OnOk result (Appends (W.given out.old) (W.given out.new)
         (texts (map vec_items sorted.now))) }
-    ensures beginning { OnErr result (IfSome (W.given out.new) (λ _.
+    ensures prefix { OnErr result (IfSome (W.given out.new) (λ _.
         (n : ℕ) × Appends (W.given out.old) (W.given out.new)
         (take n (texts (map vec_items sorted.now))))) }
     ensures ok { OnOk result (W.failures out.new ≡ W.failures out.old) }
@@ -138,9 +138,9 @@ fn print_sorted<W: Sink>(out: &mut W, sorted: &[Vec<Line>]) -> Result<(), Failed
 }
 
 fn print_proxy<W: Sink>(out: &mut W, lines: &[Line]) -> Result<(), Failed>
-    ensures whole { OnOk result
+    ensures entire { OnOk result
         (Appends (W.given out.old) (W.given out.new) (text_of_lines lines.now)) }
-    ensures beginning { OnErr result (IfSome (W.given out.new) (λ _.
+    ensures prefix { OnErr result (IfSome (W.given out.new) (λ _.
         (n : ℕ) × Appends (W.given out.old) (W.given out.new)
         (take n (text_of_lines lines.now)))) }
     ensures ok { OnOk result (W.failures out.new ≡ W.failures out.old) }

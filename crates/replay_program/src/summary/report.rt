@@ -52,7 +52,7 @@ pub fn print_summary<O: Sink, E: Sink>(
         → TakesToSummarize (map vec_items received.old) proxy }
     ensures nothing { (proxy : ℕ) → result.printed ≡ Err (PrintError.Memory proxy)
         → O.given out.new ≡ O.given out.old }
-    ensures beginning { (style : Style) → AreLines style (map vec_items received.old)
+    ensures prefix { (style : Style) → AreLines style (map vec_items received.old)
         → result.printed ≡ Err PrintError.Write → IfSome (O.given out.new) (λ _. (n : ℕ)
         × Appends (O.given out.old) (O.given out.new)
         (take n (with_ranges form
@@ -60,15 +60,15 @@ pub fn print_summary<O: Sink, E: Sink>(
         ranges.now))) }
     ensures write { (result.printed ≡ Err PrintError.Write)
         ↔ (O.failures out.old < O.failures out.new) }
-    ensures failure_lines { OnOk result.told (Appends (E.given error.old) (E.given error.new)
+    ensures failure_lines { OnOk result.reported (Appends (E.given error.old) (E.given error.new)
         (failure_lines failures.new ending)) }
-    ensures told { IsErr result.told ↔ (E.failures error.old < E.failures error.new) }
+    ensures reported { IsErr result.reported ↔ (E.failures error.old < E.failures error.new) }
     ensures loss { (proxy : ℕ) → result.printed ≡ Err (PrintError.Memory proxy)
         → failures.new ≡ with_loss proxy failures.old }
     ensures no_loss { ((proxy : ℕ) → result.printed ≢ Err (PrintError.Memory proxy))
         → failures.new ≡ failures.old }
     ensures done { result.status ≡ Status.Done
-        ↔ (IsOk result.printed × IsOk result.told × NothingFailed failures.old ending) }
+        ↔ (IsOk result.printed × IsOk result.reported × NothingFailed failures.old ending) }
     ensures quiet { result.status ≡ Status.Done → Keeps (E.given error.old) (E.given error.new) }
     ensures ends { result.status ≢ Status.Usage }
     ensures same { result.status ≢ Status.Differs }
@@ -77,12 +77,12 @@ pub fn print_summary<O: Sink, E: Sink>(
     if let Err(PrintError::Memory(proxy)) = printed {
         note_loss(failures, proxy);
     }
-    let told = print_failures(error, failures, ending);
+    let reported = print_failures(error, failures, ending);
     let clean = nothing_failed(failures, ending);
     Report {
-        status: Status::of(clean && printed.is_ok() && told.is_ok()),
+        status: Status::of(clean && printed.is_ok() && reported.is_ok()),
         printed,
-        told,
+        reported,
     }
 }
 
@@ -105,7 +105,7 @@ fn print_text<W: Sink>(
         → TakesToSummarize (map vec_items received.old) proxy }
     ensures nothing { (proxy : ℕ) → result ≡ Err (PrintError.Memory proxy)
         → W.given out.new ≡ W.given out.old }
-    ensures beginning { (style : Style) → AreLines style (map vec_items received.old)
+    ensures prefix { (style : Style) → AreLines style (map vec_items received.old)
         → result ≡ Err PrintError.Write
         → IfSome (W.given out.new) (λ _. (n : ℕ) × Appends (W.given out.old) (W.given out.new)
         (take n (with_ranges form

@@ -7,7 +7,7 @@ ghost use Rattle.replay_program.specs.Verbose.{AreBatches, AreExamined, IsFirstF
 ghost use Rattle.replay_program.specs.Program.{texts};
 
 use replay_arguments::{Extent, FileError, Files, STANDARD_INPUT};
-use replay_diagnosis::{Batches, Finding, examine};
+use replay_diagnosis::{FileBatches, Finding, examine};
 use std::alloc::Global;
 
 /// What was found in the file of this name.
@@ -24,13 +24,13 @@ pub fn examine_files<'a, F: Files>(
     alloc: Global,
     files: &F,
     names: &[&'a str],
-) -> Result<Batches, FileFinding<'a>>
+) -> Result<FileBatches, FileFinding<'a>>
     ensures batches { IfOk result (λ batches. AreExamined (F.contents files.now) (texts names.now)
         batches.least_previous) }
     ensures found { IfErr result (λ found. IsFirstFound (F.contents files.now)
         (F.cannot_open files.now) (texts names.now) found.name.now found.finding) }
 {
-    let mut batches = Batches::none();
+    let mut batches = FileBatches::none();
     for name in names {
         match examine_file(alloc, files, name) {
             Ok(own) => batches.join(&own),
@@ -46,7 +46,7 @@ pub fn examine_files<'a, F: Files>(
 }
 
 // Reads the file of this name to its end. Standard input can't be read again.
-fn examine_file<F: Files>(alloc: Global, files: &F, name: &str) -> Result<Batches, Finding>
+fn examine_file<F: Files>(alloc: Global, files: &F, name: &str) -> Result<FileBatches, Finding>
     ensures batches { IfOk result (λ batches. (own : List BatchValue)
         × AreBatches (F.contents files.now name.now) own × HasLeast own batches.least_previous) }
     ensures found { IfErr result (IsFoundIn (F.contents files.now) (F.cannot_open files.now)

@@ -39,10 +39,10 @@ fn put_conflict_percent(out: &mut Vec<u8>, summary: &Summary) -> io::Result<()>
 
 // Returns the share of a part in tenths of a percent, rounded to the nearest one, and up from the
 // middle.
-fn tenths(part: u64, whole: u64) -> u128
-    requires some { whole ≢ 0 }
-    ensures tenths { result ≡ tenths part whole }
+fn tenths(part: u64, entire: u64) -> u128
+    requires some { entire ≢ 0 }
+    ensures tenths { result ≡ tenths part entire }
 {
-    let whole = whole as u128;
-    (1_000 * part as u128 + whole / 2) / whole
+    let entire = entire as u128;
+    (1_000 * part as u128 + entire / 2) / entire
 }

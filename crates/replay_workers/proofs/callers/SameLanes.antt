@@ -4,25 +4,25 @@ use Rattle.std.specs.Prelude.{Some, slice_get}
 use Rattle.std.specs.List.{AllZip}
 use Rattle.std.proofs.lemmas.Slice.Zip.{AllZip-long}
 use Rattle.std.proofs.lemmas.Option.{none-some, same_Some}
-use Rattle.lane.specs.Lane.{PortView, IntakeView, PortGoesOn, IntakeGoesOn}
+use Rattle.lane.specs.Lane.{PortView, IntakeView, PortContinues, IntakeContinues}
 use Rattle.resolver.specs.declared.client.Client.{Client}
-use Rattle.resolver.specs.Lanes.{Lanes, Each, LanesGoOn}
+use Rattle.resolver.specs.Lanes.{Lanes, Each, LanesContinue}
 use Rattle.resolver.specs.Resolver.{AreClients}
 use Rattle.replay_workers.specs.declared.ends.Ends.{Ends}
-use Rattle.replay_workers.specs.Ends.{EndsGoOn}
-use Rattle.replay_workers.specs.Worker.{ClientGoesOn}
+use Rattle.replay_workers.specs.Ends.{EndsContinue}
+use Rattle.replay_workers.specs.Worker.{ClientContinues}
 use Rattle.replay_workers.proofs.callers.Lists.{found}
 
-pub port_goes_on : {T : Type 0} (a b c : PortView T) → PortGoesOn a b → PortGoesOn b c → PortGoesOn a c
-port_goes_on a b c first second = record {
+pub port_continues : {T : Type 0} (a b c : PortView T) → PortContinues a b → PortContinues b c → PortContinues a c
+port_continues a b c first second = record {
   lane = second.lane ∙ first.lane;
   capacity = second.capacity ∙ first.capacity;
   seen_taken = omega (arith, first.seen_taken, second.seen_taken);
   looks = omega (arith, first.looks, second.looks);
 }
 
-pub intake_goes_on : {T : Type 0} (a b c : IntakeView T) → IntakeGoesOn a b → IntakeGoesOn b c → IntakeGoesOn a c
-intake_goes_on a b c first second = record {
+pub intake_continues : {T : Type 0} (a b c : IntakeView T) → IntakeContinues a b → IntakeContinues b c → IntakeContinues a c
+intake_continues a b c first second = record {
   lane = second.lane ∙ first.lane;
   capacity = second.capacity ∙ first.capacity;
   seen_sent = omega (arith, first.seen_sent, second.seen_sent);
@@ -30,10 +30,10 @@ intake_goes_on a b c first second = record {
   looks = omega (arith, first.looks, second.looks);
 }
 
-pub ends_go_on : (a b c : Ends) → EndsGoOn a b → EndsGoOn b c → EndsGoOn a c
-ends_go_on a b c first second = record {
-  requests = port_goes_on a.requests b.requests c.requests first.requests second.requests;
-  replies = intake_goes_on a.replies b.replies c.replies first.replies second.replies;
+pub ends_continue : (a b c : Ends) → EndsContinue a b → EndsContinue b c → EndsContinue a c
+ends_continue a b c first second = record {
+  requests = port_continues a.requests b.requests c.requests first.requests second.requests;
+  replies = intake_continues a.replies b.replies c.replies first.replies second.replies;
   given = second.given ∙ first.given;
   proxy = second.proxy ∙ first.proxy;
   share = second.share ∙ first.share;
@@ -47,42 +47,42 @@ zipped_at {X = X} {Y = Y} R (first ∷ xs) (other ∷ ys) zero x y all at there 
     subst (λ (pair : X × Y). R pair.0 pair.1) (λ i. (same_Some first x at i, same_Some other y there i)) all.0
 zipped_at R (first ∷ xs) (other ∷ ys) (suc place) x y all at there = zipped_at R xs ys place x y all.1 at there
 
-pub lanes_go_on : (a b c : List Lanes) → Each (λ _ l m. LanesGoOn l m) a b → Each (λ _ l m. LanesGoOn l m) b c
-    → Each (λ _ l m. LanesGoOn l m) a c
-lanes_go_on a b c first second = record {
+pub lanes_continue : (a b c : List Lanes) → Each (λ _ l m. LanesContinue l m) a b → Each (λ _ l m. LanesContinue l m) b c
+    → Each (λ _ l m. LanesContinue l m) a c
+lanes_continue a b c first second = record {
   count = second.count ∙ first.count;
   each = λ proxy l n at there.
       let between = found a b proxy l first.count at in
       let one = first.each proxy l between.0 at between.1 in
       let two = second.each proxy between.0 n between.1 there in
       record {
-        requests = intake_goes_on l.requests between.0.requests n.requests one.requests two.requests;
-        replies = port_goes_on l.replies between.0.replies n.replies one.replies two.replies;
+        requests = intake_continues l.requests between.0.requests n.requests one.requests two.requests;
+        replies = port_continues l.replies between.0.replies n.replies one.replies two.replies;
         ended = λ ended. two.ended (one.ended ended);
       };
 }
 
 -- the clients are still those of the lanes
-pub clients_go_on : (lanes later : List Lanes) (clients back : List Client) → AreClients lanes clients
-    → Each (λ _ l m. LanesGoOn l m) lanes later → AllZip ClientGoesOn clients back → AreClients later back
-clients_go_on lanes later clients back of_lanes turned handed = record {
-  count = AllZip-long ClientGoesOn clients back handed ∙ of_lanes.count ∙ sym turned.count;
+pub clients_continue : (lanes later : List Lanes) (clients back : List Client) → AreClients lanes clients
+    → Each (λ _ l m. LanesContinue l m) lanes later → AllZip ClientContinues clients back → AreClients later back
+clients_continue lanes later clients back of_lanes turned all_returned = record {
+  count = AllZip-long ClientContinues clients back all_returned ∙ of_lanes.count ∙ sym turned.count;
   requests = λ proxy m d at there.
       let l = found later lanes proxy m (sym turned.count) at in
-      let c = found back clients proxy d (sym (AllZip-long ClientGoesOn clients back handed)) there in
+      let c = found back clients proxy d (sym (AllZip-long ClientContinues clients back all_returned)) there in
       let lane = of_lanes.requests proxy l.0 c.0 l.1 c.1 in
       let turns = (turned.each proxy l.0 m l.1 at).requests in
-      let goes = (zipped_at ClientGoesOn clients back proxy c.0 d handed c.1 there).requests in
+      let goes = (zipped_at ClientContinues clients back proxy c.0 d all_returned c.1 there).requests in
       record {
         lane = goes.lane ∙ lane.lane ∙ sym turns.lane;
         capacity = goes.capacity ∙ lane.capacity ∙ sym turns.capacity;
       };
   replies = λ proxy m d at there.
       let l = found later lanes proxy m (sym turned.count) at in
-      let c = found back clients proxy d (sym (AllZip-long ClientGoesOn clients back handed)) there in
+      let c = found back clients proxy d (sym (AllZip-long ClientContinues clients back all_returned)) there in
       let lane = of_lanes.replies proxy l.0 c.0 l.1 c.1 in
       let turns = (turned.each proxy l.0 m l.1 at).replies in
-      let goes = (zipped_at ClientGoesOn clients back proxy c.0 d handed c.1 there).replies in
+      let goes = (zipped_at ClientContinues clients back proxy c.0 d all_returned c.1 there).replies in
       record {
         lane = turns.lane ∙ lane.lane ∙ sym goes.lane;
         capacity = turns.capacity ∙ lane.capacity ∙ sym goes.capacity;

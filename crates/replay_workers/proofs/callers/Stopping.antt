@@ -8,15 +8,15 @@ use Rattle.resolver.specs.declared.stop.Stop.{Stop}
 use Rattle.resolver.specs.declared.stop.Stop.TheVariants as resolver
 use Rattle.resolver.specs.declared.turn.Turn.{Turn}
 use Rattle.resolver.specs.declared.turn.Turn.TheVariants as turn
-use Rattle.resolver.specs.Core.{CoreState, Given, GoesOn, StopsAtLimit}
+use Rattle.resolver.specs.Core.{CoreState, Given, Continues, StopsAtLimit}
 use Rattle.resolver.specs.Lanes.{sent_to}
 use Rattle.resolver.specs.OpeningLog.{log_from}
 use Rattle.resolver.specs.Resolver.{ResolverState, StandsOver, StandsOverFrom, TakesFrom, Finishes, TakesNoStep, StepsBy}
 use Rattle.resolver.proofs.callers.Standing.{IsIn-standing}
 use Rattle.replay_workers.specs.Stops.{FillsArena, IsStopOf, IsAccountedFor}
 
-pub core_goes_on : (a b c : CoreState) → GoesOn a b → GoesOn b c → GoesOn a c
-core_goes_on a b c first second = record {
+pub core_continues : (a b c : CoreState) → Continues a b → Continues b c → Continues a c
+core_continues a b c first second = record {
   window = second.window ∙ first.window;
   limit = second.limit ∙ first.limit;
   proxies = second.proxies ∙ first.proxies;
@@ -60,7 +60,7 @@ unstopped did None stays = refl
 unstopped did (Some stop) stays = let both = stays in cc
 
 -- A step, and what it makes true of the log with it. A step is taken only where no stop was met before; where none is taken, none is met.
-module _ (old new : ResolverState) (goes : GoesOn old.core new.core) (Before After : List Step → Type 0)
+module _ (old new : ResolverState) (goes : Continues old.core new.core) (Before After : List Step → Type 0)
     (takes : old.core.stop ≡ None → (proxy : ℕ) (took : TakesFrom proxy old new) (log : List Step) → StandsOver old log → Before log
     → After (log ++ Take proxy took.batch ∷ []))
     (finishes : old.core.stop ≡ None → Finishes old new → (log : List Step) → StandsOver old log → Before log
@@ -176,7 +176,7 @@ module _ (old new : ResolverState) (goes : GoesOn old.core new.core) (Before Aft
       (λ was is. arena was (ap Err is) (negsuc 0)) before
 
 -- nothing else is true of the log
-pub accounted_turn : (old new : ResolverState) → GoesOn old.core new.core → (result : Result Turn Stop)
+pub accounted_turn : (old new : ResolverState) → Continues old.core new.core → (result : Result Turn Stop)
     → IfOk result (λ turn. StepsBy turn old new)
     → IfErr result (λ _. old.core.stop ≡ None → ((proxy : ℕ) × TakesFrom proxy old new) ⊎ Finishes old new)
     → (IsSome old.core.stop → TakesNoStep old new) → IfErr result (λ stop. new.core.stop ≡ Some stop)

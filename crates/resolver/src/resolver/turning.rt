@@ -5,14 +5,14 @@ ghost use Rattle.std.specs.Prelude.{length, Option, Some, None, Ok, Err, IfErr, 
 ghost use Rattle.std.specs.Prelude.{slice_get};
 ghost use Rattle.keyspace.specs.Run.{Step, run};
 ghost use Rattle.chain.specs.declared.gate.TheConstants.{MAX_HELD};
-ghost use Rattle.lane.specs.Lane.{PortGoesOn};
+ghost use Rattle.lane.specs.Lane.{PortContinues};
 ghost use Rattle.resolver.specs.Owed.{owed_to};
-ghost use Rattle.resolver.specs.Core.{GoesOn, StopsAtLimit, made_to};
+ghost use Rattle.resolver.specs.Core.{Continues, StopsAtLimit, made_to};
 ghost use Rattle.resolver.specs.OpeningLog.{log_from};
-ghost use Rattle.resolver.specs.Lanes.{Lanes, all_ended, Each, LanesGoOn, IsLookedThrough};
+ghost use Rattle.resolver.specs.Lanes.{Lanes, all_ended, Each, LanesContinue, IsLookedThrough};
 ghost use Rattle.resolver.specs.Lanes.{ComesBefore, IsFull, sent_to};
 ghost use Rattle.resolver.specs.Resolver.{StandsOverFrom, TakesFrom, Finishes, TakesNoStep};
-ghost use Rattle.resolver.specs.Resolver.{IsThrough, SameBut};
+ghost use Rattle.resolver.specs.Resolver.{IsThrough, SameExcept};
 ghost use Rattle.resolver.specs.Observed.{ObservesStep};
 
 use super::Resolver;
@@ -53,8 +53,8 @@ impl Resolver {
             (run self.old.core.set.window (log_from version (length self.old.lanes) log))
             (sent_to self.new.lanes) self.new.core }
         ensures replies { Each (λ _ l m. m.replies ≡ l.replies) self.old.lanes self.new.lanes }
-        ensures lanes { Each (λ _ l m. LanesGoOn l m) self.old.lanes self.new.lanes }
-        ensures goes_on { GoesOn self.old.core self.new.core }
+        ensures lanes { Each (λ _ l m. LanesContinue l m) self.old.lanes self.new.lanes }
+        ensures continues { Continues self.old.core self.new.core }
         ensures open { OnOk result (self.old.core.stop ≡ None) }
         ensures sees { ObservesStep (O.has_seen observer.old) (O.has_seen observer.new) self.old
             self.new }
@@ -83,7 +83,7 @@ impl Resolver {
     }
 
     // Sends each proxy the answers owed to it, while its reply lane accepts them.
-    pub(super) fn hand_out(&mut self)
+    pub(super) fn deliver(&mut self)
         ensures stands { (version : ℤ) (log : List Step) → StandsOverFrom version self.old log
             → StandsOverFrom version self.new log }
         ensures made { (proxy : ℕ) → made_to proxy (sent_to self.new.lanes) self.new.core
@@ -91,10 +91,10 @@ impl Resolver {
         ensures owed { Each (λ proxy l m. owed_to proxy self.new.core.owed ≢ []
             → IsFull l m) self.old.lanes self.new.lanes }
         ensures lanes { Each (λ _ l m. (m ≡ record l { replies = m.replies })
-            × PortGoesOn l.replies m.replies) self.old.lanes self.new.lanes }
-        ensures same { SameBut self.old self.new }
+            × PortContinues l.replies m.replies) self.old.lanes self.new.lanes }
+        ensures same { SameExcept self.old self.new }
     {
-        all_lanes::hand_out(&mut self.all_lanes, &mut self.core);
+        all_lanes::deliver(&mut self.all_lanes, &mut self.core);
     }
 
     // Closes the reply lanes where no answer is still to come.

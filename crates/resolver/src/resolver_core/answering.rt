@@ -10,7 +10,8 @@ ghost use Rattle.keyspace.specs.Run.{State, Take, Finish, answer, process, leave
 ghost use Rattle.keyspace.specs.Run as reference;
 ghost use Rattle.chain.specs.declared.gate.TheConstants.{MAX_HELD};
 ghost use Rattle.chain.specs.Replies.{reply_of};
-ghost use Rattle.resolver.specs.Core.{Given, IsIn, GoesOn, MadeBetween, StopsIn, StopsAsTheyLeave};
+ghost use Rattle.resolver.specs.Core.{Given, IsIn, Continues, MadeBetween, StopsIn};
+ghost use Rattle.resolver.specs.Core.{StopsAsTheyLeave};
 ghost use Rattle.resolver.specs.Core.{StopsAtLimit};
 ghost use Rattle.resolver.specs.Core.{kept_also};
 ghost use Rattle.resolver.specs.Observed.{HasSeenBetween};
@@ -39,7 +40,7 @@ impl Core {
             → MadeBetween state (step self.old.set.window (Take proxy batch) state) given
             self.new) }
         ensures open { OnOk result (self.new.stop ≡ None) }
-        ensures goes_on { GoesOn self.old self.new }
+        ensures continues { Continues self.old self.new }
         ensures gate_full { (result ≡ Err Stop.GateFull)
             ↔ (self.old.version <ℤ batch.previous) × (length self.old.held ≡ MAX_HELD) }
         ensures arena_full { result ≡ Err Stop.ArenaFull → (state : State) (given : Given)
@@ -74,7 +75,7 @@ impl Core {
         ensures memory { IfErr result (λ stop. stop ≡ Stop.Memory) }
         ensures set { self.new.set ≡ self.old.set }
         ensures stop { self.new.stop ≡ self.old.stop }
-        ensures goes_on { GoesOn self.old self.new }
+        ensures continues { Continues self.old self.new }
     {
         while let Some((proxy, batch)) = self.gate.first() {
             self.owed.reserve(proxy)?;
@@ -94,7 +95,7 @@ impl Core {
         ensures not_arena { result ≢ Err Stop.ArenaFull }
         ensures set { self.new.set ≡ self.old.set }
         ensures stop { self.new.stop ≡ self.old.stop }
-        ensures goes_on { GoesOn self.old self.new }
+        ensures continues { Continues self.old self.new }
     {
         match self.gate.hold(proxy, batch) {
             Ok(()) => Ok(()),
@@ -117,7 +118,7 @@ impl Core {
         ensures err { OnErr result (self.new.owed ≡ self.old.owed) }
         ensures open { OnOk result (self.new.stop ≡ None) }
         ensures held { self.new.held ≡ self.old.held }
-        ensures goes_on { GoesOn self.old self.new }
+        ensures continues { Continues self.old self.new }
         ensures not_gate { result ≢ Err Stop.GateFull }
         ensures arena_full { result ≡ Err Stop.ArenaFull → (state : State) (given : Given)
             → IsIn state given self.old
@@ -171,7 +172,7 @@ impl Core {
         ensures err { OnErr result (self.new.owed ≡ self.old.owed) }
         ensures open { OnOk result (self.new.stop ≡ None) }
         ensures held { self.new.held ≡ self.old.held }
-        ensures goes_on { GoesOn self.old self.new }
+        ensures continues { Continues self.old self.new }
         ensures not_gate { result ≢ Err Stop.GateFull }
         ensures arena_full { result ≡ Err Stop.ArenaFull → (state : State) (given : Given)
             → IsIn state given self.old
@@ -210,7 +211,7 @@ impl Core {
         ensures err { OnErr result ((state : State) (given : Given) → IsIn state given self.old
             → MadeBetween state (leave_all self.old.set.window state) given self.new) }
         ensures open { OnOk result (self.new.stop ≡ None) }
-        ensures goes_on { GoesOn self.old self.new }
+        ensures continues { Continues self.old self.new }
         ensures not_gate { result ≢ Err Stop.GateFull }
         ensures arena_full { result ≡ Err Stop.ArenaFull → (state : State) (given : Given)
             → IsIn state given self.old

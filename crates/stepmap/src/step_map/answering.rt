@@ -11,7 +11,7 @@ ghost use Rattle.tree.specs.declared.question.TheConstants.{SIDE};
 
 use super::StepMap;
 use crate::bounding::{bounds_at, hashes_from, repeated};
-use crate::left::put_told;
+use crate::left::put_answers;
 use crate::query::QueryList;
 use arrayvec::ArrayVec;
 use std::alloc::AllocError;
@@ -28,15 +28,15 @@ impl StepMap {
         requires some { length answers.old.items < length (L.queries queries.now) }
         ensures more { OnOk result (length answers.old.items < length answers.new.items) }
         ensures within { OnOk result (length answers.new.items ≤ length (L.queries queries.now)) }
-        ensures told { OnOk result (AllZip (λ q above. IsTrue above ↔ IsAbove self.now q.0 q.1)
+        ensures answered { OnOk result (AllZip (λ q above. IsTrue above ↔ IsAbove self.now q.0 q.1)
             (take (length answers.old.items) (L.queries queries.now)) answers.old.items
             → AllZip (λ q above. IsTrue above ↔ IsAbove self.now q.0 q.1)
             (take (length answers.new.items) (L.queries queries.now)) answers.new.items) }
     {
         let from = answers.len();
         let places = self.mark_some(queries, answers)?;
-        let told = self.boundaries.are_above(queries, places.as_slice());
-        put_told(answers, from, told.as_slice());
+        let answered = self.boundaries.are_above(queries, places.as_slice());
+        put_answers(answers, from, answered.as_slice());
         Ok(())
     }
 
@@ -48,10 +48,10 @@ impl StepMap {
         marks: &mut Vec<bool>,
     ) -> Result<ArrayVec<usize, SIDE>, AllocError>
         requires some { length marks.old.items < length (L.queries queries.now) }
-        ensures marked { IfOk result (λ places. (told : List Bool)
-            × (marks.new.items ≡ marks.old.items ++ told)
-            × (1 ≤ length told) × AreMarked self.now (L.queries queries.now)
-            (length marks.old.items) told places.items) }
+        ensures marked { IfOk result (λ places. (answered : List Bool)
+            × (marks.new.items ≡ marks.old.items ++ answered)
+            × (1 ≤ length answered) × AreMarked self.now (L.queries queries.now)
+            (length marks.old.items) answered places.items) }
     {
         let count = queries.len();
         let mut places = ArrayVec::new();
@@ -72,8 +72,8 @@ impl StepMap {
         requires some { length marks.old.items < length (L.queries queries.now) }
         requires room { length places.old.items < SIDE }
         ensures more { OnOk result (length marks.old.items < length marks.new.items) }
-        ensures marked { OnOk result ((old told : List Bool) → marks.old.items ≡ old ++ told
-            → AreMarked self.now (L.queries queries.now) (length old) told places.old.items
+        ensures marked { OnOk result ((old answered : List Bool) → marks.old.items ≡ old ++ answered
+            → AreMarked self.now (L.queries queries.now) (length old) answered places.old.items
             → (more : List Bool) × (marks.new.items ≡ old ++ more)
             × AreMarked self.now (L.queries queries.now) (length old) more places.new.items) }
     {

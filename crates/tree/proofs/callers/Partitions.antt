@@ -67,14 +67,14 @@ module _ {X : Type 0} (p : X → Bool) where
   failed xs = All-weaker (λ x. not (p x) ≡ true) (λ x. p x ≡ false) (λ x. not_true (p x)) _ (filter_passes (λ x. not (p x)) xs)
 
   -- what stands behind a bound
-  pub behind_partitioned : (xs : List X) → IsPartitioned p xs → All (λ x. p x ≡ false) (drop (length (filter p xs)) xs)
-  behind_partitioned xs c =
+  pub after_partitioned : (xs : List X) → IsPartitioned p xs → All (λ x. p x ≡ false) (drop (length (filter p xs)) xs)
+  after_partitioned xs c =
       rw (ap (drop (length (filter p xs))) c ∙ drop_at (filter p xs) (filter (λ x. not (p x)) xs) _ refl) (failed xs)
 
-  all_behind : (x : X) (xs ys zs : List X) → p x ≡ false → All (λ y. p y ≡ true) ys
+  all_after : (x : X) (xs ys zs : List X) → p x ≡ false → All (λ y. p y ≡ true) ys
       → All (λ y. p y ≡ false) zs → x ∷ xs ≡ ys ++ x ∷ zs → All (λ y. p y ≡ false) xs
-  all_behind x xs [] zs f a b e = let k : zs ≡ xs = cc in subst (All (λ y. p y ≡ false)) k b
-  all_behind x xs (y ∷ ys) zs f a b e =
+  all_after x xs [] zs f a b e = let k : zs ≡ xs = cc in subst (All (λ y. p y ≡ false)) k b
+  all_after x xs (y ∷ ys) zs f a b e =
       let k : y ≡ x = cc in absurd (not_both (p x) (rw (← k) (All-head (λ z. p z ≡ true) y ys a)) f)
 
   pub Falls-below_from : (xs : List X) → IsPartitioned p xs → Falls p xs
@@ -82,7 +82,7 @@ module _ {X : Type 0} (p : X → Bool) where
   Falls-below_from (x ∷ xs) e =
       elim (cases_Bool (p x)) [
         | inl t ↦ let k = rw t at e in inl (t, Falls-below_from xs (cc))
-        | inr f ↦ inr (f, all_behind x xs (filter p xs) (filter (λ y. not (p y)) xs) f (filter_passes p xs) (failed xs) (rw f at e))
+        | inr f ↦ inr (f, all_after x xs (filter p xs) (filter (λ y. not (p y)) xs) f (filter_passes p xs) (failed xs) (rw f at e))
       ]
 
   pub IsPartitioned-from_falls : (xs : List X) → Falls p xs → IsPartitioned p xs

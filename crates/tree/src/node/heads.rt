@@ -11,7 +11,7 @@ ghost use Rattle.tree.specs.Splice.{AreBothHeaded, AreHalfFull, CanSplice};
 
 use super::Node;
 use crate::bound::Bound;
-use crate::entry::Entry;
+use crate::entry::NodeEntry;
 use arena::Slot;
 use keys::same_bytes;
 
@@ -40,7 +40,7 @@ impl<const N: usize> Node<N> {
         ensures entries { entries_of self.new ≡ entries_of self.old }
         ensures headed { AreHeads (P.bytes bound.now) (key_heads_of self.new) }
     {
-        self.prefix_len = self.beginning(bound);
+        self.prefix_len = self.prefix(bound);
         for index in 0..self.len {
             self.heads[index] = bound.head_of(self.entries[index].key, self.prefix_len());
         }
@@ -48,10 +48,10 @@ impl<const N: usize> Node<N> {
 
     // Returns the length of the common prefix of all keys except an empty one, but no more than
     // fits. If the first key is empty it is one byte less, or 0.
-    fn beginning<P: Bound>(&self, bound: &P) -> u16
+    fn prefix<P: Bound>(&self, bound: &P) -> u16
         requires known { All (IsKnown (P.bytes bound.now)) (keys_of (entries_of self.now)) }
-        ensures begin { (beginning : List ℕ) × (length beginning ≡ result)
-            × All (Begins (P.bytes bound.now) beginning) (keys_of (entries_of self.now)) }
+        ensures begin { (prefix : List ℕ) × (length prefix ≡ result)
+            × All (Begins (P.bytes bound.now) prefix) (keys_of (entries_of self.now)) }
     {
         let entries = self.entries();
         let (Some(first), Some(last)) = (entries.first(), entries.last()) else {
@@ -68,7 +68,7 @@ impl<const N: usize> Node<N> {
     }
 
     /// Sets the entry at an index, and its head unless its key stays.
-    pub fn set_with_head<P: Bound>(&mut self, index: usize, entry: Entry, bound: &P)
+    pub fn set_with_head<P: Bound>(&mut self, index: usize, entry: NodeEntry, bound: &P)
         requires within { index < length (entries_of self.old) }
         requires headed { AreHeads (P.bytes bound.now) (key_heads_of self.old) }
         requires known { IsKnown (P.bytes bound.now) entry.key }
@@ -93,7 +93,7 @@ impl<const N: usize> Node<N> {
         &mut self,
         from: usize,
         to: usize,
-        new: &[Entry],
+        new: &[NodeEntry],
         heads: &[u32],
         have_prefix: bool,
         bound: &P,
@@ -117,7 +117,7 @@ impl<const N: usize> Node<N> {
         &mut self,
         from: usize,
         to: usize,
-        new: &[Entry],
+        new: &[NodeEntry],
         heads: &[u32],
         have_prefix: bool,
         bound: &P,
@@ -261,7 +261,7 @@ fn without_some(count: u16) -> u16
 
 // Returns how many bytes the keys but empty ones begin with in common with one that isn't empty,
 // but no more than fit.
-fn keys_prefix_len<P: Bound>(entries: &[Entry], key: Slot, bound: &P) -> u16
+fn keys_prefix_len<P: Bound>(entries: &[NodeEntry], key: Slot, bound: &P) -> u16
     requires known { All (IsKnown (P.bytes bound.now)) (keys_of entries.now) }
     requires there { Contains (keys_of entries.now) key }
     requires filled { (text : List ℕ) → P.bytes bound.now key ≡ Some text → text ≢ [] }

@@ -11,7 +11,7 @@ ghost use Rattle.tree.specs.declared.node.TheConstants.{PADDING};
 
 use super::Node;
 use crate::bound::Bound;
-use crate::entry::Entry;
+use crate::entry::NodeEntry;
 
 // How many heads a search looks at side by side.
 const BLOCK: usize = 8;
@@ -92,7 +92,7 @@ impl<const N: usize> Node<N> {
     pub fn head_for<P: Bound>(&self, bound: &P, common_prefix_len: usize) -> Option<u32>
         requires headed { AreHeads (P.bytes bound.now) (key_heads_of self.now) }
         requires some { 0 < length (entries_of self.now) }
-        requires common_prefix_len { (e : Entry) (text : List ℕ)
+        requires common_prefix_len { (e : NodeEntry) (text : List ℕ)
             → slice_get (entries_of self.now) 0 ≡ Some e
             → P.bytes bound.now e.key ≡ Some text
             → HaveCommonPrefix common_prefix_len text (P.target bound.now) }
@@ -123,7 +123,7 @@ impl<const N: usize> Node<N> {
         requires some { 0 < length (entries_of self.now) }
         requires has_prefix { IsTrue has_prefix
             → HasPrefix (P.bytes bound.now) (key_heads_of self.now) (P.target bound.now) }
-        requires common_prefix_len { (e : Entry) (text : List ℕ)
+        requires common_prefix_len { (e : NodeEntry) (text : List ℕ)
             → slice_get (entries_of self.now) 0 ≡ Some e
             → P.bytes bound.now e.key ≡ Some text
             → HaveCommonPrefix common_prefix_len text (P.target bound.now) }
@@ -164,7 +164,7 @@ impl<const N: usize> Node<N> {
         requires within { index < length (entries_of self.now) }
         requires head { HasHead (P.bytes bound.now) (P.target bound.now) head
             (key_heads_of self.now) }
-        ensures is_below { (e : Entry) → slice_get (entries_of self.now) index ≡ Some e
+        ensures is_below { (e : NodeEntry) → slice_get (entries_of self.now) index ≡ Some e
             → result ≡ P.below bound.now e.key }
     {
         let own = self.heads[index];
@@ -261,7 +261,7 @@ fn heads_below<const N: usize>(heads: &[u32; N], head: u32) -> usize
 }
 
 // Returns how many of the entries are below the bound, which come first.
-fn lower_bound<P: Bound>(entries: &[Entry], bound: &P) -> usize
+fn lower_bound<P: Bound>(entries: &[NodeEntry], bound: &P) -> usize
     requires partitioned { IsPartitioned (λ e. P.below bound.now e.key) entries.now }
     ensures within { result ≤ length entries.now }
     ensures count { result ≡ length (filter (λ e. P.below bound.now e.key) entries.now) }

@@ -10,7 +10,7 @@ ghost use Rattle.tree.specs.Node.{entries_of, key_heads_of};
 use super::Node;
 use super::heads::same_head_bytes;
 use crate::bound::Bound;
-use crate::entry::Entry;
+use crate::entry::NodeEntry;
 
 /// The step of a search down from a node.
 #[derive(Clone, Copy, Debug)]
@@ -90,7 +90,7 @@ impl<const N: usize> Node<N> {
         let Some(own) = head else {
             return self.step_by(bound, common_prefix_len, None);
         };
-        if !self.falls_behind(guess, own) {
+        if !self.falls_after(guess, own) {
             return self.step_by(bound, common_prefix_len, Some(own));
         }
         let known = self.common_prefix_len_in(guess, bound, common_prefix_len, Some(own));
@@ -102,9 +102,9 @@ impl<const N: usize> Node<N> {
 
     // Returns whether a head is above that of the entry at an index, and below the next one, if
     // there is one.
-    fn falls_behind(&self, index: usize, head: u32) -> bool
+    fn falls_after(&self, index: usize, head: u32) -> bool
         ensures within { IsTrue result → index < length (entries_of self.now) }
-        ensures behind { IsTrue result → get_or (key_heads_of self.now).heads index 0 < head }
+        ensures following { IsTrue result → get_or (key_heads_of self.now).heads index 0 < head }
         ensures before { IsTrue result → index + 1 < length (entries_of self.now)
             → head < get_or (key_heads_of self.now).heads (index + 1) 0 }
     {
@@ -150,7 +150,7 @@ impl<const N: usize> Node<N> {
         requires known { IsCommonPrefixAt (P.bytes bound.now) (P.below bound.now)
             (P.target bound.now) (Some common_prefix_len)
             (entries_of self.now) 0 }
-        requires is_below { (e : Entry) → slice_get (entries_of self.now) index ≡ Some e
+        requires is_below { (e : NodeEntry) → slice_get (entries_of self.now) index ≡ Some e
             → IsTrue (P.below bound.now e.key) }
         requires head { IsHeadFor (P.bytes bound.now) (P.target bound.now) common_prefix_len head
             (key_heads_of self.now) }

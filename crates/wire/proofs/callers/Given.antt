@@ -29,17 +29,17 @@ appends_nothing (Some xs) None h = absurd h
 appends_nothing (Some xs) (Some ys) h = h ∙ append-nil xs
 
 -- as a writer tells its bytes only under a test
-pub told_appends : (hidden : Bool) (a b c : Option (List ℕ)) (bs : List ℕ) → Keeps a b → Appends b c bs
+pub reported_appends : (hidden : Bool) (a b c : Option (List ℕ)) (bs : List ℕ) → Keeps a b → Appends b c bs
     → Appends (if hidden then None else a) (if hidden then None else c) bs
-told_appends true a b c bs h k = tt
-told_appends false a b c bs h k = keeps_appends a b c bs h k
+reported_appends true a b c bs h k = tt
+reported_appends false a b c bs h k = keeps_appends a b c bs h k
 
-pub told_keeps : (hidden after : Bool) (a b : Option (List ℕ)) → hidden ≡ false → Keeps a b
+pub reported_keeps : (hidden after : Bool) (a b : Option (List ℕ)) → hidden ≡ false → Keeps a b
     → IfSome (if after then None else b) (λ _. Keeps (if hidden then None else a) (if after then None else b))
-told_keeps true after a b e h = cc
-told_keeps false true a b e h = tt
-told_keeps false false a None e h = tt
-told_keeps false false a (Some ys) e h = h
+reported_keeps true after a b e h = cc
+reported_keeps false true a b e h = tt
+reported_keeps false false a None e h = tt
+reported_keeps false false a (Some ys) e h = h
 
 -- one write more of a longer slice
 pub written_more : (a b c : Option (List ℕ)) (bytes : List ℕ) (written n : ℕ)
@@ -49,12 +49,12 @@ written_more a b c bytes written n h k =
     rw (take-add written n bytes) (appends_then a b c (take written bytes) (take n (drop written bytes)) h k)
 
 -- a failed write leaves what was written before it
-pub beginning : (a b c : Option (List ℕ)) (bytes : List ℕ) (written : ℕ) → Appends a b (take written bytes)
+pub prefix : (a b c : Option (List ℕ)) (bytes : List ℕ) (written : ℕ) → Appends a b (take written bytes)
     → IfSome c (λ _. Keeps b c) → IfSome c (λ _. (n : ℕ) × Appends a c (take n bytes))
-beginning a b None bytes written h k = tt
-beginning None b (Some zs) bytes written h k = (written, tt)
-beginning (Some xs) None (Some zs) bytes written h k = absurd h
-beginning (Some xs) (Some ys) (Some zs) bytes written h k = (written, k ∙ h)
+prefix a b None bytes written h k = tt
+prefix None b (Some zs) bytes written h k = (written, tt)
+prefix (Some xs) None (Some zs) bytes written h k = absurd h
+prefix (Some xs) (Some ys) (Some zs) bytes written h k = (written, k ∙ h)
 
 -- what is known at an error, weakened
 pub on_err_weaker : {T E P Q : Type 0} (r : Result T E) → (P → Q) → OnErr r P → OnErr r Q

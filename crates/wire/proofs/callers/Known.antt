@@ -38,10 +38,10 @@ consumes_then (Some xs) (Some ys) (Some zs) bs cs h k =
     h ∙ ap (λ (x : List ℕ). bs ++ x) k ∙ sym (append_assoc bs cs zs)
 
 -- as a reader tells its bytes only under a test
-pub told_consumes : (hidden : Bool) (a b c : Option (List ℕ)) (bs : List ℕ) → Keeps a b → Consumes b c bs
+pub reported_consumes : (hidden : Bool) (a b c : Option (List ℕ)) (bs : List ℕ) → Keeps a b → Consumes b c bs
     → Consumes (if hidden then None else a) (if hidden then None else c) bs
-told_consumes true a b c bs h k = tt
-told_consumes false a b c bs h k = keeps_consumes a b c bs h k
+reported_consumes true a b c bs h k = tt
+reported_consumes false a b c bs h k = keeps_consumes a b c bs h k
 
 -- nothing was left, if nothing is left after nothing was taken
 pub none_before : (a b : Option (List ℕ)) (bs : List ℕ) → Consumes a b bs → bs ≡ [] → IsAtEnd b → IsAtEnd a

@@ -6,7 +6,7 @@ use Rattle.keyspace.proofs.callers.Judging.{only_judge}
 use Rattle.conflict.specs.declared.error.SetStop.TheVariants.{Memory}
 use Rattle.conflict.specs.ConflictSet.{raised, stop_after, HasRoomToWrite}
 use Rattle.archcaraway_c.proofs.ReplyLength.{reply_within}
-use Rattle.archcaraway_c.proofs.WhenFull.{met_behind}
+use Rattle.archcaraway_c.proofs.WhenFull.{met_after}
 use Rattle.archcaraway_c.proofs.set_object.reply_to.Goals as goal
 
 pub returns-in-Ok-encode_reply-clause-short : goal.returns-in-Ok-encode_reply-clause-short
@@ -44,13 +44,13 @@ returns-in-Err-clause-stops c =
     let w = c.args.when_full in
     let met = c.in-Err.stop in
     record {
-      met_now = met_behind w met old c.resolve_when.new.self old.stop (stop_after w met) c.requires.goes_on refl
+      met_now = met_after w met old c.resolve_when.new.self old.stop (stop_after w met) c.requires.continues refl
           (λ refuse full. c.in-Err.ensures.refused refuse (ap Err full));
       window = c.in-Err.ensures.window;
       limit = c.in-Err.ensures.limit;
-      full = λ is. c.in-Err.ensures.full c.requires.goes_on (ap Err is);
-      no_room = λ is. c.in-Err.ensures.no_room c.requires.goes_on (ap Err is);
-      memory = λ is. c.in-Err.ensures.memory c.requires.goes_on (ap Err is);
+      full = λ is. c.in-Err.ensures.full c.requires.continues (ap Err is);
+      no_room = λ is. c.in-Err.ensures.no_room c.requires.continues (ap Err is);
+      memory = λ is. c.in-Err.ensures.memory c.requires.continues (ap Err is);
     }
 
 -- There was room, since the batch was judged and written.
@@ -59,8 +59,8 @@ returns-clause-stops c =
     let old = c.args.set.now in
     let batch = c.args.batch.now in
     record {
-      met_now = met_behind c.args.when_full Memory old c.resolve_when.new.self old.stop (stop_after c.args.when_full Memory)
-          c.requires.goes_on refl (λ refuse full. absurd cc);
+      met_now = met_after c.args.when_full Memory old c.resolve_when.new.self old.stop (stop_after c.args.when_full Memory)
+          c.requires.continues refl (λ refuse full. absurd cc);
       window = c.in-Ok.ensures.window;
       limit = c.in-Ok.ensures.limit;
       full = λ is. absurd cc;

@@ -44,5 +44,5 @@ returns-clause-clipped g c some =
       c.in_ok-next_frame.ensures.taken,
       subst (λ (bytes : List ℕ). BecomesClip c.args.points.now c.args.shard bytes clip) c.deref.ensures.value
           c.in_ok-clip.ensures.clip,
-      subst (λ (bytes : List ℕ). Appends before after bytes) c.deref-2.ensures.value c.in_ok-write_all.ensures.whole,
+      subst (λ (bytes : List ℕ). Appends before after bytes) c.deref-2.ensures.value c.in_ok-write_all.ensures.entire,
     )

@@ -1,6 +1,6 @@
 use Rattle.std.proofs.Common.{◌≡◌, None}
 use Rattle.batches_program.specs.Lines.{BecomesFrame}
-use Rattle.batches_program.specs.Told.{Tells, length_told}
+use Rattle.batches_program.specs.ErrorText.{ReportsText, progress_length}
 use Rattle.batches_program.proofs.Turning.{SoFar}
 use Rattle.batches_program.proofs.encoder.encode.Given as goal
 
@@ -9,6 +9,6 @@ invariant-loop-number g l =
     SoFar (BecomesFrame l.kind) (g.R.Read.remaining l.fn.reader) (g.R.Read.remaining l.reader) (g.W.Sink.given l.fn.writer)
     (g.W.Sink.given l.writer) l.number
     × (g.W.Sink.failures l.writer ≡ g.W.Sink.failures l.fn.writer)
-    × (length_told l.progress ≡ length_told l.fn.progress)
-    × Tells (g.E.Sink.given l.fn.error) (g.E.Sink.given l.error) (g.E.Sink.failures l.fn.error) (g.E.Sink.failures l.error)
-    × (length_told l.fn.progress ≡ None → l.error ≡ l.fn.error)
+    × (progress_length l.progress ≡ progress_length l.fn.progress)
+    × ReportsText (g.E.Sink.given l.fn.error) (g.E.Sink.given l.error) (g.E.Sink.failures l.fn.error) (g.E.Sink.failures l.error)
+    × (progress_length l.fn.progress ≡ None → l.error ≡ l.fn.error)

@@ -1,5 +1,5 @@
 use Rattle.std.proofs.Common.{codes, refl}
 use Rattle.batches_program.proofs.failure.fail_in.Goals as goal
 
-pub tell-requires-in-Err : goal.tell-requires-in-Err
-tell-requires-in-Err g c = record { line = (codes "memory was refused", refl) }
+pub report_line-requires-in-Err : goal.report_line-requires-in-Err
+report_line-requires-in-Err g c = record { line = (codes "memory was refused", refl) }

@@ -3,7 +3,7 @@ use Rattle.std.proofs.lemmas.Result.{err_from_is_err_and}
 use Rattle.batches_program.specs.Lines.{IsPrinted}
 use Rattle.batches_program.specs.Failing.{FailsFrame}
 use Rattle.batches_program.specs.declared.failure.Failure.TheVariants.{Memory}
-use Rattle.batches_program.proofs.Telling.{tells_none, tells_then}
+use Rattle.batches_program.proofs.Reporting.{reports_none, reports_then}
 use Rattle.batches_program.proofs.Turning.{nothing_yet, one_more, at_the_end, stops}
 use Rattle.batches_program.proofs.printer.print_frames.Goals as goal
 
@@ -13,7 +13,7 @@ loop-number-init g c = (
   refl,
   refl,
   refl,
-  tells_none (g.E.Sink.given c.args.error.now) (g.E.Sink.failures c.args.error.now),
+  reports_none (g.E.Sink.given c.args.error.now) (g.E.Sink.failures c.args.error.now),
   λ none. refl,
 )
 
@@ -44,9 +44,9 @@ loop-number-preserved g c =
       c.in_ok-length.ensures.ok ∙ c.loop-number.invariant.1,
       c.in_ok-length.ensures.read_ok ∙ c.loop-number.invariant.2,
       c.advance.ensures.length ∙ c.loop-number.invariant.3,
-      tells_then (g.E.Sink.given c.args.error.now) (g.E.Sink.given c.loop-number.error) (g.E.Sink.given c.advance.new.error)
+      reports_then (g.E.Sink.given c.args.error.now) (g.E.Sink.given c.loop-number.error) (g.E.Sink.given c.advance.new.error)
           (g.E.Sink.failures c.args.error.now) (g.E.Sink.failures c.loop-number.error) (g.E.Sink.failures c.advance.new.error)
-          c.loop-number.invariant.4 c.advance.ensures.told,
+          c.loop-number.invariant.4 c.advance.ensures.reported,
       λ none. c.advance.ensures.quiet (c.loop-number.invariant.3 ∙ none) ∙ c.loop-number.invariant.5 none,
     )
 

@@ -1,10 +1,10 @@
-use Rattle.batches_program.proofs.Telling.{line_after}
+use Rattle.batches_program.proofs.Reporting.{line_after}
 use Rattle.batches_program.proofs.program.convert_file.Goals as goal
 
-pub returns-in-Err-clause-told : goal.returns-in-Err-clause-told
-returns-in-Err-clause-told g c failed =
+pub returns-in-Err-clause-reported : goal.returns-in-Err-clause-reported
+returns-in-Err-clause-reported g c failed =
     let given = g.E.Sink.given in
     let failures = g.E.Sink.failures in
     line_after (given c.args.error.now) (given c.do_line.new.error) (given c.fail.new.error)
     (failures c.args.error.now) (failures c.do_line.new.error) (failures c.fail.new.error)
-    c.do_line.ensures.told c.fail.ensures.told
+    c.do_line.ensures.reported c.fail.ensures.reported

@@ -1,7 +1,7 @@
 use Rattle.std.proofs.Common.{◌≡◌, ◌≤◌, ◌≤ℤ◌, All, length, get_or, take, take_all, pos, subst, w64, SFits, to_z, of_z, rules, arith}
 use Rattle.std.proofs.lemmas.Int.{ints, to_z-of_z}
 use Rattle.batches_report.specs.Bins.{IsWithin}
-use Rattle.batches_report.specs.declared.row.Row.{Row}
+use Rattle.batches_report.specs.declared.row.TxnRow.{TxnRow}
 use Rattle.batches_report.proofs.Adding.{within_more}
 use Rattle.batches_report.proofs.bins.versions_of.Goals as goal
 
@@ -9,7 +9,7 @@ pub loop-row-preserved : goal.loop-row-preserved
 loop-row-preserved c =
     let low = c.min-least.ensures in
     let high = c.max-greatest.ensures in
-    let none : Row = record { version = pos 0; txns = 0; conflicts = 0; too_old = 0; reported = 0 } in
+    let none : TxnRow = record { version = pos 0; txns = 0; conflicts = 0; too_old = 0; reported = 0 } in
     let v = (get_or c.args.rows.now c.loop-row.row-index none).version in
     let fits : SFits w64 v = search rules in
     let same = to_z-of_z w64 v fits in

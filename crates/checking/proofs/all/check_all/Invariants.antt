@@ -7,7 +7,7 @@ use Rattle.checking.proofs.all.check_all.Given as goal
 -- what was told so far, and what is to be told of the proxies that are left
 abbrev pub invariant-loop-replies : goal.invariant-loop-replies
 invariant-loop-replies l = record {
-  told :
+  reported :
       l.checked.text.items
       ++ lines_from l.proxy (map vec_items (into_iter_items l.replies-iterator)) (map vec_items (into_iter_items l.recorded))
       ≡ lines_from 0 (map vec_items l.fn.expected.items) (map vec_items l.fn.recorded.items);

@@ -1,5 +1,5 @@
 use Rattle.std.proofs.Common.{arith}
-use Rattle.checking.proofs.Matched.{matched_none, matched_turn, behind_front}
+use Rattle.checking.proofs.Matched.{matched_none, matched_turn, after_front}
 use Rattle.checking.proofs.matching.match_sorted.Goals as goal
 
 pub loop-reply-init : goal.loop-reply-init
@@ -9,12 +9,12 @@ loop-reply-init c =
 
 pub match_first-requires-clause-from : goal.match_first-requires-clause-from
 match_first-requires-clause-from c =
-    (behind_front c.reply-item.result.version c.loop-reply.rest.now c.split_at.result.1.now c.count_before.result
+    (after_front c.reply-item.result.version c.loop-reply.rest.now c.split_at.result.1.now c.count_before.result
     c.count_before.ensures.before c.split_at.ensures.back c.loop-reply.invariant.rises).0
 
 pub match_first-requires-clause-rise : goal.match_first-requires-clause-rise
 match_first-requires-clause-rise c =
-    (behind_front c.reply-item.result.version c.loop-reply.rest.now c.split_at.result.1.now c.count_before.result
+    (after_front c.reply-item.result.version c.loop-reply.rest.now c.split_at.result.1.now c.count_before.result
     c.count_before.ensures.before c.split_at.ensures.back c.loop-reply.invariant.rises).1
 
 pub loop-reply-preserved : goal.loop-reply-preserved

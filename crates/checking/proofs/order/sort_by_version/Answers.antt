@@ -6,7 +6,7 @@ use Rattle.checking.proofs.order.sort_by_version.Goals as goal
 
 pub returns : goal.returns
 returns g c =
-    let version = g.T.Versioned.version_told in
+    let version = g.T.Versioned.item_version in
     let ok = on_ok_weaker c.sort_by_key.result
     (λ up. in_order-from_sort_by_key version _ _ up c.sort_by_key.ensures.stable (λ a r f' k. search rules))
     c.sort_by_key.ensures.sorted in

@@ -12,7 +12,7 @@ use Rattle.conflict.proofs.Hits.{
   later_true,
   none_hit,
   some_hit,
-  marked_whole,
+  marked_entire,
   places_of_hits,
   places_of_both,
   are_places,
@@ -108,7 +108,7 @@ returns c =
       judged = λ ws hits.
           marked_entry c.args.oldest ws t c.new-3.result made.verdict
           (made.places ∙ c.new-2.ensures.places ∙ reported (goal.at.returns c).In_ok-push_places-2
-          ∙ ap (true_places 0) (marked_whole ws t (first ++ others) (hits young).1
+          ∙ ap (true_places 0) (marked_entire ws t (first ++ others) (hits young).1
           (ap (λ (u : Txn). u.marked) (sym c.txn.view_is) ∙ c.if-not-txn.false))
           ∙ places_of_hits 0 (is_hit ws t) t.reads) young
           (some_hit ws t (first ++ others) (hits young).0.0 (hits young).0.1 some)

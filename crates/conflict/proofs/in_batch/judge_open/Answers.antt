@@ -1,47 +1,47 @@
 use Rattle.std.proofs.Common.{◌≡◌, ◌++◌, ◌∷◌, ◌∙◌, [], cond, length, take, drop, ap, sym, subst}
 use Rattle.keyspace.specs.declared.txn.Txn.{Txn}
-use Rattle.conflict.specs.Written.{AreWrittenGaps, TellRuns}
+use Rattle.conflict.specs.Written.{AreWrittenGaps, AreRunsOf}
 use Rattle.keyspace.specs.Writes.{counted}
-use Rattle.conflict.proofs.Told.{told_split}
+use Rattle.conflict.proofs.RunsOfRanges.{determined_split}
 use Rattle.conflict.proofs.Written.{no_more_written}
 use Rattle.conflict.proofs.FirstMet.{unmet_entry, met_entry}
 use Rattle.conflict.proofs.in_batch.judge_open.Goals as goal
 
 pub returns-in_ok-place_if_marked-clause-judged : goal.returns-in_ok-place_if_marked-clause-judged
-returns-in_ok-place_if_marked-clause-judged c = λ keys written t shaped tell told have.
+returns-in_ok-place_if_marked-clause-judged c = λ keys written t shaped determine determined have.
     let runs = c.args.runs.now in
     let front = c.split_at.ensures.front
     ∙ ap (λ n. take n runs) (c.len.ensures.count ∙ ap (λ (u : Txn). length u.reads) c.txn.view_is ∙ sym shaped.reads) in
-    let reads : TellRuns keys c.split_at.result.0.now t.reads =
-    rw front (told_split keys runs t.reads t.writes tell).0 in
+    let reads : AreRunsOf keys c.split_at.result.0.now t.reads =
+    rw front (determined_split keys runs t.reads t.writes determine).0 in
     met_entry written t c.args.entry.now c.new.result c.in-Some.place c.requires.open
-    (c.in-Some.ensures.first keys written t.reads reads told have) c.new.ensures.verdict
+    (c.in-Some.ensures.first keys written t.reads reads determined have) c.new.ensures.verdict
     (c.new.ensures.places ∙ c.in_ok-place_if_marked.ensures.places
     ∙ ap (λ marked. cond marked (c.in-Some.place ∷ []) []) (sym shaped.marked))
 
 pub returns-in_ok-place_if_marked-clause-marked : goal.returns-in_ok-place_if_marked-clause-marked
-returns-in_ok-place_if_marked-clause-marked c = λ keys written t shaped tell told have.
+returns-in_ok-place_if_marked-clause-marked c = λ keys written t shaped determine determined have.
     no_more_written keys c.args.gaps.now written _
-    (ap (λ v. counted v t.writes) c.new.ensures.verdict) told
+    (ap (λ v. counted v t.writes) c.new.ensures.verdict) determined
 
 pub returns-in_default-clause-judged : goal.returns-in_default-clause-judged
-returns-in_default-clause-judged c = λ keys written t shaped tell told have.
+returns-in_default-clause-judged c = λ keys written t shaped determine determined have.
     let runs = c.args.runs.now in
     let front = c.split_at.ensures.front
     ∙ ap (λ n. take n runs) (c.len.ensures.count ∙ ap (λ (u : Txn). length u.reads) c.txn.view_is ∙ sym shaped.reads) in
-    let reads : TellRuns keys c.split_at.result.0.now t.reads =
-    rw front (told_split keys runs t.reads t.writes tell).0 in
+    let reads : AreRunsOf keys c.split_at.result.0.now t.reads =
+    rw front (determined_split keys runs t.reads t.writes determine).0 in
     unmet_entry written t c.args.entry.now c.requires.open
-    (c.in_default.ensures.first keys written t.reads reads told have)
+    (c.in_default.ensures.first keys written t.reads reads determined have)
 
 pub returns-in_default-clause-marked : goal.returns-in_default-clause-marked
-returns-in_default-clause-marked c = λ keys written t shaped tell told have.
+returns-in_default-clause-marked c = λ keys written t shaped determine determined have.
     let runs = c.args.runs.now in
     let back = c.split_at.ensures.back
     ∙ ap (λ n. drop n runs) (c.len.ensures.count ∙ ap (λ (u : Txn). length u.reads) c.txn.view_is ∙ sym shaped.reads) in
-    let writes : TellRuns keys c.split_at.result.1.now t.writes =
-    rw back (told_split keys runs t.reads t.writes tell).1 in
+    let writes : AreRunsOf keys c.split_at.result.1.now t.writes =
+    rw back (determined_split keys runs t.reads t.writes determine).1 in
     let counts : t.writes ≡ counted c.args.entry.now.verdict t.writes =
     ap (λ v. counted v t.writes) (sym c.requires.open) in
     subst (λ ranges. AreWrittenGaps keys c.mark.new.gaps (written ++ ranges)) counts
-    (c.mark.ensures.marked keys written t.writes writes told)
+    (c.mark.ensures.marked keys written t.writes writes determined)

@@ -2,7 +2,7 @@ use Rattle.std.proofs.Common.{w64, to_z, of_z, ◌≡◌, [], length, ap, sym, �
 use Rattle.std.proofs.lemmas.Int.{to_z-of_z}
 use Rattle.keyspace.specs.Judge.{judge_txns}
 use Rattle.conflict.specs.InBatch.{in_batches}
-use Rattle.conflict.proofs.JudgedBatch.{length-in_batches, changed_whole}
+use Rattle.conflict.proofs.JudgedBatch.{length-in_batches, changed_entire}
 use Rattle.conflict.proofs.judging.judge_batch.Goals as goal
 
 pub returns-clause-judged : goal.returns-clause-judged
@@ -14,7 +14,7 @@ returns-clause-judged c = λ ws covers.
     c.in_ok-judge_in_batch.ensures.judged ∙ ap (in_batches [] txns) c.deref_mut.ensures.value in
     let long = ap length is ∙ length-in_batches [] txns es.items c.in_ok-entries.ensures.count
     ∙ sym c.in_ok-entries.ensures.count ∙ sym es.ok.0 in
-    changed_whole after es.items es.len long ∙ is
+    changed_entire after es.items es.len long ∙ is
     ∙ ap (in_batches [] txns) (c.in_ok-entries.ensures.judged ws covers)
     ∙ sym (c.history_first.ensures.scan (to_z w64 (of_z w64 c.args.oldest)) ws [] txns)
     ∙ ap (λ oldest. judge_txns oldest ws [] txns) (to_z-of_z w64 c.args.oldest c.ranges.oldest)

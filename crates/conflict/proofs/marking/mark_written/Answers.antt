@@ -8,7 +8,7 @@ use Rattle.keyspace.specs.declared.reply.Verdict.{Verdict}
 use Rattle.keyspace.specs.declared.reply.Verdict.TheVariants.{Conflict, TooOld, Committed}
 use Rattle.keyspace.specs.declared.txn.Txn.{Txn}
 use Rattle.conflict.proofs.Parts.{lent_at}
-use Rattle.conflict.proofs.Marks.{AreMarksOf, counts, marked_to-init, marked_to-room, marked_to-next, marked_to-all, part_set, told_at}
+use Rattle.conflict.proofs.Marks.{AreMarksOf, counts, marked_to-init, marked_to-room, marked_to-next, marked_to-all, part_set, determined_at}
 use Rattle.conflict.proofs.marking.mark_written.Goals.{then-eq, else-eq}
 use Rattle.conflict.proofs.marking.mark_written.Goals as goal
 
@@ -86,4 +86,4 @@ returns c =
     let size : length marks ≡ c.resize.new.self.len = c.loop-index.auto.marks ∙ c.deref_mut.ensures.len in
     let now = subst (λ ms. AreMarksOf ms txns c.args.entries.now)
     (sym (take_at marks (drop (length marks) c.resize.new.self.items) c.resize.new.self.len size)) all in
-    record { written = now.written; count = now.count; writes = told_at _ (write_marks txns) now.tell }
+    record { written = now.written; count = now.count; writes = determined_at _ (write_marks txns) now.determine }

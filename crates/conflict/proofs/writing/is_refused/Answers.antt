@@ -13,15 +13,15 @@ true_unless false h = absurd (h refl)
 
 pub returns-in-Refuse-clause-full : goal.returns-in-Refuse-clause-full
 returns-in-Refuse-clause-full c = λ refused room.
-    let told = rw (to_z-of_z w64 c.args.edge c.ranges.edge) at c.can_make_room.ensures.room in
-    not_both c.can_make_room.result refused (told.1 room)
+    let determined = rw (to_z-of_z w64 c.args.edge c.ranges.edge) at c.can_make_room.ensures.room in
+    not_both c.can_make_room.result refused (determined.1 room)
 
 pub returns-in-Refuse-clause-bound : goal.returns-in-Refuse-clause-bound
 returns-in-Refuse-clause-bound c = λ refused.
     (rw (to_z-of_z w64 c.args.edge c.ranges.edge) at c.can_make_room.ensures.bound)
-    (λ told. not_both c.can_make_room.result refused told)
+    (λ determined. not_both c.can_make_room.result refused determined)
 
 pub returns-in-Refuse-clause-fits : goal.returns-in-Refuse-clause-fits
 returns-in-Refuse-clause-fits c = λ refuse kept.
-    let told = rw (to_z-of_z w64 c.args.edge c.ranges.edge) at c.can_make_room.ensures.room in
-    told.0 (true_unless c.can_make_room.result kept)
+    let determined = rw (to_z-of_z w64 c.args.edge c.ranges.edge) at c.can_make_room.ensures.room in
+    determined.0 (true_unless c.can_make_room.result kept)

@@ -2,7 +2,7 @@ use Rattle.std.proofs.Common.{w64, SFits, Err, ◌≡◌, ◌≤ℤ◌, ◌+◌,
 use Rattle.std.proofs.lemmas.Bool.{cases_lt}
 use Rattle.std.proofs.lemmas.Int.{to_z-of_z}
 use Rattle.std.specs.Prelude.{ℕ, Bool, true, false, slice_index_or}
-use Rattle.keys.specs.Ranks.{AreChosenInOrder}
+use Rattle.keys.specs.GapRuns.{AreChosenInOrder}
 use Rattle.keys.specs.declared.range.Range.{Range}
 use Rattle.keys.specs.Singles.{AreRankedFor}
 use Rattle.keyspace.specs.BatchRanges.{is_write_in, writes_in}
@@ -166,9 +166,9 @@ returns-in_err-prepare-clause-refused c = λ refuse full.
     let is = full_of c.in_err-prepare.field-0.0 (of_err _ full c.from_residual-in_err-prepare.ensures.1) in
     let same : length c.spans-spans.result.now ≡ n =
     omega (arith, ap length c.deref-2.ensures.value, c.in_ok-gather_lengths.ensures.count) in
-    let told = c.is_refused.ensures.fits refuse (λ refused. not_both_ways c.is_refused.result refused c.if-is_refused.false) in
+    let determined = c.is_refused.ensures.fits refuse (λ refused. not_both_ways c.is_refused.result refused c.if-is_refused.false) in
     let fits = subst (λ e. HasRoomFor (length c.spans-spans.result.now) (made_room (length c.spans-spans.result.now) (raised e steps)))
-    (to_z-of_z w64 c.args.edge c.ranges.edge) told in
+    (to_z-of_z w64 c.args.edge c.ranges.edge) determined in
     let room = subst (λ n. HasRoomFor n (made_room n (raised c.args.edge steps))) same fits in
     absurd (c.in_err-prepare.ensures.full.0 (ap Err is) (subst (λ m. HasRoomFor n (made_room n m)) (sym raise) room))
 
@@ -203,21 +203,21 @@ write_prepared-requires-clause-apart c =
     (union (goal.at.write_prepared-requires-clause-apart c).After-spans-spans))
 
 pub write_prepared-requires-clause-start : goal.write_prepared-requires-clause-start
-write_prepared-requires-clause-start c = λ united told_spans.
+write_prepared-requires-clause-start c = λ united determined_spans.
     let spans = subst (λ (ranges : List Range). AreSpanned ranges c.spans-spans.result.now united)
-    (sym c.ranges-ranges.ensures.ranges) told_spans in
+    (sym c.ranges-ranges.ensures.ranges) determined_spans in
     let version = c.args.batch.now.version in
     let fits : SFits w64 version = search rules in
     let one = union (goal.at.write_prepared-requires-clause-start c).After-spans-spans in
-    let told = c.in_ok-prepare.ensures in
-    let ready = ap (λ (m : Steps). m.ready) told.ok ∙ c.deref-2.ensures.value
+    let determined = c.in_ok-prepare.ensures in
+    let ready = ap (λ (m : Steps). m.ready) determined.ok ∙ c.deref-2.ensures.value
     ∙ c.in_ok-gather_lengths.ensures.lengths united spans in
-    let edge = told.edge ∙ ap (λ (m : Steps). m.edge) (up (goal.at.write_prepared-requires-clause-start c).After-raise) in
+    let edge = determined.edge ∙ ap (λ (m : Steps). m.edge) (up (goal.at.write_prepared-requires-clause-start c).After-raise) in
     let turn = c.writing.ensures.in_turn united version
     (apart c.ranges-ranges.result c.spans-spans.result.now (committed c.args.batch.now.txns c.args.entries.now) one united
     spans) in
     rw c.note_keys.ensures.same (subst (λ v. IsWriting united v 0 c.prepare.new.self c.prepare.new.self) (sym (to_z-of_z w64 version fits))
-    (turn.start c.prepare.new.self told.steps ready (told.newest version (c.raise.ensures.newest version c.requires.newest))
+    (turn.start c.prepare.new.self determined.steps ready (determined.newest version (c.raise.ensures.newest version c.requires.newest))
     (subst (λ edge. edge ≤ℤ version) (sym edge) c.requires.late)))
 
 -- the ranges that the spans name are written at the batch's version
@@ -255,8 +255,8 @@ wrote_exactly c united spans =
 pub returns-clause-edge : goal.returns-clause-edge
 returns-clause-edge c =
     let at = goal.at.returns-clause-edge c in
-    let told = c.in_ok-prepare.ensures.edge ∙ ap (λ (m : Steps). m.edge) (up at.After-raise) in
-    c.write_prepared.ensures.edge ∙ ap (λ (m : Steps). m.edge) c.note_keys.ensures.same ∙ told
+    let determined = c.in_ok-prepare.ensures.edge ∙ ap (λ (m : Steps). m.edge) (up at.After-raise) in
+    c.write_prepared.ensures.edge ∙ ap (λ (m : Steps). m.edge) c.note_keys.ensures.same ∙ determined
 
 pub returns-clause-united : goal.returns-clause-united
 returns-clause-united c =
@@ -264,14 +264,14 @@ returns-clause-united c =
     let one = union at.After-spans-spans in
     let version = c.args.batch.now.version in
     let as_many = spanned_count c.ranges-ranges.result c.spans-spans.result.now one.0 one.1 in
-    let told = c.in_ok-prepare.ensures.ok
+    let determined = c.in_ok-prepare.ensures.ok
     ∙ ap (λ lengths. prepared lengths c.raise.new.self)
     (c.deref-2.ensures.value ∙ c.in_ok-gather_lengths.ensures.lengths one.0 one.1)
     ∙ ap (prepared (map lengths one.0)) (up at.After-raise) in (
       one.0,
       one.2,
       as_many,
-      wrote_exactly at.After-write_prepared one.0 one.1 ∙ ap (after_writes one.0 version) told,
+      wrote_exactly at.After-write_prepared one.0 one.1 ∙ ap (after_writes one.0 version) determined,
     )
 
 pub returns-clause-covers : goal.returns-clause-covers

@@ -5,7 +5,7 @@ use Rattle.std.proofs.lemmas.Option.{slice_get_within}
 use Rattle.keys.specs.declared.range.Range.{Range}
 use Rattle.stepmap.specs.Laws.{IsWriting, MayBeNext}
 use Rattle.keyspace.specs.BatchRanges.{ranges_in}
-use Rattle.conflict.specs.declared.union.Span.{Span}
+use Rattle.conflict.specs.declared.union.UnitedSpan.{UnitedSpan}
 use Rattle.stepmap.specs.Writing.{after_write}
 use Rattle.conflict.specs.Union.{Spans}
 use Rattle.conflict.specs.Pace.{after_writes}
@@ -15,10 +15,10 @@ use Rattle.conflict.proofs.writing.write_prepared.Goals.{In-Some, In_default}
 use Rattle.conflict.proofs.writing.write_prepared.Goals as goal
 
 -- the span at the index, which the range is of
-found : (c : In-Some) → (span : Span) × (slice_get c.args.spans.now c.loop-next.index ≡ Some span)
+found : (c : In-Some) → (span : UnitedSpan) × (slice_get c.args.spans.now c.loop-next.index ≡ Some span)
     × Spans (ranges_in c.args.txns.now) span c.in-Some.range
 found c =
-    subst (λ o. MatchOption o (length c.args.spans.now ≤ c.loop-next.index) (λ range. (span : Span)
+    subst (λ o. MatchOption o (length c.args.spans.now ≤ c.loop-next.index) (λ range. (span : UnitedSpan)
     × (slice_get c.args.spans.now c.loop-next.index ≡ Some span)
     × Spans (ranges_in c.args.txns.now) span range)) c.in-Some.is c.loop-next.invariant.next
 
@@ -102,7 +102,7 @@ loop-next-preserved c =
 -- no range is left
 all_written : (c : In_default) → c.loop-next.index ≡ length c.args.spans.now
 all_written c =
-    let none = subst (λ o. MatchOption o (length c.args.spans.now ≤ c.loop-next.index) (λ range. (span : Span)
+    let none = subst (λ o. MatchOption o (length c.args.spans.now ≤ c.loop-next.index) (λ range. (span : UnitedSpan)
     × (slice_get c.args.spans.now c.loop-next.index ≡ Some span)
     × Spans (ranges_in c.args.txns.now) span range)) c.in_default.is c.loop-next.invariant.next in
     omega (arith, none, c.loop-next.invariant.within)

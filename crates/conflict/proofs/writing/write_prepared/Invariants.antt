@@ -3,7 +3,7 @@ use Rattle.std.specs.Prelude.{MatchOption, Some, slice_get}
 use Rattle.keys.specs.declared.range.Range.{Range}
 use Rattle.stepmap.specs.Laws.{IsWriting}
 use Rattle.keyspace.specs.BatchRanges.{ranges_in}
-use Rattle.conflict.specs.declared.union.Span.{Span}
+use Rattle.conflict.specs.declared.union.UnitedSpan.{UnitedSpan}
 use Rattle.conflict.specs.Union.{Spans, AreSpanned}
 use Rattle.conflict.specs.Pace.{after_writes}
 use Rattle.conflict.proofs.writing.write_prepared.Given as goal
@@ -12,7 +12,7 @@ use Rattle.conflict.proofs.writing.write_prepared.Given as goal
 abbrev pub invariant-loop-next : goal.invariant-loop-next
 invariant-loop-next l = record {
   within : l.index ≤ length l.spans;
-  next : MatchOption l.next (length l.spans ≤ l.index) (λ range. (span : Span)
+  next : MatchOption l.next (length l.spans ≤ l.index) (λ range. (span : UnitedSpan)
       × (slice_get l.spans l.index ≡ Some span) × Spans (ranges_in l.txns) span range);
   written : (united : List Range) → AreSpanned (ranges_in l.txns) l.spans united
       → IsWriting united l.version l.index l.fn.steps l.steps;

@@ -1,14 +1,14 @@
 use Rattle.std.proofs.Common.{◌≡◌, Some, slice_get, subst}
-use Rattle.flow.specs.declared.told.Told.TheVariants.{Stands}
+use Rattle.flow.specs.declared.reported_state.ReportedState.TheVariants.{Stands}
 use Rattle.flow.specs.Next.{HasFirst}
 use Rattle.flow.proofs.Firsts.{or_next}
 use Rattle.flow.proofs.next.first_of.Goals as goal
 
 pub returns-in-Some : goal.returns-in-Some
 returns-in-Some c = record {
-  first = λ told at before.
-      let here : slice_get told c.args.proxy ≡ Some (Stands c.in-Stands.stand) = cc in
-      or_next told c.args.proxy c.in-Some.candidate c.or.result c.in-Stands.stand here
-      (subst (λ first. HasFirst c.args.proxy told first) c.in-Some.is before)
+  first = λ reported at before.
+      let here : slice_get reported c.args.proxy ≡ Some (Stands c.in-Stands.stand) = cc in
+      or_next reported c.args.proxy c.in-Some.candidate c.or.result c.in-Stands.stand here
+      (subst (λ first. HasFirst c.args.proxy reported first) c.in-Some.is before)
       c.or.ensures.least c.or.ensures.other;
 }

@@ -4,7 +4,7 @@ use Rattle.std.specs.Str.{bytes_eq}
 use Rattle.json.specs.Value.{members_view}
 use Rattle.json_lines.specs.Names.{name_of}
 use Rattle.json_lines.specs.Values.{are_among, has_member, if_so}
-use Rattle.json_lines.proofs.Objects.{unknown_ends, doubled_ends, among_on, among_done, rest_told}
+use Rattle.json_lines.proofs.Objects.{unknown_ends, doubled_ends, among_on, among_done, rest_reported}
 use Rattle.json_lines.proofs.members.check_names.Goals as goal
 
 pub returns-then-not-is_one_of : goal.returns-then-not-is_one_of
@@ -18,13 +18,13 @@ returns-then-not-is_one_of c =
           c.loop-index-test.true c.index-members-index.is unknown c.loop-index.invariant);
     }
 
-pub returns-then-stands_in : goal.returns-then-stands_in
-returns-then-stands_in c =
+pub returns-then-is_member : goal.returns-then-is_member
+returns-then-is_member c =
     let names = map name_of c.args.names.now in
     let ms = c.args.members.now in
     let m = c.index-members-index.result in
     let again : has_member m.0.now (members_view (drop (c.loop-index.index + 1) ms)) ≡ true =
-    rest_told ms c.loop-index.index m c.stands_in.result c.index-members-index.is c.stands_in.ensures.exact ∙ c.if-stands_in.true in
+    rest_reported ms c.loop-index.index m c.is_member.result c.index-members-index.is c.is_member.ensures.exact ∙ c.if-is_member.true in
     record {
       reads = λ _. ap if_so (doubled_ends names ms c.loop-index.index m (are_among names (members_view ms))
           c.loop-index-test.true c.index-members-index.is again c.loop-index.invariant);
@@ -37,7 +37,7 @@ loop-index-preserved c =
     let m = c.index-members-index.result in
     let known : list_any (bytes_eq m.0.now) names ≡ true = grind arith in
     let once : has_member m.0.now (members_view (drop (c.loop-index.index + 1) ms)) ≡ false =
-    rest_told ms c.loop-index.index m c.stands_in.result c.index-members-index.is c.stands_in.ensures.exact ∙ c.if-stands_in.false in
+    rest_reported ms c.loop-index.index m c.is_member.result c.index-members-index.is c.is_member.ensures.exact ∙ c.if-is_member.false in
     among_on names ms c.loop-index.index m (are_among names (members_view ms)) c.loop-index-test.true
     c.index-members-index.is known once c.loop-index.invariant
 

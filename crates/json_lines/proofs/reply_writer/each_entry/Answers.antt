@@ -19,6 +19,6 @@ loop-entry-preserved c =
 
 pub returns-clause-places : goal.returns-clause-places
 returns-clause-places c =
-    let whole = take_all c.loop-entry.entry-index c.args.entries.now c.loop-entry-test.false in
-    subst (λ (entries : List Entry). All (λ entry. ArePlaces entry.places) entries) whole
+    let integer_of = take_all c.loop-entry.entry-index c.args.entries.now c.loop-entry-test.false in
+    subst (λ (entries : List Entry). All (λ entry. ArePlaces entry.places) entries) integer_of
     c.loop-entry.invariant.2

@@ -26,11 +26,11 @@ returns-clause-differ c in_a in_b same =
           (ap (λ (l : List ℕ). get_or l n 0) a_rest ∙ get_or-drop from a n 0 ∙ same ∙ sym (get_or-drop from b n 0)
           ∙ sym (ap (λ (l : List ℕ). get_or l n 0) b_rest))
       | inr many ↦
-          let whole : n ≡ 8 = omega (arith, many, c.common_in_word.ensures.within) in
-          let at : from ≡ 8 * c.common_words.result = omega (arith, c.min-from.ensures, c.min-least.ensures, in_a, in_b, whole) in
+          let entire : n ≡ 8 = omega (arith, many, c.common_in_word.ensures.within) in
+          let at : from ≡ 8 * c.common_words.result = omega (arith, c.min-from.ensures, c.min-least.ensures, in_a, in_b, entire) in
           let word : take 8 (drop from a) ≡ take 8 (drop from b) =
-          subst (λ m. take m (drop from a) ≡ take m (drop from b)) whole
+          subst (λ m. take m (drop from a) ≡ take m (drop from b)) entire
           (ap (take n) (sym a_rest) ∙ c.common_in_word.ensures.same ∙ ap (take n) b_rest) in
-          c.common_words.ensures.differ (omega (arith, at, in_a, whole)) (omega (arith, at, in_b, whole))
+          c.common_words.ensures.differ (omega (arith, at, in_a, entire)) (omega (arith, at, in_b, entire))
           (subst (λ m. take 8 (drop m a) ≡ take 8 (drop m b)) at word)
     ]

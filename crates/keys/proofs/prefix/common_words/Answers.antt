@@ -2,7 +2,7 @@ use Rattle.std.proofs.Common.{rules, arith, ap, ◌∙◌, ◌≡◌, ◌*◌, t
 use Rattle.std.specs.Slice.Iter.{chunks_exact_size, chunks_exact_rest}
 use borrow.Author.Tests.{tests}
 use Rattle.keys.specs.Head.{head_of}
-use Rattle.keys.proofs.Words.{alike_by_heads, same_of_pair}
+use Rattle.keys.proofs.Words.{equal_by_heads, same_of_pair}
 use Rattle.keys.proofs.prefix.common_words.Goals as goal
 
 -- At each place that is counted stands a pair of words, one of each list, whose heads are equal.
@@ -22,7 +22,7 @@ returns-clause-same c =
     let left_words = c.chunks_exact.ensures.runs left left.seen (search rules) in
     let right_words = c.chunks_exact-2.ensures.runs right right.seen (search rules) in
     let equal = (taken.2.2 (λ x r q h. search rules)).0 in
-    alike_by_heads c.count.result a b (λ i. omega (arith, c.type_inv.a i)) (λ i. omega (arith, c.type_inv.b i))
+    equal_by_heads c.count.result a b (λ i. omega (arith, c.type_inv.a i)) (λ i. omega (arith, c.type_inv.b i))
     (search rules) (search rules)
     (λ k less. same_of_pair (counted.0.at k) (left.at k) (right.at k) (λ z. head_of z.now)
     (head_of (take 8 (drop (k * 8) a))) (head_of (take 8 (drop (k * 8) b)))

@@ -1,7 +1,7 @@
 use Rattle.std.proofs.Common.{◌∙◌, List, ℕ, ap, map, string_bytes, subst, sym}
 use Rattle.clap.specs.Words.{App, HasKind, fault_of, is_simple, is_simple_and_free, matches_of}
 use Rattle.replay_arguments.specs.Command.{replay_app}
-use Rattle.replay_arguments.specs.Words.{faults_of, rows_of_words}
+use Rattle.replay_arguments.specs.Arguments.{faults_of, rows_of_words}
 use Rattle.replay_arguments.proofs.Getters.{replay_app-simple}
 use Rattle.replay_arguments.proofs.Refusals.{IsRefusalBy-of, replay_app-free}
 use Rattle.replay_arguments.proofs.arguments.parse.Goals as goal

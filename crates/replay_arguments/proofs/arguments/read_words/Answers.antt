@@ -1,7 +1,7 @@
 use Rattle.std.proofs.Common.{subst, inr, map, string_bytes, List}
 use Rattle.clap.specs.Words.{Row}
 use Rattle.replay_arguments.specs.Asked.{HoldsAsked}
-use Rattle.replay_arguments.specs.Words.{IsOfNoUse}
+use Rattle.replay_arguments.specs.Arguments.{IsOfNoUse}
 use Rattle.replay_arguments.proofs.Lines.{line_asks}
 use Rattle.replay_arguments.proofs.arguments.read_words.Goals as goal
 

@@ -10,5 +10,5 @@ returns-clause-text g c =
     on_ok_weaker c.write_all-2.result
     (λ number. subst (λ (text : List ℕ). Appends (given c.args.error.now) (given c.write_all-2.new.writer) (codes "replay: replies " ++ text))
     (c.as_bytes.ensures.value ∙ c.format.ensures.text)
-    (appends_then _ _ _ _ _ c.in_ok-write_all.ensures.whole number))
-    c.write_all-2.ensures.whole
+    (appends_then _ _ _ _ _ c.in_ok-write_all.ensures.entire number))
+    c.write_all-2.ensures.entire

@@ -13,4 +13,4 @@ returns-in_ok-begin_replies-in-CannotOpen-clause-text g c =
     (λ end. subst (λ (cause : OpeningError). Appends (given c.args.error.now) (given c.write_all.new.writer) (creating_line cause))
     (sym c.in-CannotOpen.is)
     (appends_then _ _ _ _ _ c.in_ok-begin_replies-in-CannotOpen.ensures.text end))
-    c.write_all.ensures.whole
+    c.write_all.ensures.entire

@@ -24,7 +24,7 @@ returns-in-TooOld c =
           let snapshot_is : c.snapshot-snapshot.result ≡ t.snapshot =
           subst (λ (o : Option Txn). IsSomeAnd o (λ u. c.snapshot-snapshot.result ≡ u.snapshot)) at c.snapshot-snapshot.ensures.snapshot in
           as_piece _ _ _ _ (simp (snapshot_same, oldest_same) at put)
-          (too_old c.args.form h.window h.kept b c.args.txn t c.args.entry.now.verdict c.args.entry.now.places c.snapshot-snapshot.result
+          (too_old c.args.form h.window h.kept b c.args.txn t c.args.entry.now.verdict c.snapshot-snapshot.result
           c.oldest_readable.result c.in-TooOld.is snapshot_is oldest_is))
           c.put_too_old.ensures.text;
     }

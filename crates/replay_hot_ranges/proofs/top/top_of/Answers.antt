@@ -1,5 +1,5 @@
 use Rattle.std.proofs.Common.{rules, sym, subst}
-use Rattle.replay_hot_ranges.specs.Tally.{conflicts_at}
+use Rattle.replay_hot_ranges.specs.RangeTally.{conflicts_at}
 use Rattle.replay_hot_ranges.specs.Top.{IsTop}
 use Rattle.replay_hot_ranges.proofs.Ranking.{top_from_sort_by}
 use Rattle.replay_hot_ranges.proofs.top.top_of.Goals as goal

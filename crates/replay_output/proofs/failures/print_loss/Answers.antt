@@ -13,4 +13,4 @@ returns-clause-text g c =
     (λ end. subst (λ (lost : Bool). Appends (given c.args.error.now) (given c.write_all.new.writer) (loss_line c.args.proxy lost))
     (sym is_lost)
     (appends_then _ _ _ _ _ c.in_ok-begin_line.ensures.text end))
-    c.write_all.ensures.whole
+    c.write_all.ensures.entire

@@ -11,4 +11,4 @@ returns-in-Thread-clause-text g c =
     on_ok_weaker c.write_all-in-Thread.result
     (subst (λ (cause : StartError). Appends (given c.args.error.now) (given c.write_all-in-Thread.new.writer) (start_line cause))
     (sym c.in-Thread.is))
-    c.write_all-in-Thread.ensures.whole
+    c.write_all-in-Thread.ensures.entire

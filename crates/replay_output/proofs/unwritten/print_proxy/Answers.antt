@@ -10,9 +10,9 @@ returns-clause-text g c =
     let given = g.W.Sink.given in
     let has_failed : c.args.failed ≡ true = search rules in
     let number = subst (Appends (given c.write_all.new.writer) (given c.write_all-2.new.writer))
-    (c.as_bytes.ensures.value ∙ c.format.ensures.text) c.in_ok-write_all-2.ensures.whole in
+    (c.as_bytes.ensures.value ∙ c.format.ensures.text) c.in_ok-write_all-2.ensures.entire in
     on_ok_weaker c.write_all-3.result
     (λ end. subst (λ (failed : Bool). Appends (given c.args.error.now) (given c.write_all-3.new.writer)
     (unwritten_line (c.args.proxy, failed))) (sym has_failed)
-    (appends_then _ _ _ _ _ c.in_ok-write_all.ensures.whole (appends_then _ _ _ _ _ number end)))
-    c.write_all-3.ensures.whole
+    (appends_then _ _ _ _ _ c.in_ok-write_all.ensures.entire (appends_then _ _ _ _ _ number end)))
+    c.write_all-3.ensures.entire

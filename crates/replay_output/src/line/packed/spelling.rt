@@ -22,9 +22,9 @@ const ROOM: usize = RUN * UNIT_ROOM;
 /// Prints the text of these units. After a failure a prefix of it is printed. Takes no memory.
 pub fn print_units<W: Sink>(out: &mut W, units: &[u8]) -> Result<(), Failed>
     requires units { All IsUnit units.now }
-    ensures whole { OnOk result (Appends (W.given out.old) (W.given out.new)
+    ensures entire { OnOk result (Appends (W.given out.old) (W.given out.new)
         (spelled_all units.now)) }
-    ensures beginning { OnErr result (IfSome (W.given out.new) (λ _.
+    ensures prefix { OnErr result (IfSome (W.given out.new) (λ _.
         (n : ℕ) × Appends (W.given out.old) (W.given out.new) (take n (spelled_all units.now)))) }
     ensures ok { OnOk result (W.failures out.new ≡ W.failures out.old) }
     ensures failed { OnErr result (W.failures out.old < W.failures out.new) }

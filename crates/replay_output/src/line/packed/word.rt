@@ -78,7 +78,7 @@ impl Word {
     /// Returns the unit that represents the text of this one, and then the word. Returns none if
     /// this one represents a letter or another word, or for the word as many times in a row as a
     /// unit can.
-    pub fn behind(self, unit: u8) -> Option<u8>
+    pub fn after(self, unit: u8) -> Option<u8>
         ensures unit { IfSome result IsUnit }
         ensures spelled { IfSome result (λ more. spelled more ≡ spelled unit ++ word_text self) }
         ensures some { FIRST_WORD ≤ unit → word_of unit ≡ self → times_of unit < MOST_IN_A_ROW

@@ -13,9 +13,9 @@ use Rattle.replay_output.specs.Lines.{lines_by}
 use Rattle.replay_output.specs.Failures.{failure_lines, NothingFailed}
 use Rattle.replay_workers.specs.Run.{IsObservedRun, is_complete}
 use Rattle.replay_program.specs.Explained.{Explained, TakesToExplain, explained_line, explained_lines, explanation_form, explanations_of}
-use Rattle.replay_program.specs.Replayed.{written, Took, TookBeginning}
+use Rattle.replay_program.specs.Replayed.{written, Took, TookPrefix}
 use Rattle.replay_program.proofs.Explaining.{seen_as, texts_are}
-use Rattle.replay_program.proofs.Meeting.{has_met, met_nothing, not_failed, seen_by_other, stop_told}
+use Rattle.replay_program.proofs.Meeting.{has_met, met_nothing, not_failed, seen_by_other, stop_reported}
 use Rattle.replay_program.proofs.Replaying.{complete_from, ending_is, held_ok, are_lines, is_replayed_over, ran_as_and_failed}
 use Rattle.replay_program.proofs.explain.explain_over.Goals.{then-account, else-account}
 use Rattle.replay_program.proofs.explain.explain_over.Goals as goal
@@ -27,7 +27,7 @@ returns-in-Err g c = record {
   failed = λ is. inl (record {
     cause = c.in-Err.cause;
     nothing_printed = refl;
-    told = c.fail_to_start.ensures.line;
+    reported = c.fail_to_start.ensures.line;
   });
   met = met_nothing c.args.options (map g.S.Source.remaining c.args.readers.items) c.unstarted.result.met
       (written (g.E.Sink.given c.args.error.now) (g.E.Sink.given c.fail_to_start.new.error) (g.E.Sink.failures c.args.error.now)
@@ -49,7 +49,7 @@ returns g c =
     let reached = c.run_observed-run.new.observer in
     let explainer = reached.observer in
     let Seen = HasExplained explainer in
-    let whole : c.if-account.new ≡ is_complete outcome account =
+    let entire : c.if-account.new ≡ is_complete outcome account =
     elim c.if-account.branch [
       | then-account w ↦ w.new-is ∙ sym (ap (λ (b : Bool). b && outcome.all_sent) w.if-account.true)
       | else-account w ↦
@@ -65,7 +65,7 @@ returns g c =
     let of_both = subst
     (λ (f : List ProxyFailure). IsObservedRun Seen options files received f (is_complete outcome account) account.stop)
     (sym c.deref_mut-2.ensures.value) of_lines in
-    let observed = subst (λ (b : Bool). IsObservedRun Seen options files received failures b account.stop) (sym whole) of_both in
+    let observed = subst (λ (b : Bool). IsObservedRun Seen options files received failures b account.stop) (sym entire) of_both in
     let run = observed.run in
     let list = observed.seen.list in
     let kept : to_z w64 (of_z w64 options.window) ≡ options.window =
@@ -82,7 +82,7 @@ returns g c =
     } in
     let ending = ending_is complete account.stop c.new-ending.result c.new-ending.ensures.ending in
     let report = c.print_explained-report.ensures in
-    let told = c.print_explained-report.new.failures in
+    let reported = c.print_explained-report.new.failures in
     let out = written (g.O.Sink.given c.args.out.now) (g.O.Sink.given c.print_explained-report.new.out)
     (g.O.Sink.failures c.args.out.now) (g.O.Sink.failures c.print_explained-report.new.out) in
     let error = written (g.E.Sink.given c.args.error.now) (g.E.Sink.given c.print_explained-report.new.error)
@@ -97,7 +97,7 @@ returns g c =
           let all = observed.seen.all (run.no_stop (complete_from complete account.stop nothing.complete)) in
           is_replayed_over options files received failures complete account.stop run
           (λ log answers. Took out (explained_lines options (run_of options.window log).processed answers))
-          c.answers_tell_verdicts.ensures.tell nothing
+          c.answers_report_verdicts.ensures.known_verdicts nothing
           (subst (λ (ps : List Processed). Took out (explained_lines options ps (map answers_of received))) all
           (held_ok c.print_explained-report.result.printed _ lines parts.0));
       quiet = report.quiet;
@@ -106,8 +106,8 @@ returns g c =
             explained = list;
             failed = ran_as_and_failed received failures complete account.stop (length files) run.received_count run.failures_count
                 (IsObservedRun (λ seen. seen ≡ list) options files) ran (explained_lines options list)
-                (TakesToExplain (explanations_of options list)) out error told
-                c.print_explained-report.result.printed c.print_explained-report.result.told lines
+                (TakesToExplain (explanations_of options list)) out error reported
+                c.print_explained-report.result.printed c.print_explained-report.result.reported lines
                 (λ proxy memory. omega (
                   arith,
                   report.memory proxy memory,
@@ -117,11 +117,11 @@ returns g c =
                 (report.takes proxy memory))
                 report.nothing
                 (λ wrote. subst (λ (explained : Explained).
-                TookBeginning out (lines_by (explained_line options.style explained) (map answers_of received))) texts
-                (report.beginning options.style (sym form_is) are wrote))
+                TookPrefix out (lines_by (explained_line options.style explained) (map answers_of received))) texts
+                (report.prefix options.style (sym form_is) are wrote))
                 report.write.0
-                (subst (λ (e : Ending). OnOk c.print_explained-report.result.told (Took error (failure_lines told e))) ending report.failure_lines)
-                report.told.0 report.loss report.no_loss
+                (subst (λ (e : Ending). OnOk c.print_explained-report.result.reported (Took error (failure_lines reported e))) ending report.failure_lines)
+                report.reported.0 report.loss report.no_loss
                 (λ all.
                 let done =
                 report.done.1 (all.0, all.1, subst (λ (e : Ending). NothingFailed failures e) (sym ending) all.2) in
@@ -129,9 +129,9 @@ returns g c =
           });
       met = has_met options files lines_taken outcome.failures.items (is_complete outcome account) Seen reached.version account.stop
           c.is_unwritten.result error both
-          (stop_told [] c.print_explained-report.result.told error told complete account.stop
-          (subst (λ (e : Ending). OnOk c.print_explained-report.result.told (Took error (failure_lines told e))) ending report.failure_lines)
-          report.told.0);
+          (stop_reported [] c.print_explained-report.result.reported error reported complete account.stop
+          (subst (λ (e : Ending). OnOk c.print_explained-report.result.reported (Took error (failure_lines reported e))) ending report.failure_lines)
+          report.reported.0);
       output_failed = λ is. report.write.0 (c.is_unwritten.ensures.write is);
       ends = report.ends;
       same = report.same;

@@ -29,8 +29,8 @@ returns-in-Ok g c =
     let several = c.is_several.ensures.several.0 c.if-is_several.true in
     record {
       done = λ is. inr (line, asked, ends_by_several line _ _ several (ran.done is));
-      quiet = λ is. ran.quiet (λ other. let bad : Done ≡ Failed = sym is ∙ other in cc);
-      quiet_too = λ is. ran.quiet (λ other. let bad : Differs ≡ Failed = sym is ∙ other in cc);
+      quiet = λ is. inr (line, asked, ran.quiet (λ other. let bad : Done ≡ Failed = sym is ∙ other in cc));
+      quiet_too = λ is. inr (line, asked, ran.quiet (λ other. let bad : Differs ≡ Failed = sym is ∙ other in cc));
       failed = λ is. inr (inr (line, asked, ends_by_several line _ _ several (ran.failed is)));
       mistaken = λ is. absurd (ran.ends is);
       nothing = λ is. absurd (ran.ends is);
@@ -47,8 +47,8 @@ returns-in-Ok-2 g c =
     false≢true (sym c.if-is_several.false ∙ c.is_several.ensures.several.1 two) in
     record {
       done = λ is. inr (line, asked, ends_by_one line _ _ one (ran.done is));
-      quiet = λ is. ran.quiet (λ other. let bad : Done ≡ Failed = sym is ∙ other in cc);
-      quiet_too = λ is. ran.quiet (λ other. let bad : Differs ≡ Failed = sym is ∙ other in cc);
+      quiet = λ is. inr (line, asked, ran.quiet (λ other. let bad : Done ≡ Failed = sym is ∙ other in cc));
+      quiet_too = λ is. inr (line, asked, ran.quiet (λ other. let bad : Differs ≡ Failed = sym is ∙ other in cc));
       failed = λ is. inr (inr (line, asked, ends_by_one line _ _ one (ran.failed is)));
       mistaken = λ is. absurd (ran.ends is);
       nothing = λ is. absurd (ran.ends is);
@@ -73,7 +73,7 @@ returns-in-Err g c =
     let ends_by_status = ends_by state regular files words report out error c.end.result c.in-Err.refusal
     (λ text is. c.read_words.ensures.shown text (c.in-Err.is ∙ ap Err is))
     (λ text is. c.read_words.ensures.refused text (c.in-Err.is ∙ ap Err is))
-    end.shown end.not_shown end.quiet end.refused end.told end.memory end.memory_told in
+    end.shown end.not_shown end.quiet end.refused end.reported end.memory end.memory_reported in
     let ends = subst (λ (s : Status). Ends state regular files words report out error s) (sym c.unstarted.ensures.status) ends_by_status in
     record {
       done = ends.done;

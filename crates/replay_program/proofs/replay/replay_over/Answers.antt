@@ -10,7 +10,7 @@ use Rattle.replay_output.proofs.callers.Texts.{are_lines_by}
 use Rattle.replay_output.specs.Failures.{failure_lines, NothingFailed}
 use Rattle.replay_workers.specs.Run.{IsRun, is_complete}
 use Rattle.replay_program.specs.Replayed.{written, Took}
-use Rattle.replay_program.proofs.Meeting.{has_met, met_nothing, not_failed, stop_told}
+use Rattle.replay_program.proofs.Meeting.{has_met, met_nothing, not_failed, stop_reported}
 use Rattle.replay_program.proofs.Replaying.{ending_is, held_ok, are_lines, is_replayed, ran_and_failed}
 use Rattle.replay_program.proofs.replay.replay_over.Goals.{then-account, else-account}
 use Rattle.replay_program.proofs.replay.replay_over.Goals as goal
@@ -22,7 +22,7 @@ returns-in-Err g c = record {
   failed = λ is. inl (record {
     cause = c.in-Err.cause;
     nothing_printed = refl;
-    told = c.fail_to_start.ensures.line;
+    reported = c.fail_to_start.ensures.line;
   });
   met = met_nothing c.args.options (map g.S.Source.remaining c.args.readers.items) c.unstarted.result.met
       (written (g.E.Sink.given c.args.error.now) (g.E.Sink.given c.fail_to_start.new.error) (g.E.Sink.failures c.args.error.now)
@@ -41,7 +41,7 @@ returns g c =
     let received = map (vec_items {X = Line} {Z = Global}) c.deref_mut.result.now in
     let failures = c.deref_mut-2.result.now in
     let complete = c.if-account.new in
-    let whole : c.if-account.new ≡ is_complete outcome account =
+    let entire : c.if-account.new ≡ is_complete outcome account =
     elim c.if-account.branch [
       | then-account w ↦ w.new-is ∙ sym (ap (λ (b : Bool). b && outcome.all_sent) w.if-account.true)
       | else-account w ↦
@@ -52,10 +52,10 @@ returns g c =
     (sym c.deref_mut.ensures.value) c.in-Ok.ensures.run in
     let of_both = subst (λ (f : List ProxyFailure). IsRun options files received f (is_complete outcome account) account.stop)
     (sym c.deref_mut-2.ensures.value) of_lines in
-    let run = subst (λ (b : Bool). IsRun options files received failures b account.stop) (sym whole) of_both in
+    let run = subst (λ (b : Bool). IsRun options files received failures b account.stop) (sym entire) of_both in
     let ending = ending_is complete account.stop c.new-ending.result c.new-ending.ensures.ending in
     let report = c.print_report-report.ensures in
-    let told = c.print_report-report.new.failures in
+    let reported = c.print_report-report.new.failures in
     let out = written (g.O.Sink.given c.args.out.now) (g.O.Sink.given c.print_report-report.new.out)
     (g.O.Sink.failures c.args.out.now) (g.O.Sink.failures c.print_report-report.new.out) in
     let error = written (g.E.Sink.given c.args.error.now) (g.E.Sink.given c.print_report-report.new.error)
@@ -67,22 +67,22 @@ returns g c =
       done = λ is.
           let parts = report.done.0 is in
           is_replayed options files received failures complete account.stop run (λ answers. Took out (lines_of options.style answers))
-          c.answers_tell_verdicts.ensures.tell
+          c.answers_report_verdicts.ensures.known_verdicts
           (subst (λ (e : Ending). NothingFailed failures e) ending parts.2)
           (held_ok c.print_report-report.result.printed _ lines parts.0);
       quiet = report.quiet;
       failed = λ is.
-          inr (ran_and_failed options files received failures complete account.stop run (lines_of options.style) TakesToSort out error told
-          c.print_report-report.result.printed c.print_report-report.result.told lines
+          inr (ran_and_failed options files received failures complete account.stop run (lines_of options.style) TakesToSort out error reported
+          c.print_report-report.result.printed c.print_report-report.result.reported lines
           (λ proxy memory. omega (
             arith,
             report.memory proxy memory,
             length-map c.deref_mut.result.now (vec_items {X = Line} {Z = Global}),
           ))
           report.takes
-          report.nothing (report.beginning (line options.style) by) report.write.0
-          (subst (λ (e : Ending). OnOk c.print_report-report.result.told (Took error (failure_lines told e))) ending report.failure_lines)
-          report.told.0 report.loss report.no_loss
+          report.nothing (report.prefix (line options.style) by) report.write.0
+          (subst (λ (e : Ending). OnOk c.print_report-report.result.reported (Took error (failure_lines reported e))) ending report.failure_lines)
+          report.reported.0 report.loss report.no_loss
           (λ all.
           let done =
           report.done.1 (all.0, all.1, subst (λ (e : Ending). NothingFailed failures e) (sym ending) all.2) in
@@ -90,9 +90,9 @@ returns g c =
       met = has_met options files (map (vec_items {X = Line} {Z = Global}) outcome.lines.items) outcome.failures.items
           (is_complete outcome account) (λ _. Unit {0}) c.run_observed-run.new.observer.version account.stop c.is_unwritten.result error
           (c.in-Ok.ensures.observed (tt, c.new-reached.ensures.none))
-          (stop_told [] c.print_report-report.result.told error told complete account.stop
-          (subst (λ (e : Ending). OnOk c.print_report-report.result.told (Took error (failure_lines told e))) ending report.failure_lines)
-          report.told.0);
+          (stop_reported [] c.print_report-report.result.reported error reported complete account.stop
+          (subst (λ (e : Ending). OnOk c.print_report-report.result.reported (Took error (failure_lines reported e))) ending report.failure_lines)
+          report.reported.0);
       output_failed = λ is. report.write.0 (c.is_unwritten.ensures.write is);
       ends = report.ends;
       same = report.same;

@@ -9,7 +9,7 @@ use Rattle.replay_output.proofs.callers.Texts.{are_lines_by}
 use Rattle.replay_output.specs.Failures.{failure_lines, NothingFailed}
 use Rattle.replay_program.specs.Replayed.{written, Took}
 use Rattle.replay_program.specs.Sharded.{AreAsCombined, NamesShard}
-use Rattle.replay_program.proofs.Meeting.{not_failed, stop_told}
+use Rattle.replay_program.proofs.Meeting.{not_failed, stop_reported}
 use Rattle.replay_program.proofs.Replaying.{held_ok, ran_as_and_failed}
 use Rattle.replay_program.proofs.ShardedRuns.{all_answers, failures_count, has_met_by_shards, is_replayed_by_shards, met_nothing_by_shards, quiet_still, received_count, stop_met}
 use Rattle.replay_program.proofs.sharded.replay_sharded_over.Goals as goal
@@ -21,7 +21,7 @@ returns-in-Err g c = record {
   failed = λ files read is. inl (record {
     cause = c.in-Err.cause;
     nothing_printed = refl;
-    told = c.fail_to_start.ensures.line;
+    reported = c.fail_to_start.ensures.line;
   });
   met = λ files read.
       met_nothing_by_shards c.args.sharded.points c.args.options files c.unstarted.result.met
@@ -45,7 +45,7 @@ returns g c =
     let stop = stop_met combined in
     let ending = c.ending_of-ending.ensures.ending in
     let report = c.print_report-report.ensures in
-    let told = c.print_report-report.new.failures in
+    let reported = c.print_report-report.new.failures in
     let out = written (g.O.Sink.given c.args.out.now) (g.O.Sink.given c.print_report-report.new.out)
     (g.O.Sink.failures c.args.out.now) (g.O.Sink.failures c.print_report-report.new.out) in
     let so_far = written (g.E.Sink.given c.args.error.now) (g.E.Sink.given c.print_report-report.new.error)
@@ -62,7 +62,7 @@ returns g c =
     subst (λ (l : List (List Line)). AreLines options.style l) (sym lines_are) c.in-Ok.ensures.lines in
     let by = are_lines_by options.style received are in
     let lines = report.lines (line options.style) by in
-    let told_lines = subst (λ (e : Ending). OnOk c.print_report-report.result.told (Took so_far (failure_lines told e))) ending
+    let reported_lines = subst (λ (e : Ending). OnOk c.print_report-report.result.reported (Took so_far (failure_lines reported e))) ending
     report.failure_lines in
     record {
       done = λ files read is.
@@ -86,15 +86,15 @@ returns g c =
             failed = ran_as_and_failed received failures combined.complete stop (length files)
                 (received_count points options files combined runs received failures lines_are failures_are)
                 (failures_count points options files combined runs received failures lines_are failures_are) (AreAsCombined combined)
-                (lines_are, failures_are, refl, refl) (lines_of options.style) TakesToSort out so_far told
-                c.print_report-report.result.printed c.print_report-report.result.told lines
+                (lines_are, failures_are, refl, refl) (lines_of options.style) TakesToSort out so_far reported
+                c.print_report-report.result.printed c.print_report-report.result.reported lines
                 (λ proxy memory. omega (
                   arith,
                   report.memory proxy memory,
                   length-map c.deref_mut.result.now (vec_items {X = Line} {Z = Global}),
                 ))
                 report.takes
-                report.nothing (report.beginning (line options.style) by) report.write.0 told_lines report.told.0 report.loss report.no_loss
+                report.nothing (report.prefix (line options.style) by) report.write.0 reported_lines report.reported.0 report.loss report.no_loss
                 (λ all.
                 let done =
                 report.done.1 (all.0, all.1, subst (λ (e : Ending). NothingFailed failures e) (sym ending) all.2) in
@@ -104,7 +104,7 @@ returns g c =
       met = λ files read.
           has_met_by_shards points options files combined (c.in-Ok.ensures.together files read) c.met_of.result so_far error
           c.met_of.ensures.stop c.met_of.ensures.version
-          (stop_told [] c.print_report-report.result.told so_far told combined.complete stop told_lines report.told.0) named;
+          (stop_reported [] c.print_report-report.result.reported so_far reported combined.complete stop reported_lines report.reported.0) named;
       output_failed = λ is. report.write.0 (c.is_unwritten.ensures.write (sym c.met_of.ensures.output_failed ∙ is));
       ends = λ is. report.ends (sym status ∙ is);
       same = λ is. report.same (sym status ∙ is);

@@ -19,11 +19,11 @@ use Rattle.replay_output.specs.Failures.{failure_lines, NothingFailed}
 use Rattle.replay_summary.specs.declared.occupancy.Occupancy.{Occupancy}
 use Rattle.replay_workers.specs.Occupied.{IsOccupancyOver}
 use Rattle.replay_workers.specs.Run.{IsMeasuredRun, is_complete}
-use Rattle.replay_program.specs.Replayed.{written, Took, TookBeginning}
+use Rattle.replay_program.specs.Replayed.{written, Took, TookPrefix}
 use Rattle.replay_program.specs.Summarized.{TakesToSummarize, run_summary, summary_and_top, with_ranges}
 use Rattle.replay_program.proofs.Counting.{ran_and_lost, seen_chain}
 use Rattle.replay_program.proofs.Measuring.{measured_as, measured_by_other, occupied_over}
-use Rattle.replay_program.proofs.Meeting.{has_met, met_nothing, not_failed, stop_told}
+use Rattle.replay_program.proofs.Meeting.{has_met, met_nothing, not_failed, stop_reported}
 use Rattle.replay_program.proofs.Replaying.{complete_from, ending_is, held_ok, are_lines, is_replayed_over, ran_as_and_failed}
 use Rattle.replay_program.proofs.summary.summarize_with_top.Goals as goal
 
@@ -34,7 +34,7 @@ returns-in-Err g c = record {
   failed = λ is. inl (record {
     cause = c.in-Err.cause;
     nothing_printed = refl;
-    told = c.fail_to_start.ensures.line;
+    reported = c.fail_to_start.ensures.line;
   });
   met = met_nothing c.args.options (map g.S.Source.remaining c.args.readers.items) c.unstarted.result.met
       (written (g.E.Sink.given c.args.error.now) (g.E.Sink.given c.fail_to_start.new.error) (g.E.Sink.failures c.args.error.now)
@@ -58,7 +58,7 @@ returns-in-Ok-text_of_top-clause-done g c = λ is.
     let reached = c.run_observed-run.new.observer in
     let hot = reached.observer in
     let Seen = HasSeen hot in
-    let whole : complete ≡ is_complete outcome account = c.is_complete-complete.ensures.complete in
+    let entire : complete ≡ is_complete outcome account = c.is_complete-complete.ensures.complete in
     let start : HasSeen c.new-reached.result.observer [] =
     subst (λ (h : HotRanges). HasSeen h []) (sym c.new-reached.ensures.observer) c.new-hot.ensures.none in
     let lines_taken = map (vec_items {X = Line} {Z = Global}) outcome.lines.items in
@@ -70,7 +70,7 @@ returns-in-Ok-text_of_top-clause-done g c = λ is.
     let of_both = subst
     (λ (f : List ProxyFailure). IsMeasuredRun Seen occupancy options files received f (is_complete outcome account) account.stop)
     (sym c.deref_mut-in-Ok-text_of_top.ensures.value) of_lines in
-    let measured = subst (λ (b : Bool). IsMeasuredRun Seen occupancy options files received failures b account.stop) (sym whole) of_both in
+    let measured = subst (λ (b : Bool). IsMeasuredRun Seen occupancy options files received failures b account.stop) (sym entire) of_both in
     let observed = measured.observed in
     let run = observed.run in
     let list = observed.seen.list in
@@ -99,7 +99,7 @@ returns-in-Ok-text_of_top-clause-done g c = λ is.
     (λ log answers. (o : Occupancy) × IsOccupancyOver options.limit options.window log o
     × ((hottest : Top) × IsTopOf (run_of options.window log).processed most hottest
     × Took out (summary_and_top form o hottest answers)))
-    c.answers_tell_verdicts.ensures.tell nothing (
+    c.answers_report_verdicts.ensures.known_verdicts nothing (
       occupancy,
       occupied_over options files received failures complete occupancy account.stop Seen measured no_stop,
       (
@@ -123,7 +123,7 @@ returns-in-Ok-text_of_top-clause-failed g c = λ is.
     let reached = c.run_observed-run.new.observer in
     let hot = reached.observer in
     let Seen = HasSeen hot in
-    let whole : complete ≡ is_complete outcome account = c.is_complete-complete.ensures.complete in
+    let entire : complete ≡ is_complete outcome account = c.is_complete-complete.ensures.complete in
     let start : HasSeen c.new-reached.result.observer [] =
     subst (λ (h : HotRanges). HasSeen h []) (sym c.new-reached.ensures.observer) c.new-hot.ensures.none in
     let lines_taken = map (vec_items {X = Line} {Z = Global}) outcome.lines.items in
@@ -135,7 +135,7 @@ returns-in-Ok-text_of_top-clause-failed g c = λ is.
     let of_both = subst
     (λ (f : List ProxyFailure). IsMeasuredRun Seen occupancy options files received f (is_complete outcome account) account.stop)
     (sym c.deref_mut-in-Ok-text_of_top.ensures.value) of_lines in
-    let measured = subst (λ (b : Bool). IsMeasuredRun Seen occupancy options files received failures b account.stop) (sym whole) of_both in
+    let measured = subst (λ (b : Bool). IsMeasuredRun Seen occupancy options files received failures b account.stop) (sym entire) of_both in
     let observed = measured.observed in
     let run = observed.run in
     let list = observed.seen.list in
@@ -150,7 +150,7 @@ returns-in-Ok-text_of_top-clause-failed g c = λ is.
     let ending = ending_is complete account.stop c.new-ending.result c.new-ending.ensures.ending in
     let report = c.print_summary-report.ensures in
     let printed = c.print_summary-report.result.printed in
-    let told = c.print_summary-report.new.failures in
+    let reported = c.print_summary-report.new.failures in
     let out = written (g.O.Sink.given c.args.out.now) (g.O.Sink.given c.print_summary-report.new.out)
     (g.O.Sink.failures c.args.out.now) (g.O.Sink.failures c.print_summary-report.new.out) in
     let error = written (g.E.Sink.given c.args.error.now) (g.E.Sink.given c.print_summary-report.new.error)
@@ -160,8 +160,8 @@ returns-in-Ok-text_of_top-clause-failed g c = λ is.
     λ i answers. with_ranges form (run_summary form (Some occupancy) answers) ((c.deref.ensures.value ∙ of_top.is_text) i) in
     let lines = subst (λ (text : List (List Answer) → List ℕ). OnOk printed (Took out (text (map answers_of received)))) text_is
     (report.lines options.style are) in
-    let beginning = subst (λ (text : List (List Answer) → List ℕ). printed ≡ Err print.Write
-    → TookBeginning out (text (map answers_of received))) text_is (report.beginning options.style are) in
+    let prefix = subst (λ (text : List (List Answer) → List ℕ). printed ≡ Err print.Write
+    → TookPrefix out (text (map answers_of received))) text_is (report.prefix options.style are) in
     inr (record {
       counted = list;
       occupancy = occupancy;
@@ -169,16 +169,16 @@ returns-in-Ok-text_of_top-clause-failed g c = λ is.
       is_top = of_top.is_top;
       nothing_without = λ none. absurd (none-some top (sym none));
       failed = ran_as_and_failed received failures complete account.stop (length files) run.received_count run.failures_count
-          (IsMeasuredRun (λ seen. seen ≡ list) occupancy options files) ran (summary_and_top form occupancy top) TakesToSummarize out error told
-          printed c.print_summary-report.result.told lines
+          (IsMeasuredRun (λ seen. seen ≡ list) occupancy options files) ran (summary_and_top form occupancy top) TakesToSummarize out error reported
+          printed c.print_summary-report.result.reported lines
           (λ proxy memory. omega (
             arith,
             report.memory proxy memory,
             length-map c.deref_mut.result.now (vec_items {X = Line} {Z = Global}),
           ))
-          report.takes report.nothing beginning report.write.0
-          (subst (λ (e : Ending). OnOk c.print_summary-report.result.told (Took error (failure_lines told e))) ending report.failure_lines)
-          report.told.0 report.loss report.no_loss
+          report.takes report.nothing prefix report.write.0
+          (subst (λ (e : Ending). OnOk c.print_summary-report.result.reported (Took error (failure_lines reported e))) ending report.failure_lines)
+          report.reported.0 report.loss report.no_loss
           (λ all.
           let done =
           report.done.1 (all.0, all.1, subst (λ (e : Ending). NothingFailed failures e) (sym ending) all.2) in
@@ -197,7 +197,7 @@ returns-clause-failed g c = λ is.
     let reached = c.run_observed-run.new.observer in
     let hot = reached.observer in
     let Seen = HasSeen hot in
-    let whole : complete ≡ is_complete outcome account = c.is_complete-complete.ensures.complete in
+    let entire : complete ≡ is_complete outcome account = c.is_complete-complete.ensures.complete in
     let start : HasSeen c.new-reached.result.observer [] =
     subst (λ (h : HotRanges). HasSeen h []) (sym c.new-reached.ensures.observer) c.new-hot.ensures.none in
     let occupancy = outcome.occupancy in
@@ -206,14 +206,14 @@ returns-clause-failed g c = λ is.
     (λ (f : List ProxyFailure). IsMeasuredRun Seen occupancy options files received f (is_complete outcome account) account.stop)
     (sym c.deref_mut-in-Err-text_of_top.ensures.value)
     (measured_by_other options files received outcome.failures.items (is_complete outcome account) occupancy account.stop Seen reached.version both) in
-    let measured = subst (λ (b : Bool). IsMeasuredRun Seen occupancy options files received failures b account.stop) (sym whole) of_both in
+    let measured = subst (λ (b : Bool). IsMeasuredRun Seen occupancy options files received failures b account.stop) (sym entire) of_both in
     let observed = measured.observed in
     let run = observed.run in
     let list = observed.seen.list in
     let ran = measured_as options files received failures complete occupancy account.stop Seen measured in
     let ending = ending_is complete account.stop c.new-ending.result c.new-ending.ensures.ending in
     let report = c.report_last_loss.ensures in
-    let told = c.report_last_loss.new.failures in
+    let reported = c.report_last_loss.new.failures in
     let out = written (g.O.Sink.given c.args.out.now) (g.O.Sink.given c.args.out.now)
     (g.O.Sink.failures c.args.out.now) (g.O.Sink.failures c.args.out.now) in
     let error = written (g.E.Sink.given c.args.error.now) (g.E.Sink.given c.report_last_loss.new.error)
@@ -234,10 +234,10 @@ returns-clause-failed g c = λ is.
       nothing_without = λ none. refl;
       failed = ran_and_lost options files received failures complete account.stop run
           (IsMeasuredRun (λ seen. seen ≡ list) occupancy options files) ran (run_summary c.args.wanted.form (Some occupancy)) TakesToSummarize out error
-          last told c.report_last_loss.result.told (omega (arith, some))
+          last reported c.report_last_loss.result.reported (omega (arith, some))
           (inr (omega (arith, some, run.failures_count, run.received_count))) refl
-          (subst (λ (e : Ending). OnOk c.report_last_loss.result.told (Took error (failure_lines told e))) ending report.failure_lines)
-          report.told.0 (report.loss last (omega (arith, some)));
+          (subst (λ (e : Ending). OnOk c.report_last_loss.result.reported (Took error (failure_lines reported e))) ending report.failure_lines)
+          report.reported.0 (report.loss last (omega (arith, some)));
     })
 
 pub returns-in-Ok-text_of_top-clause-met : goal.returns-in-Ok-text_of_top-clause-met
@@ -254,10 +254,10 @@ returns-in-Ok-text_of_top-clause-met g c =
     has_met c.args.options (map g.S.Source.remaining c.args.readers.items) (map (vec_items {X = Line} {Z = Global}) outcome.lines.items)
     outcome.failures.items (is_complete outcome account) (HasSeen reached.observer) reached.version account.stop c.is_unwritten.result
     error (c.in-Ok.ensures.observed (start, c.new-reached.ensures.none))
-    (stop_told [] c.print_summary-report.result.told error c.print_summary-report.new.failures complete account.stop
-    (subst (λ (e : Ending). OnOk c.print_summary-report.result.told (Took error (failure_lines c.print_summary-report.new.failures e))) ending
+    (stop_reported [] c.print_summary-report.result.reported error c.print_summary-report.new.failures complete account.stop
+    (subst (λ (e : Ending). OnOk c.print_summary-report.result.reported (Took error (failure_lines c.print_summary-report.new.failures e))) ending
     c.print_summary-report.ensures.failure_lines)
-    c.print_summary-report.ensures.told.0)
+    c.print_summary-report.ensures.reported.0)
 
 pub returns-in-Ok-text_of_top-clause-output_failed : goal.returns-in-Ok-text_of_top-clause-output_failed
 returns-in-Ok-text_of_top-clause-output_failed g c = λ is. c.print_summary-report.ensures.write.0 (c.is_unwritten.ensures.write is)
@@ -276,7 +276,7 @@ returns-clause-met g c =
     has_met c.args.options (map g.S.Source.remaining c.args.readers.items) (map (vec_items {X = Line} {Z = Global}) outcome.lines.items)
     outcome.failures.items (is_complete outcome account) (HasSeen reached.observer) reached.version account.stop false
     error (c.in-Ok.ensures.observed (start, c.new-reached.ensures.none))
-    (stop_told [] c.report_last_loss.result.told error c.report_last_loss.new.failures complete account.stop
-    (subst (λ (e : Ending). OnOk c.report_last_loss.result.told (Took error (failure_lines c.report_last_loss.new.failures e))) ending
+    (stop_reported [] c.report_last_loss.result.reported error c.report_last_loss.new.failures complete account.stop
+    (subst (λ (e : Ending). OnOk c.report_last_loss.result.reported (Took error (failure_lines c.report_last_loss.new.failures e))) ending
     c.report_last_loss.ensures.failure_lines)
-    c.report_last_loss.ensures.told.0)
+    c.report_last_loss.ensures.reported.0)

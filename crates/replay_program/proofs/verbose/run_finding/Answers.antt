@@ -1,10 +1,10 @@
 use Rattle.std.proofs.Common.{Some, ap, ◌∙◌}
-use Rattle.replay_program.proofs.Saying.{gate_found, weaker_found}
+use Rattle.replay_program.proofs.Saying.{gate_found, weaker}
 use Rattle.replay_program.proofs.verbose.run_finding.Goals as goal
 
 pub returns-in_default : goal.returns-in_default
 returns-in_default c = record {
-  found = weaker_found c.output_finding.result (λ finding is all least. is all) (c.output_finding.ensures.found c.args.limit);
+  found = weaker c.output_finding.result (λ finding is all least. is all) (c.output_finding.ensures.found c.args.limit);
 }
 
 pub returns-in-GateFull : goal.returns-in-GateFull
@@ -16,6 +16,6 @@ returns-in-GateFull c = record {
 
 pub returns-in-Memory : goal.returns-in-Memory
 returns-in-Memory c = record {
-  found = weaker_found c.output_finding-in-Memory.result (λ finding is all least. is all)
+  found = weaker c.output_finding-in-Memory.result (λ finding is all least. is all)
       (c.output_finding-in-Memory.ensures.found c.args.limit);
 }

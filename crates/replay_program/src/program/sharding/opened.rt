@@ -8,7 +8,7 @@ ghost use Rattle.replay_arguments.specs.Asks.{Asks};
 ghost use Rattle.replay_arguments.specs.Opening.{contents_each};
 ghost use Rattle.replay_program.specs.Program.{texts};
 ghost use Rattle.replay_program.specs.ShardedProgram.{ArePointsOf, IsWhyNotSharded, irregular_line};
-ghost use Rattle.replay_program.specs.ShardedProgram.{TellsWhy};
+ghost use Rattle.replay_program.specs.ShardedProgram.{ReportsCause};
 ghost use Rattle.replay_sharded.specs.Files.{ReadTheFiles};
 
 use flow::WaitingRoom;
@@ -92,7 +92,7 @@ fn points_of<F: Files>(
         (F.has_opened files.now) (F.cannot_open files.now) (texts line.now.files.items)) }
 {
     let Some(name) = line.sharding.split_points else {
-        let readers = open_all(alloc, files, &line.files, Extent::Beginning)?;
+        let readers = open_all(alloc, files, &line.files, Extent::FirstBatches)?;
         return Ok(points_of_sample(alloc, readers, line.sharding.resolvers)?);
     };
     let Ok(mut reader) = files.open(name, Extent::Complete) else {
@@ -167,7 +167,7 @@ fn waiting_rooms(
 /// failed write changes nothing.
 pub fn fail_to_shard<E: Sink>(alloc: Global, error: &mut E, cause: &ShardingError) -> Status
     ensures status { result ≡ Status.Failed }
-    ensures line { TellsWhy cause.now (λ line. (E.failures error.old < E.failures error.new)
+    ensures line { ReportsCause cause.now (λ line. (E.failures error.old < E.failures error.new)
         ⊎ Appends (E.given error.old) (E.given error.new) line) }
 {
     match cause {

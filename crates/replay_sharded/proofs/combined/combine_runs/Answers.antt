@@ -150,12 +150,12 @@ loop-proxy-preserved c =
     let all : length now ≤ length new = omega (arith, zip_length (TakesOf proxy) now new takes) in
     let long : length new ≤ c.loop-proxy.runs.len =
     omega (arith, zip_length (TakesOf proxy) now new takes, c.loop-proxy.runs.ok.0) in
-    let whole : take c.loop-proxy.runs.len (new ++ drop (length new) now) ≡ new =
+    let entire : take c.loop-proxy.runs.len (new ++ drop (length new) now) ≡ new =
     ap (λ (l : List ShardRun). take c.loop-proxy.runs.len (new ++ l)) (drop_all (length new) now all)
     ∙ ap (λ (l : List ShardRun). take c.loop-proxy.runs.len l) (append-nil new) ∙ take_all c.loop-proxy.runs.len new long in
     record {
       from =
-          subst (λ (l : List ShardRun). AllZip (IsFrom (proxy + 1)) old l) (sym whole)
+          subst (λ (l : List ShardRun). AllZip (IsFrom (proxy + 1)) old l) (sym entire)
           (zip_then (IsFrom proxy) (TakesOf proxy) (IsFrom (proxy + 1)) (from_next proxy) old now new before.from takes);
       each =
           subst (λ (l : List (Vec Line Global)). AreEach old (map vec_items l) c.push_reserved-in-loop-proxy.new.self.items)

@@ -10,7 +10,7 @@ use Rattle.replay_sharded.specs.declared.shard_run.ShardRun.{ShardRun}
 use Rattle.replay_sharded.specs.Combined.{HasProxies}
 use Rattle.replay_sharded.proofs.Answered.{all_answered}
 use Rattle.replay_sharded.proofs.Committed.{serializable}
-use Rattle.replay_sharded.proofs.Resolved.{resolved_but}
+use Rattle.replay_sharded.proofs.Resolved.{resolved_except}
 use Rattle.replay_sharded.proofs.Taking.{zip_length}
 use Rattle.replay_sharded.proofs.Sizes.{count_same, files_count, has_each, sizes_same, some_shard}
 use Rattle.replay_sharded.proofs.running.run_sharded.Goals as goal
@@ -90,11 +90,11 @@ returns-clause-resolved g c = λ files read all.
     let window = c.args.options.window in
     let rising = c.shard_count.ensures.points.rising in
     let together = map answers_of (map vec_items c.combine_runs.result.lines.items) in
-    resolved_but c.one_spelling.ensures.batches sharded.points c.args.options files c.combine_runs.result rising
+    resolved_except c.one_spelling.ensures.batches sharded.points c.args.options files c.combine_runs.result rising
     (returns-clause-together g c files read) all
     (λ sent logs of merged count. (
       all_answered sharded.points window sent logs together of merged,
-      serializable c.answers_tell_verdicts.ensures.tell c.serializable_among_others.ensures.all sharded.points window sent logs together
+      serializable c.answers_report_verdicts.ensures.known_verdicts c.serializable_among_others.ensures.all sharded.points window sent logs together
           rising count of merged,
     ))
 

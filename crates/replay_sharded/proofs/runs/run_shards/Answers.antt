@@ -11,7 +11,7 @@ use Rattle.serial.specs.Shards.{shards}
 use Rattle.resolver.specs.declared.resolver_core.TheConstants.{MAX_PROXIES}
 use Rattle.replay_output.specs.declared.options.Options.{Options}
 use Rattle.replay_shards.specs.declared.clips.Clips.{Clips}
-use Rattle.replay_sharded.specs.declared.runs.Started.{Started}
+use Rattle.replay_sharded.specs.declared.runs.StartedShards.{StartedShards}
 use Rattle.replay_sharded.specs.Files.{AreFresh}
 use Rattle.replay_sharded.specs.Runs.{given_to, keeping}
 use Rattle.replay_sharded.proofs.Works.{IsDone, given_by, proxies_each, runs_of}
@@ -49,7 +49,7 @@ loop-clips-preserved g c =
     c.in_ok-start.ensures.given ∙ ap (λ (o : Options). (o, clips.items)) c.keeping-options.ensures.keeping in
     record {
       given =
-          ap (λ (l : List (Started g.row.S.Denot)). map given_to l ++ map (given_by options) rest) c.push_reserved.ensures.items
+          ap (λ (l : List (StartedShards g.row.S.Denot)). map given_to l ++ map (given_by options) rest) c.push_reserved.ensures.items
           ∙ ap (λ (l : List (Options × List (Clips g.row.S.Denot))). l ++ map (given_by options) rest)
           (map-append given_to old (shard ∷ []))
           ∙ append_assoc (map given_to old) (given_to shard ∷ []) (map (given_by options) rest)
@@ -70,14 +70,14 @@ returns-clause-runs g c =
     let options = keeping c.args.options in
     let given = map given_to c.loop-clips.started.items in
     let none : into_iter_items c.loop-clips.clips-iterator ≡ [] = first_of (search rules, grind (arith, common_steps)) in
-    let whole =
+    let entire =
     sym (append-nil given)
     ∙ ap (λ (l : List (Vec (Clips g.row.S.Denot) Global)). given ++ map (given_by options) l) (sym none)
     ∙ c.loop-clips.invariant.given in
     IfOk-weaker c.join_all.result _ _
     (λ runs works points files of.
     runs_of remaining options files c.args.each.items runs.items (shards points)
-    (subst (λ (l : List (Options × List (Clips g.row.S.Denot))). AllZip (IsDone remaining options) l runs.items) whole works) of)
+    (subst (λ (l : List (Options × List (Clips g.row.S.Denot))). AllZip (IsDone remaining options) l runs.items) entire works) of)
     c.join_all.ensures.runs
 
 pub returns-clause-proxies : goal.returns-clause-proxies
@@ -86,12 +86,12 @@ returns-clause-proxies g c =
     let options = keeping c.args.options in
     let given = map given_to c.loop-clips.started.items in
     let none : into_iter_items c.loop-clips.clips-iterator ≡ [] = first_of (search rules, grind (arith, common_steps)) in
-    let whole =
+    let entire =
     sym (append-nil given)
     ∙ ap (λ (l : List (Vec (Clips g.row.S.Denot) Global)). given ++ map (given_by options) l) (sym none)
     ∙ c.loop-clips.invariant.given in
     IfOk-weaker c.join_all.result _ _
     (λ runs works.
     proxies_each remaining options refl c.args.each.items runs.items
-    (subst (λ (l : List (Options × List (Clips g.row.S.Denot))). AllZip (IsDone remaining options) l runs.items) whole works))
+    (subst (λ (l : List (Options × List (Clips g.row.S.Denot))). AllZip (IsDone remaining options) l runs.items) entire works))
     c.join_all.ensures.runs

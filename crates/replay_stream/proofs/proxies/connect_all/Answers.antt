@@ -3,7 +3,7 @@ use Rattle.std.specs.Prelude.{ℕ, vec_len}
 use Rattle.std.specs.Vec.Iter.{into_iter_items}
 use Rattle.std.proofs.lemmas.Grind.{common_steps}
 use Rattle.std.proofs.lemmas.List.Elements.{All-push, All-same}
-use Rattle.replay_stream.specs.declared.proxies.Task.{Task}
+use Rattle.replay_stream.specs.declared.proxies.ProxyTask.{ProxyTask}
 use Rattle.replay_stream.specs.Proxies.{IsNewOutlet, threads_by}
 use Rattle.replay_stream.proofs.Places.{given_also, given_one}
 use Rattle.replay_stream.proofs.proxies.connect_all.Goals as goal
@@ -33,9 +33,9 @@ loop-client-preserved g c =
           (vec_len c.loop-client.tasks) (vec_len c.push_reserved.new.self) before.given c.in-Some.ensures.steps.0 readers_are outs_are
           c.push_reserved.ensures.items number
           (c.in_ok-task.ensures.given ∙ ap (λ (n : ℕ). given_one c.args.options.reports n client reader out) counted);
-      new = All-same (λ (t : Task g.row.S.Denot g.row.W.Denot g.row.G.Denot). IsNewOutlet t.outlet (threads_by t).answers) _ _
+      new = All-same (λ (t : ProxyTask g.row.S.Denot g.row.W.Denot g.row.G.Denot). IsNewOutlet t.outlet (threads_by t).answers) _ _
           c.push_reserved.ensures.items
-          (All-push (λ (t : Task g.row.S.Denot g.row.W.Denot g.row.G.Denot). IsNewOutlet t.outlet (threads_by t).answers) tasks task
+          (All-push (λ (t : ProxyTask g.row.S.Denot g.row.W.Denot g.row.G.Denot). IsNewOutlet t.outlet (threads_by t).answers) tasks task
           before.new c.in_ok-task.ensures.new);
       room = first_of (search rules, grind (arith, common_steps));
       readers = first_of (search rules, grind (arith, common_steps));

@@ -50,9 +50,9 @@ join_recorder-recorder-requires-clause-closed g c =
     let proxy = c.in-Some.proxy in
     let rest = into_iter_items c.next.new.self in
     let items = c.args.proxies.items in
-    let whole : before.0 ++ proxy ∷ rest ≡ items = ap (λ l. before.0 ++ l) (sym c.in-Some.ensures.steps.0) ∙ before.2 in
+    let entire : before.0 ++ proxy ∷ rest ≡ items = ap (λ l. before.0 ++ l) (sym c.in-Some.ensures.steps.0) ∙ before.2 in
     let at : slice_get items (length before.0) ≡ Some proxy =
-    ap (λ l. slice_get l (length before.0)) (sym whole) ∙ at_middle before.0 rest proxy in
+    ap (λ l. slice_get l (length before.0)) (sym entire) ∙ at_middle before.0 rest proxy in
     (c.requires.passed (length before.0) proxy.outlet
     (mapped_at (λ (p : Proxy g.row.S.Denot g.row.W.Denot). p.outlet) items (length before.0) proxy at)).closed
 
@@ -60,8 +60,8 @@ pub returns-clause-joined : goal.returns-clause-joined
 returns-clause-joined g c =
     let before = c.loop-proxy.invariant.joined in
     let none : into_iter_items c.loop-proxy.proxy-iterator ≡ [] = first_of (search rules, grind (arith, common_steps)) in
-    let whole = sym (append-nil before.0) ∙ ap (λ l. before.0 ++ l) (sym none) ∙ before.2 in (
+    let entire = sym (append-nil before.0) ∙ ap (λ l. before.0 ++ l) (sym none) ∙ before.2 in (
       before.1,
-      subst (λ l. AllZip (IsJoined g.S.Source.remaining (state_by g.W.Sink.given g.W.Sink.failures)) l before.1) whole before.3,
+      subst (λ l. AllZip (IsJoined g.S.Source.remaining (state_by g.W.Sink.given g.W.Sink.failures)) l before.1) entire before.3,
       before.4,
     )

@@ -24,7 +24,7 @@ loop-proxy-preserved g c =
     let passes = c.pass.ensures.passes in
     record {
       style = c.pass.ensures.style ∙ so_far.style;
-      numbered = numbered_stay proxies i d x inside so_far.numbered passes.goes_on.proxy;
+      numbered = numbered_stay proxies i d x inside so_far.numbered passes.continues.proxy;
       threads = threads_stay proxies i d x inside ∙ so_far.threads;
       streams = streams_at proxies i d x inside c.args.printer.now.style c.args.printer.now.failed c.loop-proxy.printer.failed
           c.pass.new.printer.failed (state c.args.out.now) (state c.loop-proxy.out) (state c.pass.new.out)

@@ -12,9 +12,9 @@ use Rattle.resolver.specs.Settled.{Settled}
 use Rattle.resolver.proofs.callers.Lists.{written_back}
 use Rattle.replay_stream.specs.declared.outlet.Outlet.{Outlet}
 use Rattle.replay_stream.specs.declared.proxies.Proxy.{Proxy}
-use Rattle.replay_stream.specs.declared.proxies.Task.{Task}
+use Rattle.replay_stream.specs.declared.proxies.ProxyTask.{ProxyTask}
 use Rattle.replay_stream.specs.declared.recorder.Recorder.{Recorder}
-use Rattle.replay_stream.specs.Outlet.{AreNumbered, HavePassedAll, StreamGoesOn}
+use Rattle.replay_stream.specs.Outlet.{AreNumbered, HavePassedAll, StreamContinues}
 use Rattle.replay_stream.specs.Proxies.{AreEnds, IsJoined, Joined, client_of, outlets_of, threads_of}
 use Rattle.replay_stream.specs.Recorder.{is_unwritten, unwritten_cause}
 use Rattle.replay_stream.specs.Sinks.{state_by}
@@ -22,7 +22,7 @@ use Rattle.replay_workers.specs.Stops.{IsStopOf}
 use Rattle.replay_stream.specs.Streaming.{IsStreamed, recorded_each}
 use Rattle.replay_stream.proofs.Joining.{nothing_joined}
 use Rattle.replay_stream.proofs.Outlets.{stream_same}
-use Rattle.replay_workers.proofs.callers.SameLanes.{clients_go_on}
+use Rattle.replay_workers.proofs.callers.SameLanes.{clients_continue}
 use Rattle.replay_workers.proofs.callers.Stopping.{accounted_new}
 use Rattle.replay_stream.proofs.StreamRuns.{are_numbered, clients_ended, clients_joined, ends_each, have_recorders, is_streamed, tasks_count}
 use Rattle.replay_stream.proofs.running.run_stream.Goals as goal
@@ -59,7 +59,7 @@ join_all-streamed-requires-clause-room g c =
     let turned = c.turn_to_end.ensures.threads ∙ ap (map threads_of) c.deref_mut.ensures.value in
     let started_count : length started ≡ length readers =
     sym (length-map started (λ (p : Proxy g.row.S.Denot g.row.W.Denot). p.outlet)) ∙ ap length c.in_ok-proxies.ensures.outlets
-    ∙ length-map tasks (λ (t : Task g.row.S.Denot g.row.W.Denot g.row.G.Denot). t.outlet)
+    ∙ length-map tasks (λ (t : ProxyTask g.row.S.Denot g.row.W.Denot g.row.G.Denot). t.outlet)
     ∙ tasks_count c.args.options.reports readers outs clients tasks same as_many given ∙ sym same in
     omega (arith, started_count, c.in_ok-proxies.proxies.ok.0, c.in_ok-streamed.ensures.room, c.len-count.ensures)
 
@@ -88,11 +88,11 @@ join_all-streamed-requires-clause-ends g c =
     let threads = turned ∙ c.in_ok-proxies.ensures.threads in
     let streams = c.turn_to_end.ensures.streams c.new-printer.result.failed before first
     (stream_same style c.new-printer.result.failed before first) in
-    let goes : StreamGoesOn style false has_failed before after (map (λ (t : Task g.row.S.Denot g.row.W.Denot g.row.G.Denot). t.outlet) tasks)
+    let goes : StreamContinues style false has_failed before after (map (λ (t : ProxyTask g.row.S.Denot g.row.W.Denot g.row.G.Denot). t.outlet) tasks)
     (outlets_of ended) =
-    subst (λ (l : List Outlet). StreamGoesOn style false has_failed before after l (outlets_of ended))
+    subst (λ (l : List Outlet). StreamContinues style false has_failed before after l (outlets_of ended))
     (ap outlets_of c.deref_mut.ensures.value ∙ c.in_ok-proxies.ensures.outlets)
-    (subst (λ (f : Bool). StreamGoesOn style f has_failed before after first (outlets_of ended)) c.new-printer.ensures.failed streams) in
+    (subst (λ (f : Bool). StreamContinues style f has_failed before after first (outlets_of ended)) c.new-printer.ensures.failed streams) in
     let passed = c.turn_to_end.ensures.passed in
     All-same (λ (p : Proxy g.row.S.Denot g.row.W.Denot). AreEnds p.outlet.records (threads_of p).answers) _ _ back
     (ends_each c.args.options.reports readers outs clients tasks same as_many given style has_failed before after ended fresh threads goes passed)
@@ -139,11 +139,11 @@ settle-account-requires g c =
     let threads = turned ∙ c.in_ok-proxies.ensures.threads in
     let streams = c.turn_to_end.ensures.streams c.new-printer.result.failed before first
     (stream_same style c.new-printer.result.failed before first) in
-    let goes : StreamGoesOn style false has_failed before after (map (λ (t : Task g.row.S.Denot g.row.W.Denot g.row.G.Denot). t.outlet) tasks)
+    let goes : StreamContinues style false has_failed before after (map (λ (t : ProxyTask g.row.S.Denot g.row.W.Denot g.row.G.Denot). t.outlet) tasks)
     (outlets_of ended) =
-    subst (λ (l : List Outlet). StreamGoesOn style false has_failed before after l (outlets_of ended))
+    subst (λ (l : List Outlet). StreamContinues style false has_failed before after l (outlets_of ended))
     (ap outlets_of c.deref_mut.ensures.value ∙ c.in_ok-proxies.ensures.outlets)
-    (subst (λ (f : Bool). StreamGoesOn style f has_failed before after first (outlets_of ended)) c.new-printer.ensures.failed streams) in
+    (subst (λ (f : Bool). StreamContinues style f has_failed before after first (outlets_of ended)) c.new-printer.ensures.failed streams) in
     let passed = c.turn_to_end.ensures.passed in
     let joined = c.join_all-streamed.ensures.joined in
     let records = state_by g.W.Sink.given g.W.Sink.failures in
@@ -151,7 +151,7 @@ settle-account-requires g c =
     let lanes = c.turn_to_end.new.resolver.lanes in
     record {
       clients = subst (λ (clients : List Client). AreClients lanes clients) (sym (c.as_mut_slice.ensures.value ∙ joined.2.clients))
-          (clients_go_on c.in_ok-resolver.resolver.lanes lanes clients (map client_of joined.0) c.in_ok-resolver.ensures.clients
+          (clients_continue c.in_ok-resolver.resolver.lanes lanes clients (map client_of joined.0) c.in_ok-resolver.ensures.clients
           c.turn_to_end.ensures.lanes
           (clients_joined c.args.options.reports readers outs clients tasks same as_many given style has_failed before after ended fresh threads goes passed g.S.Source.remaining records joined.0 worked));
     }
@@ -181,41 +181,41 @@ returns g c =
     let threads = turned ∙ c.in_ok-proxies.ensures.threads in
     let streams = c.turn_to_end.ensures.streams c.new-printer.result.failed before first
     (stream_same style c.new-printer.result.failed before first) in
-    let goes : StreamGoesOn style false has_failed before after (map (λ (t : Task g.row.S.Denot g.row.W.Denot g.row.G.Denot). t.outlet) tasks)
+    let goes : StreamContinues style false has_failed before after (map (λ (t : ProxyTask g.row.S.Denot g.row.W.Denot g.row.G.Denot). t.outlet) tasks)
     (outlets_of ended) =
-    subst (λ (l : List Outlet). StreamGoesOn style false has_failed before after l (outlets_of ended))
+    subst (λ (l : List Outlet). StreamContinues style false has_failed before after l (outlets_of ended))
     (ap outlets_of c.deref_mut.ensures.value ∙ c.in_ok-proxies.ensures.outlets)
-    (subst (λ (f : Bool). StreamGoesOn style f has_failed before after first (outlets_of ended)) c.new-printer.ensures.failed streams) in
+    (subst (λ (f : Bool). StreamContinues style f has_failed before after first (outlets_of ended)) c.new-printer.ensures.failed streams) in
     let passed = c.turn_to_end.ensures.passed in
     let joined = c.join_all-streamed.ensures.joined in
     let records = state_by g.W.Sink.given g.W.Sink.failures in
     let worked = subst (λ (l : List (Proxy g.row.S.Denot g.row.W.Denot)). AllZip (IsJoined g.S.Source.remaining records) l joined.0) back joined.1 in
     let resolver = c.turn_to_end.new.resolver in
     let account = c.settle-account.result in
-    let told = c.turn_to_end.ensures.accounted
+    let reported = c.turn_to_end.ensures.accounted
     (accounted_new c.in_ok-resolver.resolver c.in_ok-resolver.ensures.stands c.in_ok-resolver.ensures.no_stop) in
     let kept : to_z w64 (of_z w64 c.args.options.window) ≡ c.args.options.window =
     first_of (search rules, grind (arith, ints, to_z-of_z)) in
-    let window_is = c.turn_to_end.ensures.goes_on.window ∙ c.in_ok-resolver.ensures.window ∙ kept in
-    let limit_is = c.turn_to_end.ensures.goes_on.limit ∙ c.in_ok-resolver.ensures.limit in
-    let handed_back = c.as_mut_slice.ensures.value ∙ joined.2.clients in
-    let windowed = subst (λ (window : ℤ). Settled window told.log resolver.lanes c.as_mut_slice.result.now account) window_is
-    (c.settle-account.ensures.settled (negsuc 0) told.log told.stands) in
-    let settled = subst (λ (back : List Client). Settled c.args.options.window told.log resolver.lanes back account)
-    handed_back windowed in
+    let window_is = c.turn_to_end.ensures.continues.window ∙ c.in_ok-resolver.ensures.window ∙ kept in
+    let limit_is = c.turn_to_end.ensures.continues.limit ∙ c.in_ok-resolver.ensures.limit in
+    let returned = c.as_mut_slice.ensures.value ∙ joined.2.clients in
+    let windowed = subst (λ (window : ℤ). Settled window reported.log resolver.lanes c.as_mut_slice.result.now account) window_is
+    (c.settle-account.ensures.settled (negsuc 0) reported.log reported.stands) in
+    let settled = subst (λ (back : List Client). Settled c.args.options.window reported.log resolver.lanes back account)
+    returned windowed in
     let all_ended = clients_ended c.args.options.reports readers outs clients tasks same as_many given style has_failed before after ended fresh threads goes passed g.S.Source.remaining records joined.0 worked in
-    let whole : account.stop ≡ None → account.complete ≡ true = λ none.
+    let entire : account.stop ≡ None → account.complete ≡ true = λ none.
     c.settle-account.ensures.complete.1 (record {
       no_stop = sym c.settle-account.ensures.stop ∙ none;
       closed = c.turn_to_end.ensures.closed;
       taken = λ proxy client at.
           c.settle-account.ensures.ended proxy client at
-          (all_ended proxy client (ap (λ (l : List Client). slice_get l proxy) (sym handed_back) ∙ at));
+          (all_ended proxy client (ap (λ (l : List Client). slice_get l proxy) (sym returned) ∙ at));
     }) in
-    let met = subst (λ (limit : ℕ). IfSome account.stop (IsStopOf limit c.args.options.window told.log)) limit_is
-    (subst (λ (window : ℤ). IfSome account.stop (IsStopOf resolver.core.set.map.limit window told.log)) window_is
-    (subst (λ (stop : Option Stop). IfSome stop (IsStopOf resolver.core.set.map.limit resolver.core.set.window told.log))
-    (sym c.settle-account.ensures.stop) told.met)) in
+    let met = subst (λ (limit : ℕ). IfSome account.stop (IsStopOf limit c.args.options.window reported.log)) limit_is
+    (subst (λ (window : ℤ). IfSome account.stop (IsStopOf resolver.core.set.map.limit window reported.log)) window_is
+    (subst (λ (stop : Option Stop). IfSome stop (IsStopOf resolver.core.set.map.limit resolver.core.set.window reported.log))
+    (sym c.settle-account.ensures.stop) reported.met)) in
     let streamed = c.join_all-streamed.result in
     let cause = λ (r : Option (Recorder g.row.W.Denot)). is_unwritten (unwritten_cause r) in
     record {
@@ -223,8 +223,8 @@ returns g c =
           streamed.failures.items (recorded_each records outs streamed.recorders.items) (account.complete && streamed.all_sent) account.stop)
           (sym c.join_all-streamed.ensures.failed)
           (is_streamed c.args.options.reports readers outs clients tasks same as_many given style has_failed before after ended fresh threads goes passed
-          g.S.Source.remaining records joined.0 worked c.args.options c.new-printer.ensures.style refl told.log resolver.lanes account streamed
-          c.in_ok-resolver.ensures.new_clients settled whole joined.2 met);
+          g.S.Source.remaining records joined.0 worked c.args.options c.new-printer.ensures.style refl reported.log resolver.lanes account streamed
+          c.in_ok-resolver.ensures.new_clients settled entire joined.2 met);
       unwritten =
           joined.2.unwritten ∙ sym (map-map cause (λ (j : Joined g.row.W.Denot). j.recorder) joined.0)
           ∙ ap (map cause) (sym joined.2.recorders);

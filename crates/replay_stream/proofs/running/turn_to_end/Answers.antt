@@ -3,8 +3,8 @@ use Rattle.std.proofs.Common.{◌∙◌, rules}
 use Rattle.replay_stream.specs.Proxies.{outlets_of}
 use Rattle.replay_stream.specs.Sinks.{state_by}
 use Rattle.replay_stream.proofs.Outlets.{streams_then}
-use Rattle.replay_workers.proofs.callers.SameLanes.{lanes_go_on}
-use Rattle.replay_workers.proofs.callers.Stopping.{accounted_turn, core_goes_on}
+use Rattle.replay_workers.proofs.callers.SameLanes.{lanes_continue}
+use Rattle.replay_workers.proofs.callers.Stopping.{accounted_turn, core_continues}
 use Rattle.replay_stream.proofs.running.turn_to_end.Goals as goal
 
 pub loop-preserved-in-Ok-Took : goal.loop-preserved-in-Ok-Took
@@ -14,11 +14,11 @@ loop-preserved-in-Ok-Took g c =
     record {
       resolving = λ first. c.turn.ensures.resolving (negsuc 0) (c.loop.invariant.resolving first);
       accounted = λ first.
-          accounted_turn c.loop.resolver c.turn.new.self c.turn.ensures.goes_on c.turn.result c.turn.ensures.step
+          accounted_turn c.loop.resolver c.turn.new.self c.turn.ensures.continues c.turn.result c.turn.ensures.step
           c.turn.ensures.stop_met c.turn.ensures.stopped c.turn.ensures.stop c.turn.ensures.stop_stays c.turn.ensures.no_stop
           c.turn.ensures.gate_full c.turn.ensures.arena_full (c.loop.invariant.accounted first);
-      goes_on = core_goes_on _ c.loop.resolver.core _ c.loop.invariant.goes_on c.turn.ensures.goes_on;
-      lanes = lanes_go_on _ c.loop.resolver.lanes _ c.loop.invariant.lanes c.turn.ensures.lanes;
+      continues = core_continues _ c.loop.resolver.core _ c.loop.invariant.continues c.turn.ensures.continues;
+      lanes = lanes_continue _ c.loop.resolver.lanes _ c.loop.invariant.lanes c.turn.ensures.lanes;
       style = round.style ∙ c.loop.invariant.style;
       numbered = round.numbered;
       threads = round.threads ∙ c.loop.invariant.threads;
@@ -35,11 +35,11 @@ loop-preserved-in-Ok-Idle g c =
     record {
       resolving = λ first. c.turn.ensures.resolving (negsuc 0) (c.loop.invariant.resolving first);
       accounted = λ first.
-          accounted_turn c.loop.resolver c.turn.new.self c.turn.ensures.goes_on c.turn.result c.turn.ensures.step
+          accounted_turn c.loop.resolver c.turn.new.self c.turn.ensures.continues c.turn.result c.turn.ensures.step
           c.turn.ensures.stop_met c.turn.ensures.stopped c.turn.ensures.stop c.turn.ensures.stop_stays c.turn.ensures.no_stop
           c.turn.ensures.gate_full c.turn.ensures.arena_full (c.loop.invariant.accounted first);
-      goes_on = core_goes_on _ c.loop.resolver.core _ c.loop.invariant.goes_on c.turn.ensures.goes_on;
-      lanes = lanes_go_on _ c.loop.resolver.lanes _ c.loop.invariant.lanes c.turn.ensures.lanes;
+      continues = core_continues _ c.loop.resolver.core _ c.loop.invariant.continues c.turn.ensures.continues;
+      lanes = lanes_continue _ c.loop.resolver.lanes _ c.loop.invariant.lanes c.turn.ensures.lanes;
       style = round.style ∙ c.loop.invariant.style;
       numbered = round.numbered;
       threads = round.threads ∙ c.loop.invariant.threads;
@@ -56,11 +56,11 @@ loop-preserved-in-Ok-Done g c =
     record {
       resolving = λ first. c.turn.ensures.resolving (negsuc 0) (c.loop.invariant.resolving first);
       accounted = λ first.
-          accounted_turn c.loop.resolver c.turn.new.self c.turn.ensures.goes_on c.turn.result c.turn.ensures.step
+          accounted_turn c.loop.resolver c.turn.new.self c.turn.ensures.continues c.turn.result c.turn.ensures.step
           c.turn.ensures.stop_met c.turn.ensures.stopped c.turn.ensures.stop c.turn.ensures.stop_stays c.turn.ensures.no_stop
           c.turn.ensures.gate_full c.turn.ensures.arena_full (c.loop.invariant.accounted first);
-      goes_on = core_goes_on _ c.loop.resolver.core _ c.loop.invariant.goes_on c.turn.ensures.goes_on;
-      lanes = lanes_go_on _ c.loop.resolver.lanes _ c.loop.invariant.lanes c.turn.ensures.lanes;
+      continues = core_continues _ c.loop.resolver.core _ c.loop.invariant.continues c.turn.ensures.continues;
+      lanes = lanes_continue _ c.loop.resolver.lanes _ c.loop.invariant.lanes c.turn.ensures.lanes;
       style = round.style ∙ c.loop.invariant.style;
       numbered = round.numbered;
       threads = round.threads ∙ c.loop.invariant.threads;
@@ -77,11 +77,11 @@ loop-preserved g c =
     record {
       resolving = λ first. c.turn.ensures.resolving (negsuc 0) (c.loop.invariant.resolving first);
       accounted = λ first.
-          accounted_turn c.loop.resolver c.turn.new.self c.turn.ensures.goes_on c.turn.result c.turn.ensures.step
+          accounted_turn c.loop.resolver c.turn.new.self c.turn.ensures.continues c.turn.result c.turn.ensures.step
           c.turn.ensures.stop_met c.turn.ensures.stopped c.turn.ensures.stop c.turn.ensures.stop_stays c.turn.ensures.no_stop
           c.turn.ensures.gate_full c.turn.ensures.arena_full (c.loop.invariant.accounted first);
-      goes_on = core_goes_on _ c.loop.resolver.core _ c.loop.invariant.goes_on c.turn.ensures.goes_on;
-      lanes = lanes_go_on _ c.loop.resolver.lanes _ c.loop.invariant.lanes c.turn.ensures.lanes;
+      continues = core_continues _ c.loop.resolver.core _ c.loop.invariant.continues c.turn.ensures.continues;
+      lanes = lanes_continue _ c.loop.resolver.lanes _ c.loop.invariant.lanes c.turn.ensures.lanes;
       style = round.style ∙ c.loop.invariant.style;
       numbered = round.numbered;
       threads = round.threads ∙ c.loop.invariant.threads;
@@ -93,20 +93,20 @@ loop-preserved g c =
 
 pub returns-then-ended-clause-lanes : goal.returns-then-ended-clause-lanes
 returns-then-ended-clause-lanes g c =
-    lanes_go_on _ c.loop.resolver.lanes _ c.loop.invariant.lanes c.turn.ensures.lanes
+    lanes_continue _ c.loop.resolver.lanes _ c.loop.invariant.lanes c.turn.ensures.lanes
 
 pub returns-then-ended-clause-passed : goal.returns-then-ended-clause-passed
 returns-then-ended-clause-passed g c = c.pass_each-ended.ensures.passed (search rules)
 
 pub returns-then-owed-eq0-clause-accounted : goal.returns-then-owed-eq0-clause-accounted
 returns-then-owed-eq0-clause-accounted g c = λ first.
-    accounted_turn c.loop.resolver c.turn.new.self c.turn.ensures.goes_on c.turn.result c.turn.ensures.step
+    accounted_turn c.loop.resolver c.turn.new.self c.turn.ensures.continues c.turn.result c.turn.ensures.step
     c.turn.ensures.stop_met c.turn.ensures.stopped c.turn.ensures.stop c.turn.ensures.stop_stays c.turn.ensures.no_stop
     c.turn.ensures.gate_full c.turn.ensures.arena_full (c.loop.invariant.accounted first)
 
 pub returns-then-owed-eq0-clause-lanes : goal.returns-then-owed-eq0-clause-lanes
 returns-then-owed-eq0-clause-lanes g c =
-    lanes_go_on _ c.loop.resolver.lanes _ c.loop.invariant.lanes c.turn.ensures.lanes
+    lanes_continue _ c.loop.resolver.lanes _ c.loop.invariant.lanes c.turn.ensures.lanes
 
 pub returns-then-owed-eq0-clause-passed : goal.returns-then-owed-eq0-clause-passed
 returns-then-owed-eq0-clause-passed g c = c.pass_each-ended.ensures.passed (search rules)

@@ -1,6 +1,6 @@
 use Rattle.std.proofs.Common.{ap, refl, sym, subst, ◌∙◌}
 use Rattle.keyspace.specs.declared.batch.Batch.{Batch}
-use Rattle.lane.specs.Lane.{PortGoesOn, PortView}
+use Rattle.lane.specs.Lane.{PortContinues, PortView}
 use Rattle.replay_workers.specs.Worker.{fault_of, unsent_of}
 use Rattle.replay_workers.proofs.callers.Ending.{sends_moved}
 use Rattle.replay_stream.proofs.Passing.{port_closed}
@@ -17,7 +17,7 @@ returns g c =
     let closed = done.requests ∙ c.close.ensures.closed in
     record {
       sent = record {
-        requests = subst (λ (r : PortView Batch). PortGoesOn given r) (sym closed) (port_closed given after sent.requests);
+        requests = subst (λ (r : PortView Batch). PortContinues given r) (sym closed) (port_closed given after sent.requests);
         sends =
             sends_moved c.args.reports (g.S.Source.remaining c.args.reader) (g.S.Source.remaining c.args.reader) given.sent
             given.sent after.sent finished.requests.sent (fault_of end) finished.fault (unsent_of end) finished.unsent

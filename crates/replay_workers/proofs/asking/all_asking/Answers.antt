@@ -5,7 +5,7 @@ use Rattle.std.proofs.lemmas.List.{with_items_is}
 use Rattle.keyspace.specs.declared.batch.Batch.{Batch}
 use Rattle.keyspace.proofs.callers.SameFields.{same_batch}
 use Rattle.replay_workers.specs.Asking.{asking_row}
-use Rattle.replay_workers.proofs.Reporting.{few_asking, tables_asking, told_asking}
+use Rattle.replay_workers.proofs.Reporting.{few_asking, tables_asking, reported_asking}
 use Rattle.replay_workers.proofs.asking.all_asking.Goals.{After-ask_all}
 use Rattle.replay_workers.proofs.asking.all_asking.Goals as goal
 
@@ -44,6 +44,6 @@ returns c =
           (c.new.ensures.previous ∙ to_z-of_z w64 c.batch.inside.previous previous ∙ ap (λ (x : Batch). x.previous) c.batch.view_is)
           (c.new.ensures.version ∙ to_z-of_z w64 c.batch.inside.version version ∙ ap (λ (x : Batch). x.version) c.batch.view_is)
           (c.new.ensures.received ∙ to_z-of_z w64 c.batch.inside.received received ∙ ap (λ (x : Batch). x.received) c.batch.view_is)
-          (c.new.ensures.txns ∙ told_asking own.buffer.items own.spans.items own.rows.items _ (asked at.After-ask_all) b.txns
+          (c.new.ensures.txns ∙ reported_asking own.buffer.items own.spans.items own.rows.items _ (asked at.After-ask_all) b.txns
           c.into_tables-tables.ensures.txns);
     }

@@ -15,19 +15,19 @@ use Rattle.resolver.proofs.callers.Lists.{written_back}
 use Rattle.replay_output.specs.declared.line.Line.{Line}
 use Rattle.replay_workers.specs.declared.threads.Worked.{Worked}
 use Rattle.replay_workers.specs.declared.worker.Finished.{Finished}
-use Rattle.replay_workers.specs.declared.outcome.Outcome.{Outcome}
+use Rattle.replay_workers.specs.declared.outcome.RunOutcome.{RunOutcome}
 use Rattle.replay_workers.specs.Threads.{finished_of, given_each, HasWorkedOn, IsOutcomeOf}
 use Rattle.replay_workers.specs.Occupied.{IsOccupancyOf}
 use Rattle.replay_workers.specs.Run.{EndsAt, HasCapacity, IsMeasuredRunOver, is_complete}
 use Rattle.replay_workers.specs.Stops.{IsStopOf}
-use Rattle.replay_workers.proofs.callers.SameLanes.{clients_go_on}
+use Rattle.replay_workers.proofs.callers.SameLanes.{clients_continue}
 use Rattle.replay_workers.proofs.callers.Stopping.{accounted_new}
 use Rattle.replay_workers.proofs.Working.{capacities, capacities_stay, clients_back, clients_ended, started_count}
 use Rattle.replay_workers.proofs.Runs.{is_run, is_run_log}
 use Rattle.replay_workers.proofs.running.run_over.Goals as goal
 
 -- nothing was handed back yet
-nothing_back : (outcome : Outcome) → outcome.clients.items ≡ [] → outcome.lines.items ≡ [] → outcome.failures.items ≡ []
+nothing_back : (outcome : RunOutcome) → outcome.clients.items ≡ [] → outcome.lines.items ≡ [] → outcome.failures.items ≡ []
     → outcome.all_sent ≡ true → IsOutcomeOf [] outcome
 nothing_back outcome clients lines failures all_sent = record {
   clients = clients;
@@ -71,12 +71,12 @@ settle-account-requires g c =
     let worked = c.join_all-outcome.ensures.worked in
     let back = map (λ (f : Finished). f.client) (finished_of worked.0) in
     let same : length streams ≡ length clients = omega (arith, c.in_ok-resolver.ensures.proxies, c.len-proxies.ensures) in
-    let handed = subst (λ given. AllZip (HasWorkedOn g.B.Batches.gives g.B.Batches.is_at_end g.B.Batches.is_at_fault g.B.Batches.stays) given worked.0) c.in_ok-workers.ensures.given worked.1 in
+    let all_returned = subst (λ given. AllZip (HasWorkedOn g.B.Batches.gives g.B.Batches.is_at_end g.B.Batches.is_at_fault g.B.Batches.stays) given worked.0) c.in_ok-workers.ensures.given worked.1 in
     record {
       clients = subst (λ (clients : List Client). AreClients lanes clients)
           (sym (c.as_mut_slice.ensures.value ∙ worked.2.clients))
-          (clients_go_on c.in_ok-resolver.resolver.lanes lanes clients back c.in_ok-resolver.ensures.clients
-          c.turn_to_end-occupancy.ensures.lanes (clients_back g.B.Batches.gives g.B.Batches.is_at_end g.B.Batches.is_at_fault g.B.Batches.stays c.args.options.style share 0 clients streams worked.0 same handed));
+          (clients_continue c.in_ok-resolver.resolver.lanes lanes clients back c.in_ok-resolver.ensures.clients
+          c.turn_to_end-occupancy.ensures.lanes (clients_back g.B.Batches.gives g.B.Batches.is_at_end g.B.Batches.is_at_fault g.B.Batches.stays c.args.options.style share 0 clients streams worked.0 same all_returned));
     }
 
 pub returns : goal.returns
@@ -86,17 +86,17 @@ returns g c =
     let clients = c.in_ok-resolver.clients.items in
     let worked = c.join_all-outcome.ensures.worked in
     let same : length streams ≡ length clients = omega (arith, c.in_ok-resolver.ensures.proxies, c.len-proxies.ensures) in
-    let handed = subst (λ given. AllZip (HasWorkedOn g.B.Batches.gives g.B.Batches.is_at_end g.B.Batches.is_at_fault g.B.Batches.stays) given worked.0) c.in_ok-workers.ensures.given worked.1 in
+    let all_returned = subst (λ given. AllZip (HasWorkedOn g.B.Batches.gives g.B.Batches.is_at_end g.B.Batches.is_at_fault g.B.Batches.stays) given worked.0) c.in_ok-workers.ensures.given worked.1 in
     let resolver = c.turn_to_end-occupancy.new.resolver in
     let account = c.settle-account.result in
     let back = map (λ (f : Finished). f.client) (finished_of worked.0) in
     let kept : to_z w64 (of_z w64 c.args.options.window) ≡ c.args.options.window =
     first_of (search rules, grind (arith, ints, to_z-of_z)) in
-    let window_is = c.turn_to_end-occupancy.ensures.goes_on.window ∙ c.in_ok-resolver.ensures.window ∙ kept in
-    let limit_is = c.turn_to_end-occupancy.ensures.goes_on.limit ∙ c.in_ok-resolver.ensures.limit in
-    let handed_back = c.as_mut_slice.ensures.value ∙ worked.2.clients in
+    let window_is = c.turn_to_end-occupancy.ensures.continues.window ∙ c.in_ok-resolver.ensures.window ∙ kept in
+    let limit_is = c.turn_to_end-occupancy.ensures.continues.limit ∙ c.in_ok-resolver.ensures.limit in
+    let returned = c.as_mut_slice.ensures.value ∙ worked.2.clients in
     let settled : (log : List Step) → StandsOver resolver log → Settled c.args.options.window log resolver.lanes back account =
-    λ log stands. subst (λ (back : List Client). Settled c.args.options.window log resolver.lanes back account) handed_back
+    λ log stands. subst (λ (back : List Client). Settled c.args.options.window log resolver.lanes back account) returned
     (subst (λ (window : ℤ). Settled window log resolver.lanes c.as_mut_slice.result.now account) window_is
     (c.settle-account.ensures.settled (negsuc 0) log stands)) in
     let outcome = c.join_all-outcome.result.0 in
@@ -104,14 +104,14 @@ returns g c =
     let same_clients = subst (λ (l : List Client). SameClients l now) c.as_mut_slice.ensures.value
     c.settle-account.ensures.clients in
     let all_ended = clients_ended g.B.Batches.gives g.B.Batches.is_at_end g.B.Batches.is_at_fault g.B.Batches.stays
-    (given_each c.args.options.style share 0 clients streams) worked.0 handed in
-    let whole : account.stop ≡ None → account.complete ≡ true = λ none.
+    (given_each c.args.options.style share 0 clients streams) worked.0 all_returned in
+    let entire : account.stop ≡ None → account.complete ≡ true = λ none.
     c.settle-account.ensures.complete.1 (record {
       no_stop = sym c.settle-account.ensures.stop ∙ none;
       closed = c.turn_to_end-occupancy.ensures.closed;
       taken = λ proxy client at.
           c.settle-account.ensures.ended proxy client at
-          (all_ended proxy client (ap (λ (l : List Client). slice_get l proxy) (sym handed_back) ∙ at));
+          (all_ended proxy client (ap (λ (l : List Client). slice_get l proxy) (sym returned) ∙ at));
     }) in
     let met : (log : List Step) → IfSome resolver.core.stop (IsStopOf resolver.core.set.map.limit resolver.core.set.window log)
     → IfSome account.stop (IsStopOf c.args.options.limit c.args.options.window log) = λ log is.
@@ -119,10 +119,10 @@ returns g c =
     (subst (λ (window : ℤ). IfSome account.stop (IsStopOf resolver.core.set.map.limit window log)) window_is
     (subst (λ (stop : Option Stop). IfSome stop (IsStopOf resolver.core.set.map.limit resolver.core.set.window log))
     (sym c.settle-account.ensures.stop) is)) in
-    let told = c.turn_to_end-occupancy.ensures.accounted
+    let reported = c.turn_to_end-occupancy.ensures.accounted
     (accounted_new c.in_ok-resolver.resolver c.in_ok-resolver.ensures.stands c.in_ok-resolver.ensures.no_stop) in
-    let ran = is_run g.B.Batches.gives g.B.Batches.is_at_end g.B.Batches.is_at_fault g.B.Batches.stays c.args.options share streams clients worked.0 outcome c.join_all-outcome.result.1.items told.log resolver.lanes
-    account same c.in_ok-resolver.ensures.new_clients handed worked.2 worked.3 (settled told.log told.stands) whole (met told.log told.met) in
+    let ran = is_run g.B.Batches.gives g.B.Batches.is_at_end g.B.Batches.is_at_fault g.B.Batches.stays c.args.options share streams clients worked.0 outcome c.join_all-outcome.result.1.items reported.log resolver.lanes
+    account same c.in_ok-resolver.ensures.new_clients all_returned worked.2 worked.3 (settled reported.log reported.stands) entire (met reported.log reported.met) in
     let occupancy = c.turn_to_end-occupancy.result in
     let Seen = g.O.Observer.has_seen c.turn_to_end-occupancy.new.observer in
     let measured : g.O.Observer.has_seen c.args.observer.now []
@@ -132,11 +132,11 @@ returns g c =
     λ first.
     let saw = c.turn_to_end-occupancy.ensures.measured c.in_ok-resolver.ensures.stands c.in_ok-resolver.ensures.no_stop first in
     let log_is = is_run_log g.B.Batches.gives g.B.Batches.is_at_end g.B.Batches.is_at_fault g.B.Batches.stays c.args.options share streams clients worked.0 outcome c.join_all-outcome.result.1.items saw.log resolver.lanes
-    account same c.in_ok-resolver.ensures.new_clients handed worked.2 worked.3 (settled saw.log saw.stands) whole (met saw.log saw.met) in
+    account same c.in_ok-resolver.ensures.new_clients all_returned worked.2 worked.3 (settled saw.log saw.stands) entire (met saw.log saw.met) in
     record {
       observed = record {
         run = is_run g.B.Batches.gives g.B.Batches.is_at_end g.B.Batches.is_at_fault g.B.Batches.stays c.args.options share streams clients worked.0 outcome c.join_all-outcome.result.1.items saw.log resolver.lanes
-            account same c.in_ok-resolver.ensures.new_clients handed worked.2 worked.3 (settled saw.log saw.stands) whole
+            account same c.in_ok-resolver.ensures.new_clients all_returned worked.2 worked.3 (settled saw.log saw.stands) entire
             (met saw.log saw.met);
         seen = subst (λ (log : List Step). HasSeen Seen account.stop c.args.options.window log) (sym log_is)
             (subst (λ (window : ℤ). HasSeen Seen account.stop window saw.log) window_is
@@ -171,5 +171,5 @@ returns g c =
           (capacities_stay c.args.options.capacity outcome.clients.items now same_clients
           (subst (All (HasCapacity c.args.options.capacity)) (sym worked.2.clients)
           (capacities c.args.options.capacity clients back c.in_ok-resolver.ensures.new_clients
-          (clients_back g.B.Batches.gives g.B.Batches.is_at_end g.B.Batches.is_at_fault g.B.Batches.stays c.args.options.style share 0 clients streams worked.0 same handed))));
+          (clients_back g.B.Batches.gives g.B.Batches.is_at_end g.B.Batches.is_at_fault g.B.Batches.stays c.args.options.style share 0 clients streams worked.0 same all_returned))));
     }

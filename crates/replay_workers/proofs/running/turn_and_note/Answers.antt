@@ -31,6 +31,8 @@ returns-clause-measured g c =
       subst (λ (n : ℕ). after ≡ noted n (length now.core.set.map.boundaries) before) c.held.ensures.count
           (subst (λ (n : ℕ). after ≡ noted c.held.result n before) c.boundaries.ensures.count c.note.ensures.noted),
       omega (arith, c.boundaries.ensures.count, c.boundaries.ensures.within),
+      c.boundaries.ensures.steps,
+      c.boundaries.ensures.window,
     ))
     (unstopped_if c.turn_observed-turn.result now.core.stop (sym c.is_err.ensures.value ∙ c.if-is_err.false) turned.turns.no_stop)
 

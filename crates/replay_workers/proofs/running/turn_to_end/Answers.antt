@@ -4,8 +4,8 @@ use Rattle.replay_summary.specs.declared.occupancy.Occupancy.{Occupancy}
 use Rattle.resolver.proofs.callers.Later.{lanes_same}
 use Rattle.replay_workers.specs.Occupied.{IsMeasured}
 use Rattle.replay_workers.proofs.Occupying.{measured_new}
-use Rattle.replay_workers.proofs.callers.SameLanes.{lanes_go_on}
-use Rattle.replay_workers.proofs.callers.Stopping.{accounted_turn, core_goes_on}
+use Rattle.replay_workers.proofs.callers.SameLanes.{lanes_continue}
+use Rattle.replay_workers.proofs.callers.Stopping.{accounted_turn, core_continues}
 use Rattle.replay_workers.proofs.running.turn_to_end.Goals as goal
 
 pub loop-init : goal.loop-init
@@ -15,10 +15,11 @@ loop-init g c = record {
   measured = λ stands none first.
       subst (λ (o : Occupancy). IsMeasured (g.O.Observer.has_seen c.args.observer.now) o c.args.resolver.now)
       (sym c.new-occupancy.ensures.new)
-      (measured_new (g.O.Observer.has_seen c.args.observer.now) c.args.resolver.now stands none first c.boundaries.result
+      (measured_new (g.O.Observer.has_seen c.args.observer.now) c.args.resolver.now stands none first c.boundaries.ensures.steps
+      c.boundaries.ensures.window c.boundaries.result
       c.boundaries.ensures.count c.boundaries.ensures.within);
   setting = refl;
-  goes_on = record { window = refl; limit = refl; proxies = refl };
+  continues = record { window = refl; limit = refl; proxies = refl };
   lanes = lanes_same c.args.resolver.now.lanes;
 }
 
@@ -28,12 +29,12 @@ loop-preserved-in-Ok-Took g c =
     record {
       resolving = λ first. turns.resolving (negsuc 0) (c.loop.invariant.resolving first);
       accounted = λ first.
-          accounted_turn c.loop.resolver c.turn_and_note.new.resolver turns.goes_on c.turn_and_note.result turns.step turns.stop_met
+          accounted_turn c.loop.resolver c.turn_and_note.new.resolver turns.continues c.turn_and_note.result turns.step turns.stop_met
           turns.stopped turns.stop turns.stop_stays turns.no_stop turns.gate_full turns.arena_full (c.loop.invariant.accounted first);
       measured = λ stands none first. c.turn_and_note.ensures.measured (c.loop.invariant.measured stands none first);
       setting = c.turn_and_note.ensures.setting ∙ c.loop.invariant.setting;
-      goes_on = core_goes_on _ c.loop.resolver.core _ c.loop.invariant.goes_on turns.goes_on;
-      lanes = lanes_go_on _ c.loop.resolver.lanes _ c.loop.invariant.lanes turns.lanes;
+      continues = core_continues _ c.loop.resolver.core _ c.loop.invariant.continues turns.continues;
+      lanes = lanes_continue _ c.loop.resolver.lanes _ c.loop.invariant.lanes turns.lanes;
     }
 
 pub loop-preserved-in-Ok-Idle : goal.loop-preserved-in-Ok-Idle
@@ -42,12 +43,12 @@ loop-preserved-in-Ok-Idle g c =
     record {
       resolving = λ first. turns.resolving (negsuc 0) (c.loop.invariant.resolving first);
       accounted = λ first.
-          accounted_turn c.loop.resolver c.turn_and_note.new.resolver turns.goes_on c.turn_and_note.result turns.step turns.stop_met
+          accounted_turn c.loop.resolver c.turn_and_note.new.resolver turns.continues c.turn_and_note.result turns.step turns.stop_met
           turns.stopped turns.stop turns.stop_stays turns.no_stop turns.gate_full turns.arena_full (c.loop.invariant.accounted first);
       measured = λ stands none first. c.turn_and_note.ensures.measured (c.loop.invariant.measured stands none first);
       setting = c.turn_and_note.ensures.setting ∙ c.loop.invariant.setting;
-      goes_on = core_goes_on _ c.loop.resolver.core _ c.loop.invariant.goes_on turns.goes_on;
-      lanes = lanes_go_on _ c.loop.resolver.lanes _ c.loop.invariant.lanes turns.lanes;
+      continues = core_continues _ c.loop.resolver.core _ c.loop.invariant.continues turns.continues;
+      lanes = lanes_continue _ c.loop.resolver.lanes _ c.loop.invariant.lanes turns.lanes;
     }
 
 pub loop-preserved : goal.loop-preserved
@@ -56,18 +57,18 @@ loop-preserved g c =
     record {
       resolving = λ first. turns.resolving (negsuc 0) (c.loop.invariant.resolving first);
       accounted = λ first.
-          accounted_turn c.loop.resolver c.turn_and_note.new.resolver turns.goes_on c.turn_and_note.result turns.step turns.stop_met
+          accounted_turn c.loop.resolver c.turn_and_note.new.resolver turns.continues c.turn_and_note.result turns.step turns.stop_met
           turns.stopped turns.stop turns.stop_stays turns.no_stop turns.gate_full turns.arena_full (c.loop.invariant.accounted first);
       measured = λ stands none first. c.turn_and_note.ensures.measured (c.loop.invariant.measured stands none first);
       setting = c.turn_and_note.ensures.setting ∙ c.loop.invariant.setting;
-      goes_on = core_goes_on _ c.loop.resolver.core _ c.loop.invariant.goes_on turns.goes_on;
-      lanes = lanes_go_on _ c.loop.resolver.lanes _ c.loop.invariant.lanes turns.lanes;
+      continues = core_continues _ c.loop.resolver.core _ c.loop.invariant.continues turns.continues;
+      lanes = lanes_continue _ c.loop.resolver.lanes _ c.loop.invariant.lanes turns.lanes;
     }
 
 pub returns-in-Ok-Done-clause-accounted : goal.returns-in-Ok-Done-clause-accounted
 returns-in-Ok-Done-clause-accounted g c = λ first.
     let turns = c.turn_and_note.ensures.turns in
-    accounted_turn c.loop.resolver c.turn_and_note.new.resolver turns.goes_on c.turn_and_note.result turns.step turns.stop_met
+    accounted_turn c.loop.resolver c.turn_and_note.new.resolver turns.continues c.turn_and_note.result turns.step turns.stop_met
     turns.stopped turns.stop turns.stop_stays turns.no_stop turns.gate_full turns.arena_full (c.loop.invariant.accounted first)
 
 pub returns-in-Ok-Done-clause-measured : goal.returns-in-Ok-Done-clause-measured
@@ -78,12 +79,12 @@ returns-in-Ok-Done-clause-resolving g c = λ first. c.turn_and_note.ensures.turn
 
 pub returns-in-Ok-Done-clause-lanes : goal.returns-in-Ok-Done-clause-lanes
 returns-in-Ok-Done-clause-lanes g c =
-    lanes_go_on _ c.loop.resolver.lanes _ c.loop.invariant.lanes c.turn_and_note.ensures.turns.lanes
+    lanes_continue _ c.loop.resolver.lanes _ c.loop.invariant.lanes c.turn_and_note.ensures.turns.lanes
 
 pub returns-in-Err-clause-accounted : goal.returns-in-Err-clause-accounted
 returns-in-Err-clause-accounted g c = λ first.
     let turns = c.turn_and_note.ensures.turns in
-    accounted_turn c.loop.resolver c.turn_and_note.new.resolver turns.goes_on c.turn_and_note.result turns.step turns.stop_met
+    accounted_turn c.loop.resolver c.turn_and_note.new.resolver turns.continues c.turn_and_note.result turns.step turns.stop_met
     turns.stopped turns.stop turns.stop_stays turns.no_stop turns.gate_full turns.arena_full (c.loop.invariant.accounted first)
 
 pub returns-in-Err-clause-measured : goal.returns-in-Err-clause-measured
@@ -94,7 +95,7 @@ returns-in-Err-clause-resolving g c = λ first. c.turn_and_note.ensures.turns.re
 
 pub returns-in-Err-clause-lanes : goal.returns-in-Err-clause-lanes
 returns-in-Err-clause-lanes g c =
-    lanes_go_on _ c.loop.resolver.lanes _ c.loop.invariant.lanes c.turn_and_note.ensures.turns.lanes
+    lanes_continue _ c.loop.resolver.lanes _ c.loop.invariant.lanes c.turn_and_note.ensures.turns.lanes
 
 pub returns-in-Ok-Done-clause-boundaries : goal.returns-in-Ok-Done-clause-boundaries
 returns-in-Ok-Done-clause-boundaries g c = c.turn_and_note.ensures.boundaries

@@ -1,6 +1,6 @@
 use Rattle.std.proofs.Common.{◌≡◌, None, []}
-use Rattle.resolver.specs.Core.{GoesOn}
-use Rattle.resolver.specs.Lanes.{Each, LanesGoOn}
+use Rattle.resolver.specs.Core.{Continues}
+use Rattle.resolver.specs.Lanes.{Each, LanesContinue}
 use Rattle.resolver.specs.Resolver.{IsResolving, StandsOver}
 use Rattle.replay_workers.specs.Occupied.{IsMeasured}
 use Rattle.replay_workers.specs.Stops.{IsAccountedFor}
@@ -14,6 +14,6 @@ invariant-loop g l = record {
       StandsOver l.fn.resolver [] → l.fn.resolver.core.stop ≡ None → g.O.Observer.has_seen l.fn.observer []
       → IsMeasured (g.O.Observer.has_seen l.observer) l.occupancy l.resolver;
   setting : g.O.Observer.setting l.observer ≡ g.O.Observer.setting l.fn.observer;
-  goes_on : GoesOn l.fn.resolver.core l.resolver.core;
-  lanes : Each (λ _ l m. LanesGoOn l m) l.fn.resolver.lanes l.resolver.lanes;
+  continues : Continues l.fn.resolver.core l.resolver.core;
+  lanes : Each (λ _ l m. LanesContinue l m) l.fn.resolver.lanes l.resolver.lanes;
 }

@@ -48,12 +48,12 @@ pub returns : goal.returns
 returns g c =
     let before = c.loop-worker.invariant.joined in
     let none : into_iter_items c.loop-worker.worker-iterator ≡ [] = first_of (search rules, grind (arith, common_steps)) in
-    let whole = sym (append-nil before.0) ∙ ap (λ workers. before.0 ++ map given_to workers) (sym none) ∙ before.2 in
+    let entire = sym (append-nil before.0) ∙ ap (λ workers. before.0 ++ map given_to workers) (sym none) ∙ before.2 in
     record {
       worked = (
         before.1,
         subst (λ given. AllZip (HasWorkedOn g.B.Batches.gives g.B.Batches.is_at_end g.B.Batches.is_at_fault
-            g.B.Batches.stays) given before.1) whole before.3,
+            g.B.Batches.stays) given before.1) entire before.3,
         before.4,
         before.5,
       );

@@ -2,11 +2,11 @@ use Rattle.std.proofs.Common.{ap, sym, subst, ◌∙◌, Vec, Global}
 use Rattle.std.specs.Prelude.{Option}
 use Rattle.keyspace.specs.declared.answer.Answer.{Answer}
 use Rattle.keyspace.specs.declared.batch.Batch.{Batch}
-use Rattle.lane.specs.Lane.{PortView, IntakeView, PortGoesOn, IntakeGoesOn, HasEnded}
+use Rattle.lane.specs.Lane.{PortView, IntakeView, PortContinues, IntakeContinues, HasEnded}
 use Rattle.replay_output.specs.declared.line.Line.{Line}
 use Rattle.replay_workers.specs.Worker.{LeavesLane, fault_of, unsent_of}
 use Rattle.replay_workers.proofs.callers.Ending.{keeps_moved, batches_moved}
-use Rattle.replay_workers.proofs.Keeping.{inbox_goes_on}
+use Rattle.replay_workers.proofs.Keeping.{inbox_continues}
 use Rattle.replay_workers.proofs.worker.work_over.Goals as goal
 
 pub returns-clause-worked : goal.returns-clause-worked
@@ -21,7 +21,7 @@ returns-clause-worked g c =
     let end = c.send_batches-end.result in
     let given = c.args.client in
     let finished = c.finish.result in
-    let goes = inbox_goes_on first after last sent.inbox closed.inbox in
+    let goes = inbox_continues first after last sent.inbox closed.inbox in
     let moved =
     batches_moved g.B.Batches.gives g.B.Batches.is_at_end g.B.Batches.is_at_fault c.args.batches.now
     first.ends.requests.sent given.requests.sent after.ends.requests.sent finished.client.requests.sent (fault_of end)
@@ -32,11 +32,11 @@ returns-clause-worked g c =
     record {
       client = record {
         requests =
-            subst (λ (r : PortView Batch). PortGoesOn r finished.client.requests) made.requests
-            (subst (λ (r : PortView Batch). PortGoesOn first.ends.requests r) (sym done.requests) goes.ends.requests);
+            subst (λ (r : PortView Batch). PortContinues r finished.client.requests) made.requests
+            (subst (λ (r : PortView Batch). PortContinues first.ends.requests r) (sym done.requests) goes.ends.requests);
         replies =
-            subst (λ (r : IntakeView Answer). IntakeGoesOn r finished.client.replies) made.replies
-            (subst (λ (r : IntakeView Answer). IntakeGoesOn first.ends.replies r) (sym done.replies) goes.ends.replies);
+            subst (λ (r : IntakeView Answer). IntakeContinues r finished.client.replies) made.replies
+            (subst (λ (r : IntakeView Answer). IntakeContinues first.ends.replies r) (sym done.replies) goes.ends.replies);
       };
       sends = moved;
       kept = sent.sent.1;

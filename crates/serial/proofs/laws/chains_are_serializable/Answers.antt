@@ -1,4 +1,4 @@
-use Rattle.serial.proofs.Whole.{chain_serializable}
+use Rattle.serial.proofs.EntireChain.{chain_serializable}
 use Rattle.serial.proofs.laws.chains_are_serializable.Goals as goal
 
 pub returns : goal.returns

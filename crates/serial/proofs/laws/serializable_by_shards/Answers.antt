@@ -3,7 +3,7 @@ use Rattle.serial.proofs.Running.{current_serializable, current_effects}
 use Rattle.serial.proofs.ByShards.{shards_current, shards_rise}
 use Rattle.serial.proofs.Places.{places}
 use Rattle.serial.proofs.Following.{real_time}
-use Rattle.serial.proofs.Whole.{serializable}
+use Rattle.serial.proofs.EntireChain.{serializable}
 use Rattle.serial.proofs.laws.serializable_by_shards.Goals as goal
 
 pub returns-clause-current : goal.returns-clause-current

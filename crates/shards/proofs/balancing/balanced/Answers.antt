@@ -3,7 +3,7 @@ use Rattle.std.proofs.lemmas.List.Sorted.{All-permutation}
 use Rattle.keyspace.specs.declared.batch.Batch.{Batch}
 use Rattle.shards.specs.Balanced.{begins_of, IsBalanced}
 use Rattle.shards.specs.Picking.{keys_of}
-use Rattle.shards.proofs.Begins.{IsShort, begins_short, all_behind}
+use Rattle.shards.proofs.Begins.{IsShort, begins_short, all_after}
 use Rattle.shards.proofs.Picked.{balanced_permuted}
 use Rattle.shards.proofs.balancing.balanced.Goals as goal
 
@@ -12,7 +12,7 @@ pick_points-requires-clause-short c =
     let sample = map (λ (batch : Bor Batch). batch.now) c.args.sample.now in
     let begins = c.in_ok-begins.begins.items in
     subst (λ (keys : List (Bor (List ℕ))). All (λ key. IsShort key.now) keys) (sym c.deref.ensures.value)
-    (all_behind IsShort begins (All-permutation IsShort (begins_of sample) (keys_of begins) c.in_ok-begins.ensures.same (begins_short sample)))
+    (all_after IsShort begins (All-permutation IsShort (begins_of sample) (keys_of begins) c.in_ok-begins.ensures.same (begins_short sample)))
 
 pub returns-clause-balanced : goal.returns-clause-balanced
 returns-clause-balanced c =

@@ -11,8 +11,8 @@ use Rattle.shards.specs.declared.clipped.Clipped.{Clipped}
 use Rattle.shards.specs.declared.reach.Reach.{Reach}
 use Rattle.shards.specs.Built.{IsBuilt}
 use Rattle.shards.specs.Clips.{IsClipped}
-use Rattle.shards.specs.Reach.{shard_at, IsTold}
-use Rattle.shards.proofs.BuiltTables.{zip_split, ranges_next, told_of_shard}
+use Rattle.shards.specs.Reach.{shard_at, IsReported}
+use Rattle.shards.proofs.BuiltTables.{zip_split, ranges_next, reported_of_shard}
 use Rattle.shards.proofs.Leasts.{take_next}
 use Rattle.shards.proofs.ShardList.{length-shards, shard_get}
 use Rattle.shards.proofs.clipping.clip_by.Goals.{Start, After-len-in-loop-index, After-txn-1}
@@ -38,16 +38,16 @@ loop-index-init c =
     let at = goal.at.loop-index-init c in
     record {
       built = c.in_ok-tables.ensures.built;
-      rest = told_of_shard c.args.points.now c.args.shard (inside at.Start) (ranges_in c.args.batch.now.txns) c.args.reaches.now
+      rest = reported_of_shard c.args.points.now c.args.shard (inside at.Start) (ranges_in c.args.batch.now.txns) c.args.reaches.now
           c.requires.reaches;
     }
 
 -- what is left begins with the ranges of the next transaction
 left : (c : After-len-in-loop-index)
-    → AllZip (IsTold (shard_at c.args.points.now c.args.shard) c.args.shard)
+    → AllZip (IsReported (shard_at c.args.points.now c.args.shard) c.args.shard)
     ((c.txn-txn.result.reads ++ c.txn-txn.result.writes) ++ ranges_in (drop (c.loop-index.index + 1) c.args.batch.now.txns)) c.loop-index.rest.now
 left c =
-    subst (λ (ranges : List Range). AllZip (IsTold (shard_at c.args.points.now c.args.shard) c.args.shard) ranges c.loop-index.rest.now)
+    subst (λ (ranges : List Range). AllZip (IsReported (shard_at c.args.points.now c.args.shard) c.args.shard) ranges c.loop-index.rest.now)
     (ranges_next c.args.batch.now.txns c.loop-index.index c.txn-txn.result c.txn-txn.ensures.txn) c.loop-index.invariant.rest
 
 -- so many ranges it has
@@ -62,7 +62,7 @@ pub split_at-requires : goal.split_at-requires
 split_at-requires c =
     let t = c.txn-txn.result in
     let later = ranges_in (drop (c.loop-index.index + 1) c.args.batch.now.txns) in
-    let long = AllZip-long (IsTold (shard_at c.args.points.now c.args.shard) c.args.shard) ((t.reads ++ t.writes) ++ later)
+    let long = AllZip-long (IsReported (shard_at c.args.points.now c.args.shard) c.args.shard) ((t.reads ++ t.writes) ++ later)
     c.loop-index.rest.now (left c) in
     omega (arith, long, count c, length-append (t.reads ++ t.writes) later)
 
@@ -71,11 +71,11 @@ few c =
     omega (arith, length-take c.loop-index.index c.args.batch.now.txns, c.loop-index-test.true, c.len-index-end.ensures.count, c.args.batch.now.few)
 
 own : (c : After-txn-1)
-    → AllZip (IsTold (shard_at c.args.points.now c.args.shard) c.args.shard) (c.txn-txn.result.reads ++ c.txn-txn.result.writes) c.split_at.result.0.now
+    → AllZip (IsReported (shard_at c.args.points.now c.args.shard) c.args.shard) (c.txn-txn.result.reads ++ c.txn-txn.result.writes) c.split_at.result.0.now
 own c =
     let at = goal.at.put-requires c in
     let t = c.txn-txn.result in
-    let R = IsTold (shard_at c.args.points.now c.args.shard) c.args.shard in
+    let R = IsReported (shard_at c.args.points.now c.args.shard) c.args.shard in
     let later = ranges_in (drop (c.loop-index.index + 1) c.args.batch.now.txns) in
     let both = zip_split R (t.reads ++ t.writes) later c.loop-index.rest.now (left at.After-len-in-loop-index) in
     subst (λ (reaches : List Reach). AllZip R (t.reads ++ t.writes) reaches)
@@ -103,7 +103,7 @@ loop-index-preserved c =
     let i = c.loop-index.index in
     let m = c.args.shard in
     let shard = shard_at c.args.points.now m in
-    let R = IsTold shard m in
+    let R = IsReported shard m in
     let later = ranges_in (drop (i + 1) txns) in
     let both = zip_split R (t.reads ++ t.writes) later c.loop-index.rest.now (left at.After-len-in-loop-index) in
     record {

@@ -1,8 +1,8 @@
 use Rattle.std.proofs.Common.{◌≡◌, ◌∙◌, ℕ, List, [], length, map, sym, ap, subst, All}
 use Rattle.keyspace.specs.declared.txn.Txn.{Txn}
 use Rattle.keyspace.specs.Fields.{txn_fields}
-use Rattle.keyspace.specs.Tables.{txns_told, LiesWithin}
-use Rattle.keyspace.proofs.callers.Putting.{told_kept, within_kept}
+use Rattle.keyspace.specs.Tables.{txns_of_tables, LiesWithin}
+use Rattle.keyspace.proofs.callers.Putting.{reported_kept, within_kept}
 use Rattle.serial.specs.Shards.{Shard}
 use Rattle.shards.specs.Built.{AreLeft, IsBuilt}
 use Rattle.shards.specs.Cut.{shard_of_ends}
@@ -11,14 +11,14 @@ use Rattle.shards.proofs.in_place.clip_tables.Goals as goal
 
 -- the transactions lie in the buffer with the ends of the shard
 left : (c : In_ok-tables) (txns : List Txn)
-    → txns_told c.args.own.buffer.items c.args.own.spans.items c.args.own.rows.items ≡ map txn_fields txns
+    → txns_of_tables c.args.own.buffer.items c.args.own.spans.items c.args.own.rows.items ≡ map txn_fields txns
     → AreLeft c.in_ok-tables.tables.buffer.items c.args.own.spans.items 0 c.args.own.rows.items txns
-left c txns told =
+left c txns reported =
     let own = c.args.own in
     let more = c.in_ok-tables.ensures.buffer in
     record {
-      told = ap (λ (buffer : List ℕ). txns_told buffer own.spans.items own.rows.items) more.1
-          ∙ told_kept own.buffer.items more.0 own.spans.items own.rows.items c.requires.tables ∙ told;
+      reported = ap (λ (buffer : List ℕ). txns_of_tables buffer own.spans.items own.rows.items) more.1
+          ∙ reported_kept own.buffer.items more.0 own.spans.items own.rows.items c.requires.tables ∙ reported;
       fit = c.requires.tables.rows_fit;
     }
 
@@ -44,9 +44,9 @@ keep_all-requires-clause-built c =
 
 pub returns : goal.returns
 returns c = record {
-  built = λ txns told few.
+  built = λ txns reported few.
       let at = goal.at.returns c in
       subst (λ (shard : Shard). IsBuilt shard c.args.shard txns c.keep_all.new.self) c.of-ends.ensures.shard
       (c.in_ok-keep_all.ensures.built c.args.shard txns (none_built at.In_ok-tables) few
-      (rw (c.deref.ensures.value, c.deref-2.ensures.value) (left at.In_ok-tables txns told)));
+      (rw (c.deref.ensures.value, c.deref-2.ensures.value) (left at.In_ok-tables txns reported)));
 }

@@ -6,7 +6,7 @@ use Rattle.serial.specs.Shards.{Shard, shards}
 use Rattle.shards.specs.Numbered.{AreNumbered}
 use Rattle.shards.specs.Reach.{shard_at, IsReach}
 use Rattle.shards.specs.declared.reach.Reach.{Reach}
-use Rattle.shards.proofs.BuiltTables.{told_of_shard}
+use Rattle.shards.proofs.BuiltTables.{reported_of_shard}
 use Rattle.shards.proofs.ShardList.{length-shards, shard_get}
 use Rattle.shards.proofs.numbering.number_all.Goals as goal
 
@@ -18,7 +18,7 @@ number_by-requires c =
     let reaches = subst (λ (found : List Reach). AllZip (IsReach points) ranges found) (sym c.deref.ensures.value) c.in_ok-reaches.ensures.reaches in
     let inside : m ≤ length points =
     omega (arith, c.loop-shard-test.true, c.shard_count-shard-end.ensures.count, length-shards [] points) in
-    record { told = (shard_at points m, told_of_shard points m inside ranges c.deref.result.now reaches) }
+    record { reported = (shard_at points m, reported_of_shard points m inside ranges c.deref.result.now reaches) }
 
 pub loop-shard-preserved : goal.loop-shard-preserved
 loop-shard-preserved c =
@@ -29,7 +29,7 @@ loop-shard-preserved c =
     let inside : m ≤ length points =
     omega (arith, c.loop-shard-test.true, c.shard_count-shard-end.ensures.count, length-shards [] points) in
     let R = λ (shard : Shard) (reads : List (List ℕ)). AreNumbered shard c.args.batch.now reads in
-    let told = told_of_shard points m inside ranges c.deref.result.now reaches in
+    let reported = reported_of_shard points m inside ranges c.deref.result.now reaches in
     subst (λ (all : List (List (List ℕ))). AllZip R (take (m + 1) (shards points)) all) (sym c.in_ok-push.ensures.items)
     (AllZip-more R (shards points) m c.loop-shard.all.items (shard_at points m) c.in_ok-number_by.field-0 (shard_get points m inside)
-    c.loop-shard.invariant (c.in_ok-number_by.ensures.numbered (shard_at points m) told))
+    c.loop-shard.invariant (c.in_ok-number_by.ensures.numbered (shard_at points m) reported))

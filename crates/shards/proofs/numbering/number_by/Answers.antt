@@ -10,7 +10,7 @@ use Rattle.keyspace.specs.BatchRanges.{ranges_in}
 use Rattle.serial.specs.Shards.{Shard}
 use Rattle.shards.specs.Clips.{goes_to, read_indices}
 use Rattle.shards.specs.ReadIndices.{parts_from, AreIndices}
-use Rattle.shards.specs.Reach.{IsTold}
+use Rattle.shards.specs.Reach.{IsReported}
 use Rattle.shards.proofs.BuiltTables.{ranges_next}
 use Rattle.shards.proofs.Fronts.{zip_front, zip_back}
 use Rattle.shards.proofs.IndexLists.{indices_appended, part_appended, places_below}
@@ -19,20 +19,20 @@ use Rattle.shards.proofs.numbering.number_by.Goals.{After-len-in-loop-index}
 use Rattle.shards.proofs.numbering.number_by.Goals as goal
 
 pub loop-index-init : goal.loop-index-init
-loop-index-init c = λ owner told. (
+loop-index-init c = λ owner reported. (
   subst₂ AreIndices (sym c.new-indices.ensures.items) (sym c.new-ends.ensures.items)
       (record { ends_fit = refl; below = All-nil (λ index. index < 1024) }),
   ap₂ (parts_from 0) c.new-indices.ensures.items c.new-ends.ensures.items,
-  told,
+  reported,
 )
 
 -- what is left begins with the ranges of the next transaction
-left : (c : After-len-in-loop-index) (owner : Shard) → AllZip (IsTold owner c.args.shard) (ranges_in c.args.batch.now.txns) c.args.reaches.now
-    → AllZip (IsTold owner c.args.shard)
+left : (c : After-len-in-loop-index) (owner : Shard) → AllZip (IsReported owner c.args.shard) (ranges_in c.args.batch.now.txns) c.args.reaches.now
+    → AllZip (IsReported owner c.args.shard)
     ((c.txn-txn.result.reads ++ c.txn-txn.result.writes) ++ ranges_in (drop (c.loop-index.index + 1) c.args.batch.now.txns)) c.loop-index.rest.now
-left c owner told =
-    subst (λ (ranges : List Range). AllZip (IsTold owner c.args.shard) ranges c.loop-index.rest.now)
-    (ranges_next c.args.batch.now.txns c.loop-index.index c.txn-txn.result c.txn-txn.ensures.txn) (c.loop-index.invariant owner told).2
+left c owner reported =
+    subst (λ (ranges : List Range). AllZip (IsReported owner c.args.shard) ranges c.loop-index.rest.now)
+    (ranges_next c.args.batch.now.txns c.loop-index.index c.txn-txn.result c.txn-txn.ensures.txn) (c.loop-index.invariant owner reported).2
 
 -- so many ranges it has
 count : (c : After-len-in-loop-index) → c.len.result + c.len-in-loop-index.result ≡ length (c.txn-txn.result.reads ++ c.txn-txn.result.writes)
@@ -46,8 +46,8 @@ pub split_at-requires : goal.split_at-requires
 split_at-requires c =
     let t = c.txn-txn.result in
     let later = ranges_in (drop (c.loop-index.index + 1) c.args.batch.now.txns) in
-    let long = AllZip-long (IsTold c.requires.told.0 c.args.shard) ((t.reads ++ t.writes) ++ later)
-    c.loop-index.rest.now (left c c.requires.told.0 c.requires.told.1) in
+    let long = AllZip-long (IsReported c.requires.reported.0 c.args.shard) ((t.reads ++ t.writes) ++ later)
+    c.loop-index.rest.now (left c c.requires.reported.0 c.requires.reported.1) in
     omega (arith, long, count c, length-append (t.reads ++ t.writes) later)
 
 pub put_numbers-requires : goal.put_numbers-requires
@@ -55,29 +55,29 @@ put_numbers-requires c =
     let at = goal.at.put_numbers-requires c in
     let t = c.txn-txn.result in
     let later = ranges_in (drop (c.loop-index.index + 1) c.args.batch.now.txns) in
-    let owner = c.requires.told.0 in
+    let owner = c.requires.reported.0 in
     record {
-      told = (
+      reported = (
         owner,
-        zip_front (IsTold owner c.args.shard) (t.reads ++ t.writes) later c.loop-index.rest.now c.split_at.result.0.now
+        zip_front (IsReported owner c.args.shard) (t.reads ++ t.writes) later c.loop-index.rest.now c.split_at.result.0.now
             (c.len.result + c.len-in-loop-index.result) (count at.After-len-in-loop-index) c.split_at.ensures.front
-            (left at.After-len-in-loop-index owner c.requires.told.1),
+            (left at.After-len-in-loop-index owner c.requires.reported.1),
       );
     }
 
 pub loop-index-preserved : goal.loop-index-preserved
-loop-index-preserved c = λ owner told.
+loop-index-preserved c = λ owner reported.
     let at = goal.at.loop-index-preserved c in
     let t = c.txn-txn.result in
     let txns = c.args.batch.now.txns in
     let i = c.loop-index.index in
-    let R = IsTold owner c.args.shard in
+    let R = IsReported owner c.args.shard in
     let later = ranges_in (drop (i + 1) txns) in
     let rest = c.loop-index.rest.now in
     let n = c.len.result + c.len-in-loop-index.result in
     let own = zip_front R (t.reads ++ t.writes) later rest c.split_at.result.0.now n (count at.After-len-in-loop-index)
-    c.split_at.ensures.front (left at.After-len-in-loop-index owner told) in
-    let before = c.loop-index.invariant owner told in
+    c.split_at.ensures.front (left at.After-len-in-loop-index owner reported) in
+    let before = c.loop-index.invariant owner reported in
     let more = read_indices owner t in
     let old = c.loop-index.indices.items in
     let old_ends = c.loop-index.ends.items in
@@ -89,17 +89,17 @@ loop-index-preserved c = λ owner told.
           ∙ sym (map-append (read_indices owner) (take i txns) (t ∷ []))
           ∙ ap (map (read_indices owner)) (sym (take_next txns i t c.txn-txn.ensures.txn)),
       zip_back R (t.reads ++ t.writes) later rest c.split_at.result.1.now n (count at.After-len-in-loop-index)
-          c.split_at.ensures.back (left at.After-len-in-loop-index owner told),
+          c.split_at.ensures.back (left at.After-len-in-loop-index owner reported),
     )
 
 pub new-requires : goal.new-requires
-new-requires c = record { fit = (c.loop-index.invariant c.requires.told.0 c.requires.told.1).0 }
+new-requires c = record { fit = (c.loop-index.invariant c.requires.reported.0 c.requires.reported.1).0 }
 
 pub returns : goal.returns
 returns c = record {
-  numbered = λ owner told.
+  numbered = λ owner reported.
       let txns = c.args.batch.now.txns in
       let all : take c.loop-index.index txns ≡ txns =
       take_all c.loop-index.index txns (omega (arith, c.loop-index-test.false, c.len-index-end.ensures.count)) in
-      c.new.ensures.indices ∙ (c.loop-index.invariant owner told).1 ∙ ap (map (read_indices owner)) all;
+      c.new.ensures.indices ∙ (c.loop-index.invariant owner reported).1 ∙ ap (map (read_indices owner)) all;
 }

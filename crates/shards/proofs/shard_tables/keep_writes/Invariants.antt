@@ -2,7 +2,7 @@ use Rattle.std.proofs.Common.{◌≡◌, ℕ, List, map, take}
 use Rattle.keys.specs.declared.range.Range.{Range}
 use Rattle.keyspace.specs.Fields.{range_fields}
 use Rattle.keyspace.specs.Putting.{ArePut}
-use Rattle.keyspace.specs.Tables.{range_told}
+use Rattle.keyspace.specs.Tables.{range_of_span}
 use Rattle.shards.specs.Built.{HasBounds, clips_of}
 use Rattle.shards.specs.Cut.{shard_of_ends}
 use Rattle.shards.proofs.shard_tables.keep_writes.Given as goal
@@ -10,5 +10,5 @@ use Rattle.shards.proofs.shard_tables.keep_writes.Given as goal
 abbrev pub invariant-loop-span : goal.invariant-loop-span
 invariant-loop-span l =
     (m : ℕ) (ranges : List Range) → HasBounds (shard_of_ends l.shard) m l.buffer l.bounds
-    → map (range_told l.buffer) l.spans ≡ map range_fields ranges
+    → map (range_of_span l.buffer) l.spans ≡ map range_fields ranges
     → ArePut l.buffer l.initial.kept.items (clips_of (shard_of_ends l.shard) (take l.span-index ranges)) l.buffer l.kept.items

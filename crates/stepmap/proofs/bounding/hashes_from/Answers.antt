@@ -24,10 +24,10 @@ loop-index-preserved g c =
     let IsHash = λ (q : Range × ℤ) (hash : ℕ). IsSingle q.0 → hash ≡ hash_of q.0.begin in
     let place : from + n ≡ index = omega (arith, c.loop-index.invariant.from) in
     let is : slice_get queries (from + n) ≡ Some q = ap (slice_get queries) place ∙ at.1 in
-    let told = subst (λ o. IsSomeAnd o (λ q. IsHashOf q.0 c.hash.result)) at.1 c.hash.ensures.hash in
+    let answered = subst (λ o. IsSomeAnd o (λ q. IsHashOf q.0 c.hash.result)) at.1 c.hash.ensures.hash in
     let more : (index + 1) - from ≡ n + 1 = omega (arith, c.loop-index.invariant.from) in
     let next = ap (λ k. take k (drop from queries)) more ∙ part_more queries from n q is in
-    let hash : IsHash q c.unwrap_or.result = λ single. c.unwrap_or.ensures ∙ found q c.hash.result told single in
+    let hash : IsHash q c.unwrap_or.result = λ single. c.unwrap_or.ensures ∙ found q c.hash.result answered single in
     record {
       hashes = subst (λ hashes. AllZip IsHash (take ((index + 1) - from) (drop from queries)) hashes) (sym c.push.ensures.items)
           (subst (λ part. AllZip IsHash part (c.loop-index.hashes.items ++ c.unwrap_or.result ∷ [])) (sym next)

@@ -16,8 +16,8 @@ single_of range None is some = absurd (let t : false ≡ true = some in cc)
 single_of range (Some hash) is some = is.0
 
 -- A key and the one right after it begin alike to the end of the former.
-single_alike : (range : Range) → IsSingle range → take (length range.begin) range.begin ≡ take (length range.begin) range.end
-single_alike range single =
+single_equal : (range : Range) → IsSingle range → take (length range.begin) range.begin ≡ take (length range.begin) range.end
+single_equal range single =
     take-length range.begin ∙ sym (ap (take (length range.begin)) single ∙ take-append_seam range.begin (0 ∷ []))
 
 pub invariant_of-result : goal.invariant_of-result
@@ -37,7 +37,7 @@ invariant_of-result c =
       bytes = λ key. refl;
       common_prefix = elim c.if-is_single.branch [
         | then-is_single w ↦
-            rw (w.targets_prefix_len-is, is_begin, is_end) (single_alike range (single w.if-is_single.true))
+            rw (w.targets_prefix_len-is, is_begin, is_end) (single_equal range (single w.if-is_single.true))
         | else-is_single w ↦ rw w.targets_prefix_len-is w.common_prefix_len-targets_prefix_len.ensures.same
       ];
     }

@@ -4,14 +4,14 @@ use Rattle.std.specs.List.{All, Contains, IsDistinct}
 use Rattle.std.proofs.lemmas.List.Elements.{All-nil, All-cons, All-head, All-tail}
 use Rattle.std.proofs.lemmas.Simd.{map-map}
 use Rattle.arena.specs.Arena.{Arena, IsLive}
-use Rattle.tree.specs.declared.entry.Entry.{Entry}
+use Rattle.tree.specs.declared.entry.NodeEntry.{NodeEntry}
 use Rattle.tree.specs.Item.{Item, item_of}
 use Rattle.stepmap.proofs.release.release_run.Given as given
 use Rattle.stepmap.proofs.release.release_run.Goals as goal
 use Rattle.stepmap.proofs.release.release_run.Goals.{After-as_slice}
 
 -- entries whose items are live are live
-entries_live : {H : Type 0} (keys : Arena H) (es : List Entry) → All (λ x. IsLive keys x.key) (map item_of es)
+entries_live : {H : Type 0} (keys : Arena H) (es : List NodeEntry) → All (λ x. IsLive keys x.key) (map item_of es)
     → All (λ e. IsLive keys e.key) es
 entries_live keys [] a = All-nil (λ e. IsLive keys e.key)
 entries_live keys (e ∷ es) a =
@@ -20,8 +20,8 @@ entries_live keys (e ∷ es) a =
     (entries_live keys es (All-tail Live (item_of e) (map item_of es) a))
 
 -- they have the slots of their items
-slots_are : (items : List Item) (es : List Entry) → items ≡ map item_of es
-    → map (λ (x : Item). x.key) items ≡ map (λ (e : Entry). e.key) es
+slots_are : (items : List Item) (es : List NodeEntry) → items ≡ map item_of es
+    → map (λ (x : Item). x.key) items ≡ map (λ (e : NodeEntry). e.key) es
 slots_are items es is = ap (map (λ (x : Item). x.key)) is ∙ map-map (λ (x : Item). x.key) item_of es
 
 -- the items that are taken out are those of the entries that are released

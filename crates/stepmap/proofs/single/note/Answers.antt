@@ -8,8 +8,8 @@ use Rattle.stepmap.proofs.single.note.Goals as goal
 pub returns-in-Some-clause-on_range : goal.returns-in-Some-clause-on_range
 returns-in-Some-clause-on_range c = λ key holds.
     let range = c.args.range.now in
-    let told = c.in-Some.ensures.hash in
+    let answered = c.in-Some.ensures.hash in
     let f = c.write_key.new.self in
-    let low = c.write_key.ensures.written range.begin told.1 in
+    let low = c.write_key.ensures.written range.begin answered.1 in
     let high : c.args.version ≤ℤ bound f range.begin = omega (arith, ints, low) in
-    subst (λ (key : List ℕ). c.args.version ≤ℤ bound f key) (sym (single_holds range key told.0 holds)) high
+    subst (λ (key : List ℕ). c.args.version ≤ℤ bound f key) (sym (single_holds range key answered.0 holds)) high

@@ -1,14 +1,14 @@
 use Rattle.std.proofs.Common.{rules, ◌≡◌, ◌≤◌, ℕ, ◌+◌, ◌-◌, Bool, false, List, length, filter, get_or, Option, Some, refl, arith}
 use Rattle.std.proofs.lemmas.Option.{slice_get_read}
-use Rattle.tree.proofs.Words.{Entry, CanStep, IsTold, entries_of, items_in, least_of}
+use Rattle.tree.proofs.Words.{NodeEntry, CanStep, IsAnswer, entries_of, items_in, least_of}
 use Rattle.tree.proofs.Approaches.{approach_wider}
 use Rattle.tree.proofs.Above.{at_most_tested}
 use Rattle.tree.proofs.FirstKeys.{knows_child}
 use Rattle.tree.proofs.Frames.{IsRight}
-use Rattle.tree.proofs.Looks.{IsLook, can_step_at, look_tell, child_is, child_partitioned, child_reached}
+use Rattle.tree.proofs.Looks.{IsLook, can_step_at, look_answers, child_is, child_partitioned, child_reached}
 use Rattle.tree.proofs.Placing.{entries_from_header}
-use Rattle.tree.proofs.Told.{clears_behind, told_by_child, told_by_entry}
-use Rattle.tree.proofs.ToldKeys.{known_some_below, last_passes, some_pass}
+use Rattle.tree.proofs.QuestionAnswers.{clears_after, answered_by_child, answered_by_entry}
+use Rattle.tree.proofs.AnsweredKeys.{known_some_below, last_passes, some_pass}
 use Rattle.tree.proofs.approach.+descend.Given.{Over}
 use Rattle.tree.proofs.approach.+descend.Goals as goal
 use Rattle.tree.proofs.approach.+descend.Goals.{After-entries-entries, After-is_clear-clear}
@@ -36,7 +36,7 @@ module _ (g : Over) (t : ℕ) (c : After-is_clear-clear g t) where
   abbrev q : ℕ → Bool
   q = g.Q.Bound.below c.args.question.now.to
 
-  abbrev es : List Entry
+  abbrev es : List NodeEntry
   es = entries_of c.header_ref-node.result.now
 
   -- the two bounds of the node
@@ -51,14 +51,14 @@ module _ (g : Over) (t : ℕ) (c : After-is_clear-clear g t) where
   child = child_is _ _ _ _ _ _ _ _ _ look c.if-height-eq0.false _ _ c.step_by-step.ensures.step.within is
 
   -- What is told of its items is told of those of the node.
-  told : (result : Option Bool)
-      → IsTold p q c.args.question.now.version c.is_clear-clear.result
+  answered : (result : Option Bool)
+      → IsAnswer p q c.args.question.now.version c.is_clear-clear.result
       (items_in c.args.nodes.now (c.args.height - 1) c.index-entries-step.result.child) result
-      → IsTold p q c.args.question.now.version c.args.clear (items_in c.args.nodes.now c.args.height c.args.slot) result
-  told result =
-      told_by_child _ _ _ _ _ _ _ _ _ look _ c.args.clear c.if-height-eq0.false _ _ c.step_by-step.ensures.step.within is _ result
-      (clears_behind q _ es (c.step_by-step.result.index + 1) c.args.clear c.is_clear-clear.result
-      (look_tell _ _ _ _ _ _ _ _ _ look c.if-height-eq0.false) c.is_clear-clear.ensures.next c.is_clear-clear.ensures.last)
+      → IsAnswer p q c.args.question.now.version c.args.clear (items_in c.args.nodes.now c.args.height c.args.slot) result
+  answered result =
+      answered_by_child _ _ _ _ _ _ _ _ _ look _ c.args.clear c.if-height-eq0.false _ _ c.step_by-step.ensures.step.within is _ result
+      (clears_after q _ es (c.step_by-step.result.index + 1) c.args.clear c.is_clear-clear.result
+      (look_answers _ _ _ _ _ _ _ _ _ look c.if-height-eq0.false) c.is_clear-clear.ensures.next c.is_clear-clear.ensures.last)
 
 pub descend-requires : goal.descend-requires
 descend-requires g t c κs within_lives =
@@ -74,7 +74,7 @@ descend-requires g t c κs within_lives =
     let bytes = g.P.Bound.bytes c.args.question.now.from in
     let below = g.P.Bound.below c.args.question.now.from in
     let target = g.P.Bound.target c.args.question.now.from in
-    let some_below = known_some_below bytes below target _ _ node.tells c.in-Some.is (step.knows _ there) in
+    let some_below = known_some_below bytes below target _ _ node.describes c.in-Some.is (step.knows _ there) in
     let knows = knows_child _ _ _ _ _ bytes below target c.step_by-step.result.common_prefix_len node refl (step.knows _ there) in
     (search rules, (search rules, (search rules, (search rules, (search rules, (search rules, rw c.in-Some.is at knows))))))
 
@@ -85,7 +85,7 @@ returns-then-height-eq0 g t c =
 
 pub returns : goal.returns
 returns g t c =
-    let wider = told g t (goal.at.returns g t c).After-is_clear-clear in
+    let wider = answered g t (goal.at.returns g t c).After-is_clear-clear in
     record { approach = approach_wider _ _ _ _ _ _ _ _ _ _ _ _ c.descend.result wider c.descend.ensures.approach }
 
 pub returns-then-clear : goal.returns-then-clear
@@ -96,5 +96,5 @@ returns-then-clear g t c =
     let le = at_most_tested c.index-entries-step.result.version v (search rules) (search rules) c.if-entry-question.true in
     let some = some_pass (p g t at) (es g t at) a.can_find.some (λ e there. (a.known e there).0) in
     let passed = last_passes (p g t at) _ _ _ a.can_find.partitioned some c.step_by-step.ensures.step.index_is (is g t at) in
-    let part = told_by_entry _ _ v c.args.question.now.nested _ _ _ (child g t at).tells passed c.if-clear.true le in
-    record { approach = told g t at (Some false) part }
+    let part = answered_by_entry _ _ v c.args.question.now.nested _ _ _ (child g t at).describes passed c.if-clear.true le in
+    record { approach = answered g t at (Some false) part }

@@ -1,5 +1,5 @@
 use Rattle.std.proofs.Common.{rules}
-use Rattle.tree.proofs.ToldKeys.{known_where_some}
+use Rattle.tree.proofs.AnsweredKeys.{known_where_some}
 use Rattle.tree.proofs.approach.descend_from.Goals as goal
 
 pub descend-requires : goal.descend-requires

@@ -1,7 +1,7 @@
 use Rattle.std.proofs.Common.{◌+◌, arith}
 use Rattle.std.proofs.lemmas.Option.{slice_get_within}
 use Rattle.tree.specs.Node.{entries_of}
-use Rattle.tree.proofs.ToldKeys.{next_fails}
+use Rattle.tree.proofs.AnsweredKeys.{next_fails}
 use Rattle.tree.proofs.approach.is_clear.Goals as goal
 
 pub returns-then-question-clause-next : goal.returns-then-question-clause-next

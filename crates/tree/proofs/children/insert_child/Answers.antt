@@ -1,5 +1,5 @@
 use Rattle.std.proofs.Common.{◌≡◌, ◌+◌, ◌∷◌, ◌++◌, List, take, drop, refl, sym, ap, get_or, ◌∙◌}
-use Rattle.tree.proofs.Words.{with_header, Entry, entries_at, child_at}
+use Rattle.tree.proofs.Words.{with_header, NodeEntry, entries_at, child_at}
 use Rattle.tree.proofs.ChangedLeaf.{put_stored}
 use Rattle.tree.proofs.Placing.{entries_from_header, put_entries}
 use Rattle.tree.proofs.Sharing.{child_is}
@@ -11,7 +11,7 @@ returns g c =
     let listed = c.entries.ensures.entries
     ∙ sym (entries_from_header a slot c.header_ref-node.result.now c.header_ref-node.ensures.header) in
     let x_is : (get_or c.entries.result.now i d).child ≡ child_at (entries_at a slot) i =
-    ap (λ (l : List Entry). (get_or l i d).child) listed ∙ sym (child_is _ i d can.within) in
+    ap (λ (l : List NodeEntry). (get_or l i d).child) listed ∙ sym (child_is _ i d can.within) in
     record {
       linked = record {
         first = t;
@@ -20,9 +20,9 @@ returns g c =
             ∙ ap (λ l. take i l ++ (t ∷ u ∷ drop (i + 1) l))
             (sym (entries_from_header a slot c.header_mut.result.now c.header_mut.ensures.header));
         first_child = c.entry_for.ensures.child ∙ x_is;
-        first_tells = rw x_is at c.entry_for.ensures.tells;
+        first_describes = rw x_is at c.entry_for.ensures.describes;
         second_child = c.entry_for-2.ensures.child;
-        second_tells = c.entry_for-2.ensures.tells;
+        second_describes = c.entry_for-2.ensures.describes;
       };
       stored = put_stored a slot now can.live can.keyless can.headed c.splice_with_heads.ensures.headed;
     }

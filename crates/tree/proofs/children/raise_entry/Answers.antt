@@ -4,7 +4,7 @@ use Rattle.std.proofs.lemmas.List.{length-set}
 use Rattle.std.proofs.lemmas.Int.{ints, to_z-of_z}
 use Rattle.std.proofs.lemmas.Option.{slice_get-get_or}
 use Rattle.arena.specs.Arena.{with_header}
-use Rattle.tree.specs.declared.entry.Entry.{Entry}
+use Rattle.tree.specs.declared.entry.NodeEntry.{NodeEntry}
 use Rattle.tree.specs.Node.{entries_of}
 use Rattle.tree.specs.Subtree.{entries_at}
 use Rattle.tree.specs.Tree.{least_of}
@@ -28,7 +28,7 @@ read_is g c =
 -- Where a greater version is there, the entry is made right from the child.
 pub returns-then-entry-leaf : goal.returns-then-entry-leaf
 returns-then-entry-leaf g c = record {
-  rebalanced = λ height family tells. c.rebalance_child.ensures.rebalanced height family;
+  rebalanced = λ height family describes. c.rebalance_child.ensures.rebalanced height family;
   rest = c.rebalance_child.ensures.rest;
   outcome = inl refl;
 }
@@ -57,10 +57,10 @@ returns g c =
     c.set.ensures.key_heads c.set.ensures.entries (ap (λ e. e.key) (rw here at d_is))
     (headed_at _ a slot old can.headed c.header_mut.ensures.header) in
     record {
-      rebalanced = λ height family tells. entry_put d (record d { version = c.args.leaf.version }) node can family
-          (ap (λ e. e.child) d_is) refl (λ subtree. tells d there below) filled set_is;
+      rebalanced = λ height family describes. entry_put d (record d { version = c.args.leaf.version }) node can family
+          (ap (λ e. e.child) d_is) refl (λ subtree. describes d there below) filled set_is;
       rest = record {
-        few_less = omega (arith, ap length now_is, length-set {A = Entry});
+        few_less = omega (arith, ap length now_is, length-set {A = NodeEntry});
         spare = search rules;
         headed = headed_header _ a (with_header a slot node) slot node refl can.headed headed;
       };

@@ -1,7 +1,7 @@
 use Rattle.std.proofs.Common.{◌≡◌, ◌≤◌, ◌-◌, length, get_or, refl, sym, ap, ◌∙◌, arith, rules}
 use Rattle.std.proofs.lemmas.List.{length-set}
 use Rattle.arena.specs.Arena.{with_header}
-use Rattle.tree.specs.declared.entry.Entry.{Entry}
+use Rattle.tree.specs.declared.entry.NodeEntry.{NodeEntry}
 use Rattle.tree.specs.Subtree.{entries_at}
 use Rattle.tree.specs.Tree.{least_of}
 use Rattle.tree.proofs.KnownKeys.{headed_header}
@@ -44,9 +44,9 @@ returns-then-len-least g c =
     let entry = c.entry_for-entry in
     record {
       rebalanced = λ height family. entry_put c.index-entries-index.result entry.result node can family x_is
-          entry.ensures.child (entry.ensures.tells height L) filled (rw (← here) at set.entries);
+          entry.ensures.child (entry.ensures.describes height L) filled (rw (← here) at set.entries);
       rest = record {
-        few_less = omega (arith, ap length now_is, ap length here, length-set {A = Entry});
+        few_less = omega (arith, ap length now_is, ap length here, length-set {A = NodeEntry});
         spare = search rules;
         headed = headed_header _ a (with_header a slot node) slot node refl can.headed set.headed;
       };

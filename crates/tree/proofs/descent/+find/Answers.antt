@@ -3,7 +3,7 @@ use Rattle.tree.proofs.Words.{index_in, least_of}
 use Rattle.tree.proofs.Found.{IsFound, found, found_subtree, found_partitioned, found_leaf}
 use Rattle.tree.proofs.FirstKeys.{known_below, some_below}
 use Rattle.tree.proofs.Looks.{can_step_at}
-use Rattle.tree.proofs.Keys.{key_behind_child}
+use Rattle.tree.proofs.Keys.{key_after_child}
 use Rattle.tree.proofs.descent.+find.Given.{Over}
 use Rattle.tree.proofs.descent.+find.Goals as goal
 use Rattle.tree.proofs.descent.+find.Goals.{After-index-entries-step}
@@ -33,10 +33,10 @@ pub returns-clause-leaf : goal.returns-clause-leaf
 returns-clause-leaf g t c =
     found_leaf _ _ _ _ _ _ (child_found g t (goal.at.returns-clause-leaf g t c).After-index-entries-step) _ c.find.ensures.leaf
 
-pub returns-clause-behind : goal.returns-clause-behind
-returns-clause-behind g t c =
-    c.find.ensures.behind
-    ∙ key_behind_child _ _ _ _ _ _ (child_found g t (goal.at.returns-clause-behind g t c).After-index-entries-step) _
-    c.entries-entries.result.now c.step-step.result.index c.args.behind c.key_at-next.result c.header_ref-node.ensures.header
+pub returns-clause-following : goal.returns-clause-following
+returns-clause-following g t c =
+    c.find.ensures.following
+    ∙ key_after_child _ _ _ _ _ _ (child_found g t (goal.at.returns-clause-following g t c).After-index-entries-step) _
+    c.entries-entries.result.now c.step-step.result.index c.args.following c.key_at-next.result c.header_ref-node.ensures.header
     c.entries-entries.ensures.entries (c.step-step.ensures.step.index_is ∙ ap (index_in _) (sym c.entries-entries.ensures.entries))
     c.key_at-next.ensures.key

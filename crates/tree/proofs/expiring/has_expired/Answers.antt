@@ -33,6 +33,6 @@ loop-entry-preserved c =
 pub returns : goal.returns
 returns c =
     let before = to_z-of_z w64 c.args.before c.ranges.before in
-    let behind = drop_all c.loop-entry.entry-index c.args.entries.now (omega (arith, c.loop-entry-test.false)) in
-    let none = rw (to_z-of_z w64 c.args.edge c.ranges.edge, before, behind) at c.loop-entry.invariant in
+    let following = drop_all c.loop-entry.entry-index c.args.entries.now (omega (arith, c.loop-entry-test.false)) in
+    let none = rw (to_z-of_z w64 c.args.edge c.ranges.edge, before, following) at c.loop-entry.invariant in
     record { expired = (λ said. absurd (cc), λ some. absurd (some none)) }

@@ -1,9 +1,9 @@
 use Rattle.std.proofs.Common.{ℕ, ◌-◌, ◌≤◌, true, false, option_map, arith, rules}
 use Rattle.std.proofs.lemmas.Option.{IfSome_then}
-use Rattle.tree.proofs.Words.{Item, Tells, IsGreatestWith, below_from, below_to, items_in, least_of}
+use Rattle.tree.proofs.Words.{Item, Describes, IsGreatestWith, below_from, below_to, items_in, least_of}
 use Rattle.tree.proofs.FromLast.{from_last_of}
 use Rattle.tree.proofs.Looks.{IsLook, can_find_at, look_of, ask_any, look_ordered, leaf_from_last}
-use Rattle.tree.proofs.Halves.{AreHalves, left_items, right_items, middle_items, left_from_last, right_before, left_is, right_is, middle_tells, left_reached, right_reached, apart, in_one, in_two}
+use Rattle.tree.proofs.Halves.{AreHalves, left_items, right_items, middle_items, left_from_last, right_before, left_is, right_is, middle_describes, left_reached, right_reached, apart, in_one, in_two}
 use Rattle.tree.proofs.GreatestParts.{IsPeak-leaf}
 use Rattle.tree.proofs.Most.{most_with, most_between, most_of_parts, most_passed}
 use Rattle.tree.proofs.greatest_version.+greatest.Given.{Over}
@@ -46,9 +46,9 @@ slice_bounds-greatest_of-start g t c =
 pub returns-then-height-eq0 : goal.returns-then-height-eq0
 returns-then-height-eq0 g t c =
     let k = look g t (goal.at.returns-then-height-eq0 g t c).After-saturating_sub-first in
-    let told = most_with c.args.least c.greatest_of.result _ (IsPeak-leaf _ _ c.greatest_of.ensures.greatest) in
+    let answered = most_with c.args.least c.greatest_of.result _ (IsPeak-leaf _ _ c.greatest_of.ensures.greatest) in
     let items = leaf_from_last _ _ _ _ _ _ _ _ _ k c.if-height-eq0.true _ c.saturating_sub-first.ensures in
-    record { greatest = rw (items, c.greater.ensures.greater) told }
+    record { greatest = rw (items, c.greater.ensures.greater) answered }
 
 -- the two children that the search goes on in
 abbrev halves : (g : Over) (t : ℕ) (c : After-index-entries-last g t)
@@ -109,9 +109,9 @@ returns-then-not-is_above g t c =
     let h = halves g t (goal.at.returns-then-not-is_above g t c).After-index-entries-last in
     let from = λ (x : Item). below_from (option_map (λ p. g.P.Bound.below p.now) c.args.from) x.key in
     let to = λ (x : Item). below_to (option_map (λ q. g.Q.Bound.below q.now) c.args.to) x.key in
-    let told = most_passed c.args.least c.index-entries-first.result (left_items h) from to c.is_above.result
-    (search rules) (left_is h).tells c.if-not-is_above.true c.is_above.ensures.above in
-    record { greatest = rw (in_one h c.if-first-last.true) told }
+    let answered = most_passed c.args.least c.index-entries-first.result (left_items h) from to c.is_above.result
+    (search rules) (left_is h).describes c.if-not-is_above.true c.is_above.ensures.above in
+    record { greatest = rw (in_one h c.if-first-last.true) answered }
 
 pub returns-then-first-last : goal.returns-then-first-last
 returns-then-first-last g t c =
@@ -120,7 +120,7 @@ returns-then-first-last g t c =
 
 -- the greatest version once the left child is looked at too
 sooner : (g : Over) (t : ℕ) (c : After-is_above-3 g t)
-    → Tells c.index-entries-first.result (items_in c.args.nodes.now (c.args.height - 1) c.index-entries-first.result.child)
+    → Describes c.index-entries-first.result (items_in c.args.nodes.now (c.args.height - 1) c.index-entries-first.result.child)
     → IsGreatestWith c.greater-most.result
     (from_last_of (λ (x : Item). below_from (option_map (λ p. g.P.Bound.below p.now) c.args.from) x.key)
     (λ (x : Item). true) (items_in c.args.nodes.now (c.args.height - 1) c.index-entries-first.result.child))
@@ -139,8 +139,8 @@ returns-then-is_above-2 g t c =
     let h = halves g t at.After-index-entries-last in
     record {
       greatest = most_of_parts _ _ _ _ _ (left_from_last h) (middle_items h) (right_before h) (in_two h c.if-first-last.false)
-          (most_between _ _ _ _ _ (middle_tells h) c.greatest_of-2.ensures.greatest c.greater-most.ensures.greater)
-          (sooner g t at.After-is_above-3 (left_is h).tells) c.greatest-most-then-is_above-2.ensures.greatest;
+          (most_between _ _ _ _ _ (middle_describes h) c.greatest_of-2.ensures.greatest c.greater-most.ensures.greater)
+          (sooner g t at.After-is_above-3 (left_is h).describes) c.greatest-most-then-is_above-2.ensures.greatest;
     }
 
 pub returns-else-is_above-2 : goal.returns-else-is_above-2
@@ -149,9 +149,9 @@ returns-else-is_above-2 g t c =
     let h = halves g t at.After-index-entries-last in
     let to = λ (x : Item). below_to (option_map (λ q. g.Q.Bound.below q.now) c.args.to) x.key in
     let later = most_passed c.if-is_above.most c.index-entries-last.result (right_items h) (λ x. false) to c.is_above-3.result
-    (search rules) (right_is h).tells c.if-is_above-2.false c.is_above-3.ensures.above in
+    (search rules) (right_is h).describes c.if-is_above-2.false c.is_above-3.ensures.above in
     record {
       greatest = most_of_parts _ _ _ _ _ (left_from_last h) (middle_items h) (right_before h) (in_two h c.if-first-last.false)
-          (most_between _ _ _ _ _ (middle_tells h) c.greatest_of-2.ensures.greatest c.greater-most.ensures.greater)
-          (sooner g t at.After-is_above-3 (left_is h).tells) later;
+          (most_between _ _ _ _ _ (middle_describes h) c.greatest_of-2.ensures.greatest c.greater-most.ensures.greater)
+          (sooner g t at.After-is_above-3 (left_is h).describes) later;
     }

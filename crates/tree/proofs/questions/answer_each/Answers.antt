@@ -1,6 +1,6 @@
 use Rattle.std.proofs.Common.{rules, ◌∷◌, [], length, take, refl, length-append, arith, length-take}
 use Rattle.std.proofs.lemmas.Slice.Zip.{AllZip-long, zip_turn, zip_end}
-use Rattle.tree.proofs.InTurn.{AllZip-at, AllZip-turn, AllZip-whole}
+use Rattle.tree.proofs.InTurn.{AllZip-at, AllZip-turn, AllZip-entire}
 use Rattle.tree.proofs.questions.answer_each.Goals as goal
 
 pub answer-requires : goal.answer-requires
@@ -32,4 +32,4 @@ returns g c =
     let same = AllZip-long _ c.args.questions.now c.args.looks.now c.requires.looked in
     let end = zip_end c.args.questions.now c.args.looks.now _ _ _ c.next.new.self _ (search rules) (search rules)
     c.loop-question.yielded_by refl c.in-None.ensures.steps in
-    record { told = AllZip-whole _ c.args.questions.now _ _ (omega (arith, same, end)) c.loop-question.invariant }
+    record { answered = AllZip-entire _ c.args.questions.now _ _ (omega (arith, same, end)) c.loop-question.invariant }

@@ -7,8 +7,8 @@ pub head_for-requires : goal.head_for-requires
 head_for-requires g c =
     let header = c.header_ref-leaf.ensures.header in
     let at = rw c.in-Leaf.is at c.requires.leading in
-    let read = entries_from_header c.args.nodes.now c.in-Leaf.near.leaf c.header_ref-leaf.result.now header in
-    let headed = headed_at _ c.args.nodes.now c.in-Leaf.near.leaf _ c.requires.headed header in
+    let read = entries_from_header c.args.nodes.now c.in-Leaf.hint.leaf c.header_ref-leaf.result.now header in
+    let headed = headed_at _ c.args.nodes.now c.in-Leaf.hint.leaf _ c.requires.headed header in
     let some = rw read at at.some in
     let known = rw read at at.known in
     (search rules, (headed, (some, (λ e text there is count inside le. ((known e there).1 text is count inside).0 le))))

@@ -1,15 +1,15 @@
 use Rattle.std.proofs.Common.{rules, ◌≤◌, ◌∷◌, ◌∙◌, [], refl, length, arith, length-append, take_all}
 use Rattle.std.proofs.lemmas.Slice.Zip.{AllZip-long, zip_turn, zip_end}
 use Rattle.tree.specs.declared.questions.Look.{Look}
-use Rattle.tree.proofs.InTurn.{AllZip-at, AllZip-turn, AllZip-whole, map-turn}
+use Rattle.tree.proofs.InTurn.{AllZip-at, AllZip-turn, AllZip-entire, map-turn}
 use Rattle.tree.proofs.questions.look_at_each.Given.{Over}
 use Rattle.tree.proofs.questions.look_at_each.Goals as goal
 use Rattle.tree.proofs.questions.look_at_each.Goals.{In-None}
 
 -- All are gone through at its end.
-whole : (g : Over) (c : In-None g) → (length c.args.questions.now ≤ length c.loop-question.yielded)
+entire : (g : Over) (c : In-None g) → (length c.args.questions.now ≤ length c.loop-question.yielded)
     × (length c.args.approaches.now ≤ length c.loop-question.yielded)
-whole g c =
+entire g c =
     let same = AllZip-long _ c.args.questions.now c.args.approaches.now c.requires.leading in
     let end = zip_end c.args.questions.now c.args.approaches.now _ _ _ c.next.new.self _ (search rules) (search rules)
     c.loop-question.yielded_by refl c.in-None.ensures.steps in
@@ -36,8 +36,8 @@ loop-question-preserved g c =
 
 pub returns-clause-approaches : goal.returns-clause-approaches
 returns-clause-approaches g c =
-    c.loop-question.invariant.0 ∙ take_all _ c.args.approaches.now (whole g (goal.at.returns-clause-approaches g c).In-None).1
+    c.loop-question.invariant.0 ∙ take_all _ c.args.approaches.now (entire g (goal.at.returns-clause-approaches g c).In-None).1
 
 pub returns-clause-looked : goal.returns-clause-looked
 returns-clause-looked g c =
-    AllZip-whole _ _ _ _ (whole g (goal.at.returns-clause-looked g c).In-None).0 c.loop-question.invariant.1
+    AllZip-entire _ _ _ _ (entire g (goal.at.returns-clause-looked g c).In-None).0 c.loop-question.invariant.1

@@ -2,7 +2,7 @@ use Rattle.std.proofs.Common.{◌≡◌, ◌<◌, ◌∷◌, refl, drop-cons, le
 use Rattle.std.proofs.lemmas.Int.{to_z-of_z}
 use Rattle.tree.proofs.Words.{entries_at}
 use Rattle.tree.proofs.Placing.{entries_from_header}
-use Rattle.tree.proofs.Telling.{tells_items}
+use Rattle.tree.proofs.Describing.{describes_items}
 use Rattle.tree.proofs.Headed.{known_at}
 use Rattle.tree.proofs.rebalance.entry_for.Goals as goal
 
@@ -16,7 +16,7 @@ returns g c =
     let greatest = rw (← c.entries.ensures.entries, parts) at c.greatest.ensures.greatest in
     record {
       child = refl;
-      tells = λ height least h. tells_items a least height c.args.child _ e (drop 1 xs) (same ∙ parts) (cc)
+      describes = λ height least h. describes_items a least height c.args.child _ e (drop 1 xs) (same ∙ parts) (cc)
           (rw (to_z-of_z w64 c.greatest.result (search rules)) greatest) h;
       known = λ bytes headed. rw (← c.index-entries-0.is)
           ((rw (same ∙ parts) at (known_at bytes a c.args.child headed)) 0 e.key (omega arith));

@@ -97,24 +97,24 @@ returns-then-count g c =
     let seen = read g (goal.at.returns-then-count g c).After-index-entries-index-2 in
     let again = read_again _ _ can seen merge.changes c.header_mut-node.ensures.header in
     let all = simp length-append at (ap length merge.entries) in
-    let one = made b L _ t told.child (omega (arith, enough d e can seen, all)) told.tells in
+    let one = made b L _ t answered.child (omega (arith, enough d e can seen, all)) answered.describes in
     let now_is = c.lengthen_prefix.ensures.entries ∙ rw (c.set_with_head.ensures.entries, again) at c.remove.ensures.entries
     ∙ set_removed (entries_at c.args.nodes.now c.args.slot) c.args.index t can.within in
     let r = remade d e can seen {b = b} (t ∷ []) c.lengthen_prefix.new.self (omega arith) (omega arith)
-    (rw told.child merge.changes) merge.headed (All-cons (IsMade b L) t [] one (All-nil (IsMade b L)))
-    (simp append-nil (cc (told.child, merge.entries))) now_is c.lengthen_prefix.ensures.headed in
+    (rw answered.child merge.changes) merge.headed (All-cons (IsMade b L) t [] one (All-nil (IsMade b L)))
+    (simp append-nil (cc (answered.child, merge.entries))) now_is c.lengthen_prefix.ensures.headed in
     record { rebalanced = r.0; rest = r.1 }
   where
     open c use {index-entries-index.{result as d}, index-entries-index-2.{result as e}}
-    open c use {merge.{new.{nodes as b}, ensures as merge}, entry_for-entry.{result as t, ensures as told}, requires.{can_merge as can}}
+    open c use {merge.{new.{nodes as b}, ensures as merge}, entry_for-entry.{result as t, ensures as answered}, requires.{can_merge as can}}
 
 pub returns : goal.returns
 returns g c =
     let L = least_of g.row.N in
     let seen = read g (goal.at.returns g c).After-index-entries-index-2 in
     let again = read_again _ _ can seen shared.changes c.header_mut-node-2.ensures.header in
-    let one = made b L _ t t_is.child (omega (arith, shared.filled.left)) t_is.tells in
-    let other = made b L _ u u_is.child (omega (arith, shared.filled.right)) u_is.tells in
+    let one = made b L _ t t_is.child (omega (arith, shared.filled.left)) t_is.describes in
+    let other = made b L _ u u_is.child (omega (arith, shared.filled.right)) u_is.describes in
     let new = All-cons (IsMade b L) t (u ∷ []) one (All-cons (IsMade b L) u [] other (All-nil (IsMade b L))) in
     let now_is = c.lengthen_prefix-2.ensures.entries ∙ rw (c.set_with_head-2.ensures.entries, again) at c.set_with_head-3.ensures.entries
     ∙ set_both (entries_at c.args.nodes.now c.args.slot) c.args.index t u can.within in

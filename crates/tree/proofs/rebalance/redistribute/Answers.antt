@@ -2,7 +2,7 @@ use Rattle.std.proofs.Common.{◌≡◌, ◌≢◌, ℕ, ◌+◌, ◌-◌, ◌/�
 use Rattle.std.proofs.lemmas.List.{drop_all}
 use Rattle.tree.specs.Splice.{AreHalfFull}
 use Rattle.tree.specs.Rebalancing.{AreTwo}
-use Rattle.tree.proofs.Words.{Arena, AllAreHeads, AreHeads, Entry, IsLive, KeyBytes, Node, all_heads_of, entries_at, entries_of, header_at, key_heads_of, record_at, with_header}
+use Rattle.tree.proofs.Words.{Arena, AllAreHeads, AreHeads, NodeEntry, IsLive, KeyBytes, Node, all_heads_of, entries_at, entries_of, header_at, key_heads_of, record_at, with_header}
 use Rattle.tree.proofs.Frames.{entries_same, live_same}
 use Rattle.tree.proofs.Changing.{Moves, changes_if_moves, moves_trans}
 use Rattle.tree.proofs.Placing.{entries_from_header, moves_first, moves_second, put_entries, put_live, put_others, put_moves}
@@ -13,18 +13,18 @@ use Rattle.tree.proofs.rebalance.redistribute.Goals as goal
 use Rattle.tree.proofs.rebalance.redistribute.Goals.{After-len}
 
 -- entries that are shared evenly
-record AreShared (N : ℕ) (l r u v : List Entry) : Type 0 where
+record AreShared (N : ℕ) (l r u v : List NodeEntry) : Type 0 where
   pub entries : u ++ v ≡ l ++ r
   pub filled : AreHalfFull N u v
 
-shared : (N half : ℕ) (l r u v : List Entry) → N < length l + length r → half ≡ (length l + length r) / 2 → u ++ v ≡ l ++ r
+shared : (N half : ℕ) (l r u v : List NodeEntry) → N < length l + length r → half ≡ (length l + length r) / 2 → u ++ v ≡ l ++ r
     → length u ≡ half → AreShared N l r u v
 shared N half l r u v many half_is entries count =
     let all = simp length-append at (ap length entries) in
     record { entries = entries; filled = record { left = omega (arith, all); right = omega (arith, all) } }
 
 -- The end of the left ones goes to the right, or the beginning of the right ones to the left.
-moved_right : (N n half : ℕ) (l r u v : List Entry) → N < n + length r → n ≡ length l → half ≡ (n + length r) / 2 → half < n
+moved_right : (N n half : ℕ) (l r u v : List NodeEntry) → N < n + length r → n ≡ length l → half ≡ (n + length r) / 2 → half < n
     → u ≡ take half l ++ drop n l → v ≡ take 0 r ++ (drop half (take n l) ++ drop 0 r) → AreShared N l r u v
 moved_right N n half l r u v many count half_is above u_is v_is =
     let all = take_all n l (omega arith) in
@@ -33,7 +33,7 @@ moved_right N n half l r u v many count half_is above u_is v_is =
     (cc (all, none, append-nil (take half l), append_assoc (take half l) (drop half l) r, take-append-drop half l))
     (simp (u_is, none, append-nil, length-take) (omega arith))
 
-moved_left : (N n half : ℕ) (l r u v : List Entry) → N < n + length r → n ≡ length l → half ≡ (n + length r) / 2 → n ≤ half
+moved_left : (N n half : ℕ) (l r u v : List NodeEntry) → N < n + length r → n ≡ length l → half ≡ (n + length r) / 2 → n ≤ half
     → u ≡ take n l ++ (drop 0 (take (half - n) r) ++ drop n l) → v ≡ take 0 r ++ drop (half - n) r → AreShared N l r u v
 moved_left N n half l r u v many count half_is below u_is v_is =
     let all = take_all n l (omega arith) in

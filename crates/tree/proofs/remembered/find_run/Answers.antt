@@ -67,7 +67,7 @@ returns g c =
           end_head = end_head g h;
         };
         some_before = omega (arith, c.if-begin-eq0.false);
-        some_behind = omega (arith, c.if-end-len.false, c.len-len.ensures.len, c.lower_bound_by_head-end.ensures.count.within);
+        some_after = omega (arith, c.if-end-len.false, c.len-len.ensures.len, c.lower_bound_by_head-end.ensures.count.within);
         fits = omega (arith, c.if-len.false, c.len-len.ensures.len);
         filled = omega (arith, c.if-len-least.false, c.len-len.ensures.len, c.least.ensures.least);
         ended = c.is_below_at-ended.ensures.is_below;

@@ -3,13 +3,13 @@ use Rattle.std.proofs.lemmas.Int.{ints, to_z-of_z}
 use Rattle.std.proofs.lemmas.List.{length-drop, length-map, length-take-le}
 use Rattle.tree.specs.Item.{item_of}
 use Rattle.tree.specs.Node.{entries_of}
-use Rattle.tree.specs.Run.{CanFindRun}
+use Rattle.tree.specs.EntryRun.{CanFindRun}
 use Rattle.tree.specs.Subtree.{entries_at}
 use Rattle.tree.specs.Tree.{ended_by}
 use Rattle.tree.proofs.Headed.{headed_at}
 use Rattle.tree.proofs.Leaves.{entries_of_partitioned}
 use Rattle.tree.proofs.Placing.{entries_from_header}
-use Rattle.tree.proofs.RunWritten.{last_read, taken_out, whole_run}
+use Rattle.tree.proofs.RunWritten.{last_read, taken_out, entire_run}
 use Rattle.tree.proofs.WrittenLeaf.{some_item, items_parted, ended_in_leaf}
 use Rattle.tree.proofs.LeafChange.{parted}
 use Rattle.tree.proofs.remembered.write_in_leaf.Goals.{After-header_ref-node}
@@ -57,11 +57,11 @@ returns g c =
     let begins = run.run_is.begin.count_is in
     let ends = run.run_is.end.count_is in
     let x = c.index-entries-run.result in
-    let whole : c.write_run.result ≡ None = c.write_run.ensures.fits (omega (arith, run.fits, in_order, within, ap length (read g h))) in
+    let entire : c.write_run.result ≡ None = c.write_run.ensures.fits (omega (arith, run.fits, in_order, within, ap length (read g h))) in
     let last = last_read q es end x can.second_bound.partitioned ends (omega (arith, run.some_before, in_order)) within in
     let version = (get_or c.entries-entries.result.now (end - 1) x).version in
     let kept = to_z-of_z w64 version (search rules) in
-    let written = rw (whole, read g h, kept, c.entries-entries.ensures.entries) at c.write_run.ensures.written in
+    let written = rw (entire, read g h, kept, c.entries-entries.ensures.entries) at c.write_run.ensures.written in
     let second = ended_by ended (record { key = new.second; version = unwrap_or new.last (get_or es (end - 1) x).version }) in
     let back = map item_of (drop end es) in
     let others = (parted q es end can.second_bound.partitioned ends).1 in
@@ -71,19 +71,19 @@ returns g c =
         record {
           given_none = run.given_none;
           some_before = rw (read g h) (some_item p es begin run.some_before begins);
-          some_behind = λ none. absurd (omega (
+          some_after = λ none. absurd (omega (
             arith,
-            run.some_behind,
+            run.some_after,
             length-drop end es,
             length-map (drop end es) item_of,
             ap length (sym (items_parted q es end can.second_bound.partitioned ends).1 ∙ (rw (read g h) at none)),
           ));
-          gives = λ is_first next. rw (read g h) (whole_run p q (g.R.Bound.below new.past.now) new.nested es begin end
+          gives = λ is_first next. rw (read g h) (entire_run p q (g.R.Bound.below new.past.now) new.nested es begin end
               can.first_bound can.second_bound.partitioned (omega (arith, in_order, within)) begins ends (item_of new.first) new.second
               new.last ended is_first next _ _ (inl run.some_before) (omega (arith, run.some_before, in_order)) _ last
               (taken_out _ es begin end c.put_taken.ensures.taken c.requires.can_write.none_taken c.entries-entries.ensures.entries
               in_order)
-              (ended_in_leaf q (g.R.Bound.below new.past.now) es end others next ended run.some_behind run.ended) written);
+              (ended_in_leaf q (g.R.Bound.below new.past.now) es end others next ended run.some_after run.ended) written);
           filled = omega (
             arith,
             run.filled,
@@ -98,7 +98,7 @@ returns g c =
             length-append (map item_of (take begin es)) (item_of new.first ∷ second ++ back),
             length-append second back,
           );
-          stored = rw whole at c.write_run.ensures.stored;
+          stored = rw entire at c.write_run.ensures.stored;
         },
       );
     }

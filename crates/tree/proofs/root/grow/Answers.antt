@@ -2,7 +2,7 @@ use Rattle.std.proofs.Common.{arith, add-one, rules, ◌≡◌, List, [], ◌∷
 use Rattle.std.specs.List.{All}
 use Rattle.std.proofs.lemmas.List.{append-nil}
 use Rattle.std.proofs.lemmas.List.Elements.{All-nil, All-cons}
-use Rattle.tree.specs.declared.entry.Entry.{Entry}
+use Rattle.tree.specs.declared.entry.NodeEntry.{NodeEntry}
 use Rattle.tree.specs.Heads.{IsKnown}
 use Rattle.tree.specs.Node.{entries_of, keys_of}
 use Rattle.tree.specs.Subtree.{slots_in}
@@ -18,7 +18,7 @@ compute_heads-requires g c =
     let bytes = g.P.Bound.bytes c.args.bound.now in
     let first = c.entry_for.result in
     let second = c.entry_for-2.result in
-    let es : List Entry = first ∷ second ∷ [] in
+    let es : List NodeEntry = first ∷ second ∷ [] in
     let node : entries_of c.splice.new.self ≡ es = rw c.of-node.ensures.entries at c.splice.ensures.entries in
     let headed = c.requires.can_grow.headed in
     let Known = IsKnown bytes in
@@ -33,11 +33,11 @@ returns g c =
     let first = c.entry_for in
     let second = c.entry_for-2 in
     let can = c.requires.can_grow in
-    let es : List Entry = first.result ∷ second.result ∷ [] in
+    let es : List NodeEntry = first.result ∷ second.result ∷ [] in
     let node : entries_of c.compute_heads.new.self ≡ es =
     c.compute_heads.ensures.entries ∙ (rw c.of-node.ensures.entries at c.splice.ensures.entries) in
     let right = both_right a (least_of g.row.N) h c.args.root.slot c.args.added first.result second.result first.ensures.child
-    second.ensures.child can.first can.second can.filled first.ensures.tells second.ensures.tells in
+    second.ensures.child can.first can.second can.filled first.ensures.describes second.ensures.describes in
     let slots : slots_of a h es ≡ slots_in a h c.args.root.slot ++ slots_in a h c.args.added =
     simp (first.ensures.child, second.ensures.child, append-nil) in
     let moves = moves_if_changes _ _ [] (c.place.result ∷ []) c.place.ensures.placed.changes in

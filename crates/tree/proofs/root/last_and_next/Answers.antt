@@ -1,13 +1,13 @@
 use Rattle.std.proofs.Common.{◌<◌, rules, ◌≡◌, ◌∙◌, length, filter, take, drop, map, ◌++◌, None, sym, ap, refl, arith}
 use Rattle.std.specs.Prelude.{not}
 use Rattle.std.proofs.Math.Seq.{drop-append_seam, take-append_seam}
-use Rattle.tree.proofs.Words.{Item, behind, behind_leaf, first_key, item_of, items_in}
-use Rattle.tree.specs.declared.entry.Entry.{Entry}
+use Rattle.tree.proofs.Words.{Item, following, after_leaf, first_key, item_of, items_in}
+use Rattle.tree.specs.declared.entry.NodeEntry.{NodeEntry}
 use Rattle.tree.specs.Node.{entries_of}
 use Rattle.tree.specs.Subtree.{entries_at}
 use Rattle.tree.proofs.Found.{entries_read}
 use Rattle.tree.proofs.Headed.{headed_at}
-use Rattle.tree.proofs.Keys.{behind-parts, filter-items, first_key-append}
+use Rattle.tree.proofs.Keys.{following-parts, filter-items, first_key-append}
 use Rattle.tree.proofs.Leaves.{IsLeaf, last_passing}
 use Rattle.tree.proofs.root.last_and_next.Goals as goal
 
@@ -29,7 +29,7 @@ returns g c =
     let found = c.reach-reached.ensures.reached in
     let es = entries_at nodes c.reach-reached.result.leaf in
     let header = c.header_ref-leaf.result.now in
-    let p = λ (e : Entry). is_below e.key in
+    let p = λ (e : NodeEntry). is_below e.key in
     let leaf : IsLeaf is_below _ _ _ es =
     record { items_are = found.items_are; pass = found.before; fail = found.after; none = found.none } in
     let read : es ≡ entries_of header = entries_read nodes _ header _ c.header_ref-leaf.ensures.header refl in
@@ -37,13 +37,13 @@ returns g c =
     ap (take (length (filter p es))) found.partitioned ∙ take-append_seam (filter p es) (filter (λ e. not (p e)) es) in
     let rest : drop (length (filter p es)) es ≡ filter (λ e. not (p e)) es =
     ap (drop (length (filter p es))) found.partitioned ∙ drop-append_seam (filter p es) (filter (λ e. not (p e)) es) in
-    let later = behind_leaf nodes c.args.root.height c.args.root.slot is_below in
-    let behind_is : behind is_below (items_in nodes c.args.root.height c.args.root.slot) ≡ map item_of (drop (length (filter p es)) es) ++ later =
-    ap (behind is_below) found.items_are ∙ behind-parts is_below _ (map item_of es) later found.before found.after
+    let later = after_leaf nodes c.args.root.height c.args.root.slot is_below in
+    let after_is : following is_below (items_in nodes c.args.root.height c.args.root.slot) ≡ map item_of (drop (length (filter p es)) es) ++ later =
+    ap (following is_below) found.items_are ∙ following-parts is_below _ (map item_of es) later found.before found.after
     ∙ ap (λ xs. xs ++ later) (filter-items (λ (x : Item). not (is_below x.key)) es ∙ ap (map item_of) (sym rest)) in
     record {
       next = rw (c.lower_bound-count.ensures.count.count_is, c.entries-entries.ensures.entries, ← read, found.next) at c.key_at.ensures.key
-          ∙ sym (first_key-append None (map item_of (drop (length (filter p es)) es)) later) ∙ ap (first_key None) (sym behind_is);
+          ∙ sym (first_key-append None (map item_of (drop (length (filter p es)) es)) later) ∙ ap (first_key None) (sym after_is);
       last = last_passing is_below _ _ _ es (take c.lower_bound-count.result c.entries-entries.result.now) c.copied.result leaf
           (rw (c.lower_bound-count.ensures.count.count_is, c.entries-entries.ensures.entries, ← read) passed)
           (c.copied.ensures ∙ c.last.ensures.value);

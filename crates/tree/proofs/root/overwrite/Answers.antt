@@ -1,5 +1,5 @@
 use Rattle.std.proofs.Common.{rules, ℕ, Bool, true, ◌≡◌, ◌∙◌, [], None, refl, ap, subst, append-nil, arith}
-use Rattle.tree.specs.declared.walk.Outcome.TheVariants.{Raised}
+use Rattle.tree.specs.declared.walk.LeafOutcome.TheVariants.{Raised}
 use Rattle.tree.specs.Item.{item_of}
 use Rattle.tree.specs.Overwrite.{IsPartOfPartitioned}
 use Rattle.tree.specs.Subtree.{items_in}
@@ -62,7 +62,7 @@ changed g c =
     let new = c.args.new.now in
     let done = c.in-Some-write_in_leaf.ensures.written in
     let gives = done.1.gives true None in
-    let told : IsRaisedAt c.args.nodes.now c.write_in_leaf.new.nodes 0 leaf.slot leaf = record {
+    let answered : IsRaisedAt c.args.nodes.now c.write_in_leaf.new.nodes 0 leaf.slot leaf = record {
       there = refl;
       items = rw done.0 at (raised (p g h) (q g h) new.nested (item_of new.first) new.second c.in-Some-write_in_leaf.ended _ _
           (part_partitioned (p g h) _ (first_part g h).1) done.1.some_before gives.some (rw done.1.given_none at gives.written));
@@ -70,7 +70,7 @@ changed g c =
       no_fewer = λ high. absurd (omega (arith, high));
     } in
     leaf_stored (Raised leaf) (first_part g h).0 done.1.stored (λ e. absurd (cc))
-    (λ other is. subst (IsRaisedAt c.args.nodes.now c.write_in_leaf.new.nodes 0 leaf.slot) (let same : leaf ≡ other = cc in same) told)
+    (λ other is. subst (IsRaisedAt c.args.nodes.now c.write_in_leaf.new.nodes 0 leaf.slot) (let same : leaf ≡ other = cc in same) answered)
 
 pub returns-in-Some-write_in_leaf-clause-items : goal.returns-in-Some-write_in_leaf-clause-items
 returns-in-Some-write_in_leaf-clause-items g c =
@@ -78,7 +78,7 @@ returns-in-Some-write_in_leaf-clause-items g c =
     let done = (c.in-Some-write_in_leaf.ensures.written).1 in
     within_raised c.in-Some.leaf (changed g at.In-Some-write_in_leaf) (q g at.In-Some) _ _ _
     (root_can c.requires.can_change.changeable) (there g at.In-Some) c.requires.can_change.partitioned (done.gives true None).some
-    done.some_behind done.gives
+    done.some_after done.gives
 
 pub returns-in-Some-write_in_leaf-clause-tree : goal.returns-in-Some-write_in_leaf-clause-tree
 returns-in-Some-write_in_leaf-clause-tree g c =

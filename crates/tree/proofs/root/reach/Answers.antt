@@ -10,6 +10,6 @@ returns g c =
     let way = c.find.ensures.leaf in
     let found = rw (← way) at (found_leaf_in _ _ c.args.root.height c.args.root.slot is_below can.subtree can.partitioned) in
     let leaf = is_leaf _ _ c.args.root.height c.args.root.slot is_below _ _ can.subtree can.partitioned way refl
-    found.items found.before found.behind in
+    found.items found.before found.following in
     let partitioned = leaf_partitioned_by_keys is_below _ _ _ _ leaf can.partitioned in
-    search (rules, found.items, found.before, found.behind, leaf.none, partitioned)
+    search (rules, found.items, found.before, found.following, leaf.none, partitioned)

@@ -2,7 +2,7 @@ use Rattle.std.proofs.Common.{rules, ◌≡◌, ◌≤◌, ◌∙◌, ap, refl, 
 use Rattle.std.specs.List.{All}
 use Rattle.std.proofs.lemmas.Int.{to_z-of_z}
 use Rattle.std.proofs.lemmas.List.{length-take-le, map-append}
-use Rattle.tree.specs.declared.entry.Entry.{Entry}
+use Rattle.tree.specs.declared.entry.NodeEntry.{NodeEntry}
 use Rattle.tree.specs.Heads.{KeyBytes, AreHeadsBeside, IsHeadBeside, IsKnown}
 use Rattle.tree.specs.Item.{item_of}
 use Rattle.tree.specs.Node.{key_heads_of, keys_of}
@@ -58,7 +58,7 @@ module _ (g : given.Over) (c : Joined-is_some g) where
   ]
 
   -- what the items are then
-  written : (es now : List Entry) → now ≡ take run.begin es ++ (put ++ drop run.end es)
+  written : (es now : List NodeEntry) → now ≡ take run.begin es ++ (put ++ drop run.end es)
       → map item_of now ≡ map item_of (take run.begin es) ++ (item_of new.first
       ∷ ended_by run.ended (record { key = new.second; version = unwrap_or new.last c.args.last }) ++ map item_of (drop run.end es))
   written es now now_is =

@@ -1,7 +1,7 @@
 use Rattle.std.proofs.Common.{rules, w64, ◌≡◌, ℕ, ◌+◌, ◌-◌, ◌*◌, ◌<◌, ◌≤◌, ◌^◌, ◌++◌, List, drop, length, sym, ap, ap₂, subst, ◌∙◌, arith, get_or}
 use Rattle.std.proofs.lemmas.Int.{to_z-of_z}
 use Rattle.std.proofs.lemmas.List.{length-append}
-use Rattle.tree.proofs.Words.{Entry, Item, IsCounted, items_from, entries_at, least_of}
+use Rattle.tree.proofs.Words.{NodeEntry, Item, IsCounted, items_from, entries_at, least_of}
 use Rattle.tree.proofs.Placing.{entries_from_header}
 use Rattle.tree.proofs.StillCounted.{both_counted, fewer_counted, items_of_root, next_items, children_are, steps_down}
 use Rattle.tree.proofs.unexpired.+count_unexpired.Given.{Over}
@@ -17,17 +17,17 @@ module _ (g : Over) (t : ℕ) (c : After-index-entries-index g t) where
   inside = omega (arith, c.if-index-entries.false, c.requires.within, ap length read)
 
   -- that of the child
-  abbrev here : Entry
+  abbrev here : NodeEntry
   here = get_or c.entries-entries.result.now c.args.index c.index-entries-index.result
 
   -- the items of the child, and those behind it
   abbrev below : List Item
   below = items_from c.args.nodes.now (c.args.height - 1) (entries_at c.args.nodes.now here.child)
 
-  abbrev behind : List Item
-  behind = items_from c.args.nodes.now c.args.height (drop (c.args.index + 1) (entries_at c.args.nodes.now c.args.slot))
+  abbrev following : List Item
+  following = items_from c.args.nodes.now c.args.height (drop (c.args.index + 1) (entries_at c.args.nodes.now c.args.slot))
 
-  parted : items_from c.args.nodes.now c.args.height (drop c.args.index (entries_at c.args.nodes.now c.args.slot)) ≡ below ++ behind
+  parted : items_from c.args.nodes.now c.args.height (drop c.args.index (entries_at c.args.nodes.now c.args.slot)) ≡ below ++ following
   parted =
       ap (λ es. items_from c.args.nodes.now c.args.height (drop c.args.index es)) read
       ∙ next_items c.args.nodes.now c.args.height c.entries-entries.result.now c.args.index c.index-entries-index.result
@@ -35,8 +35,8 @@ module _ (g : Over) (t : ℕ) (c : After-index-entries-index g t) where
       ∙ ap₂ (λ xs ys. xs ++ ys) (items_of_root c.args.nodes.now (c.args.height - 1) here.child)
       (ap (λ es. items_from c.args.nodes.now c.args.height (drop (c.args.index + 1) es)) (sym read))
 
-  few : c.args.before.count + (length below + length behind) < 2 ^ 64
-  few = omega (arith, c.requires.few, ap length parted, length-append below behind)
+  few : c.args.before.count + (length below + length following) < 2 ^ 64
+  few = omega (arith, c.requires.few, ap length parted, length-append below following)
 
 pub count_unexpired-counted-requires : goal.count_unexpired-counted-requires
 count_unexpired-counted-requires g t c κs within =
@@ -55,7 +55,7 @@ count_unexpired-requires g t c κs within =
     omega (arith, inside g t at, c.entries-entries.ensures.most, ap length c.entries-entries.ensures.entries) in
     let inside_too : c.args.index + 1 ≤ length (entries_at c.args.nodes.now c.args.slot) = omega (arith, inside g t at, ap length (read g t at)) in
     let fewer = fewer_counted _ c.args.before c.count_unexpired-counted.result (below g t at) c.count_unexpired-counted.ensures.counted in
-    let enough : c.count_unexpired-counted.result.count + length (behind g t at) < 2 ^ 64 = omega (arith, few g t at, fewer) in
+    let enough : c.count_unexpired-counted.result.count + length (following g t at) < 2 ^ 64 = omega (arith, few g t at, fewer) in
     (falls, search (rules, inside_too, enough))
 
 pub returns : goal.returns
@@ -63,5 +63,5 @@ returns g t c =
     let at = (goal.at.returns g t c).After-index-entries-index in
     let edge = to_z-of_z w64 c.args.edge c.ranges.edge in
     let both = both_counted c.args.edge c.args.before c.count_unexpired-counted.result c.count_unexpired.result (below g t at)
-    (behind g t at) (rw edge at c.count_unexpired-counted.ensures.counted) (rw edge at c.count_unexpired.ensures.counted) in
+    (following g t at) (rw edge at c.count_unexpired-counted.ensures.counted) (rw edge at c.count_unexpired.ensures.counted) in
     record { counted = subst (λ items. IsCounted c.args.edge c.args.before items c.count_unexpired.result) (sym (parted g t at)) both }

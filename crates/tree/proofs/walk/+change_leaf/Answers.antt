@@ -1,10 +1,10 @@
 use Rattle.std.proofs.Common.{◌≡◌, ◌+◌, ◌-◌, ℕ, suc, inl, inr, None, Bool, List, Option, length, get_or, take, drop, refl, sym, ap, ◌∙◌, arith, rules}
-use Rattle.tree.specs.declared.entry.Entry.{Entry}
+use Rattle.tree.specs.declared.entry.NodeEntry.{NodeEntry}
 use Rattle.tree.specs.Item.{Item}
 use Rattle.tree.specs.Node.{entries_of}
 use Rattle.tree.specs.Path.{index_in}
 use Rattle.tree.specs.Subtree.{entries_at, items_in}
-use Rattle.tree.specs.declared.walk.Outcome.TheVariants.{Same, Raised, Changed, Split}
+use Rattle.tree.specs.declared.walk.LeafOutcome.TheVariants.{Same, Raised, Changed, Split}
 use Rattle.tree.specs.declared.walk.RaisedLeaf.{RaisedLeaf}
 use Rattle.tree.specs.Tree.{least_of}
 use Rattle.tree.specs.Children.{items_of}
@@ -17,7 +17,7 @@ use Rattle.tree.proofs.Placing.{entries_from_header}
 use Rattle.tree.proofs.Found.{read_partitioned, found, found_partitioned}
 use Rattle.tree.proofs.Stepping.{IsAt, around, child_can, items_split}
 use Rattle.tree.proofs.Walking.{first_if, within_at}
-use Rattle.tree.proofs.Walked.{within_leaf, can_rebalance, can_insert, child_filled, family, raised_below, tells_written, step_rebalanced, changed_above, step_linked, linked_above}
+use Rattle.tree.proofs.Walked.{within_leaf, can_rebalance, can_insert, child_filled, family, raised_below, describes_written, step_rebalanced, changed_above, step_linked, linked_above}
 use Rattle.tree.proofs.walk.+change_leaf.Given.{Over}
 use Rattle.tree.proofs.walk.+change_leaf.Goals as goal
 use Rattle.tree.proofs.walk.+change_leaf.Goals.{After-index-entries-step, After-change_leaf, After-raise_entry, After-rebalance_child}
@@ -58,7 +58,7 @@ module _ (g : Over) (t : ℕ) (c : After-index-entries-step g t) where
   abbrev is_below : ℕ → Bool
   is_below = g.C.LeafBound.Bound.below (g.C.LeafChange.bound_of c.args.change.now)
 
-  abbrev es : List Entry
+  abbrev es : List NodeEntry
   es = entries_at c.args.nodes.now c.args.slot
 
   abbrev h : ℕ
@@ -121,7 +121,7 @@ module _ (g : Over) (t : ℕ) (c : After-index-entries-step g t) where
 within : (g : Over) (t : ℕ) (c : After-change_leaf g t) (Gives : Bool → Option ℕ → List Item → List Item → Type 0)
     (now all : List Item) → (let k = (goal.at.After-change_leaf g t c).After-index-entries-step in
     let below = IsChangedWithin (is_below g t k) Gives c.if-place.below c.key_at.result in
-    let here = IsChangedWithin (is_below g t k) Gives c.args.place.is_first c.args.place.behind in
+    let here = IsChangedWithin (is_below g t k) Gives c.args.place.is_first c.args.place.following in
     let a = c.args.nodes.now in
     all ≡ around (at_child g t k) now → below (items_in a (h g t k) (x g t k)) now
     → here (items_in a c.args.height c.args.slot) all)
@@ -184,14 +184,14 @@ returns-in-Raised g t c =
     let here = goal.at.returns-in-Raised g t c in
     let at = at_child g t here.After-index-entries-step in
     let put = c.in-Raised.ensures.changed in
-    let made = c.raise_entry.ensures.rebalanced (c.args.height - 1) (family at put refl) (tells_written at put refl _ refl) in
+    let made = c.raise_entry.ensures.rebalanced (c.args.height - 1) (family at put refl) (describes_written at put refl _ refl) in
     let rest = rw (c.leaf_bound-in-Raised.ensures.leaf_bound ∙ c.in-Raised.ensures.leaf_bound) at c.raise_entry.ensures.rest in
-    let told = c.raise_entry.ensures.outcome in
+    let answered = c.raise_entry.ensures.outcome in
     let alone : added_by c.raise_entry.result ≡ None =
-    elim told [ inl is ↦ ap added_by is | inr is ↦ ap added_by is.0 ] in
+    elim answered [ inl is ↦ ap added_by is | inr is ↦ ap added_by is.0 ] in
     let changed = changed_above at put refl made c.raise_entry.result alone
-    (λ e. elim told [ inl is ↦ changed_not_same (sym is ∙ e) | inr is ↦ raised_not_same c.in-Raised.leaf (sym is.0 ∙ e) ])
-    (λ leaf e. elim told [
+    (λ e. elim answered [ inl is ↦ changed_not_same (sym is ∙ e) | inr is ↦ raised_not_same c.in-Raised.leaf (sym is.0 ∙ e) ])
+    (λ leaf e. elim answered [
       | inl is ↦ absurd (changed_not_raised leaf (sym is ∙ e))
       | inr is ↦ (let same = sym is.0 ∙ e in (same, raised_below at put refl leaf is.1 (cc (same)) same))
     ]) rest in

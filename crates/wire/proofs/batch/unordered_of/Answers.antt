@@ -1,6 +1,6 @@
 use Rattle.std.proofs.Common.{◌≡◌, ℕ, ◌+◌, List, length, vec_len, map, ap, subst, ◌∙◌, rules, arith, w64}
 use Rattle.std.proofs.lemmas.Int.{to_z-of_z}
-use Rattle.keyspace.specs.Tables.{range_told}
+use Rattle.keyspace.specs.Tables.{range_of_span}
 use Rattle.wire.specs.Lying.{AreApart, range_read}
 use Rattle.wire.proofs.Keeping.{are_tables, txns_sealed}
 use Rattle.wire.proofs.batch.unordered_of.Goals as goal
@@ -20,8 +20,8 @@ new-requires-clause-few c =
     let frame = c.args.frame.items in
     let tables = c.args.tables in
     let sealed = c.seal.new.frame.items in
-    let told : map (range_told sealed) tables.spans.items ≡ map (range_read frame) tables.spans.items = search rules in
-    omega (arith, c.requires.holds.few, ap length (txns_sealed frame sealed tables.spans.items 0 tables.rows.items told))
+    let reported : map (range_of_span sealed) tables.spans.items ≡ map (range_read frame) tables.spans.items = search rules in
+    omega (arith, c.requires.holds.few, ap length (txns_sealed frame sealed tables.spans.items 0 tables.rows.items reported))
 
 pub returns : goal.returns
 returns c =
@@ -29,8 +29,8 @@ returns c =
     let tables = c.args.tables in
     let sealed = c.seal.new.frame.items in
     let holds = c.requires.holds in
-    let told : map (range_told sealed) tables.spans.items ≡ map (range_read frame) tables.spans.items = search rules in
-    let txns = c.new.ensures.txns ∙ txns_sealed frame sealed tables.spans.items 0 tables.rows.items told in
+    let reported : map (range_of_span sealed) tables.spans.items ≡ map (range_read frame) tables.spans.items = search rules in
+    let txns = c.new.ensures.txns ∙ txns_sealed frame sealed tables.spans.items 0 tables.rows.items reported in
     record {
       fields = λ i. record {
         previous = (c.new.ensures.previous ∙ to_z-of_z w64 tables.previous holds.previous_fits) i;

@@ -5,7 +5,7 @@ use Rattle.wire.specs.FrameLength.{frame_length}
 use Rattle.wire.proofs.callers.Given.{at_any_err}
 use Rattle.wire.proofs.Moving.{moves_all, fewer_weaker}
 use Rattle.wire.proofs.FrameLengths.{at_least_four}
-use Rattle.wire.proofs.FrameParts.{cut_in_front, cut_behind_front, longer_front}
+use Rattle.wire.proofs.FrameParts.{cut_in_front, cut_after_front, longer_front}
 use Rattle.wire.proofs.fill.fill_frame.Goals as goal
 
 pub returns-in_err-fill-clause-part : goal.returns-in_err-fill-clause-part
@@ -23,13 +23,13 @@ returns-in_err-fill-2-clause-part g c =
     let front = c.fill.new.buffer.items in
     let moved : MovesInto old now [] front =
     subst (λ (held : List ℕ). MovesInto old now held front) c.clear.ensures.items c.in_ok-fill.ensures.bytes in
-    let told : c.settled_by-length.result ≡ frame_length front =
+    let reported : c.settled_by-length.result ≡ frame_length front =
     c.settled_by-length.ensures.exact ∙ ap frame_length c.deref.ensures.value in
     let len : length front ≡ vec_len c.fill.new.buffer = search rules in
-    let more : 4 < frame_length front = omega (arith, told, c.if-length-gt4.true) in
+    let more : 4 < frame_length front = omega (arith, reported, c.if-length-gt4.true) in
     at_any_err c.from_residual-in_err-fill-2.result
-    (λ e. cut_behind_front e old now new front (moves_all old now front moved) more
-    (fewer_weaker _ (frame_length front - length front) now new (omega (arith, told, len)) c.in_err-fill-2.ensures.cut))
+    (λ e. cut_after_front e old now new front (moves_all old now front moved) more
+    (fewer_weaker _ (frame_length front - length front) now new (omega (arith, reported, len)) c.in_err-fill-2.ensures.cut))
 
 pub returns-in_ok-fill-2-clause-within : goal.returns-in_ok-fill-2-clause-within
 returns-in_ok-fill-2-clause-within g c =
@@ -37,10 +37,10 @@ returns-in_ok-fill-2-clause-within g c =
     let new = g.R.Source.remaining c.fill-then-length-gt4.new.reader in
     let front = c.fill.new.buffer.items in
     let all = c.fill-then-length-gt4.new.buffer.items in
-    let told : c.settled_by-length.result ≡ frame_length front =
+    let reported : c.settled_by-length.result ≡ frame_length front =
     c.settled_by-length.ensures.exact ∙ ap frame_length c.deref.ensures.value in
-    let same = longer_front now new front all c.in_ok-fill-2.ensures.bytes (omega (arith, told, c.if-length-gt4.true)) in
-    omega (arith, same, told, c.in_ok-fill-2.ensures.within)
+    let same = longer_front now new front all c.in_ok-fill-2.ensures.bytes (omega (arith, reported, c.if-length-gt4.true)) in
+    omega (arith, same, reported, c.in_ok-fill-2.ensures.within)
 
 pub returns-in_ok-fill-2-clause-end : goal.returns-in_ok-fill-2-clause-end
 returns-in_ok-fill-2-clause-end g c less =
@@ -48,10 +48,10 @@ returns-in_ok-fill-2-clause-end g c less =
     let new = g.R.Source.remaining c.fill-then-length-gt4.new.reader in
     let front = c.fill.new.buffer.items in
     let all = c.fill-then-length-gt4.new.buffer.items in
-    let told : c.settled_by-length.result ≡ frame_length front =
+    let reported : c.settled_by-length.result ≡ frame_length front =
     c.settled_by-length.ensures.exact ∙ ap frame_length c.deref.ensures.value in
-    let same = longer_front now new front all c.in_ok-fill-2.ensures.bytes (omega (arith, told, c.if-length-gt4.true)) in
-    c.in_ok-fill-2.ensures.end (omega (arith, same, told, less))
+    let same = longer_front now new front all c.in_ok-fill-2.ensures.bytes (omega (arith, reported, c.if-length-gt4.true)) in
+    c.in_ok-fill-2.ensures.end (omega (arith, same, reported, less))
 
 pub returns-else-length-gt4-clause-within : goal.returns-else-length-gt4-clause-within
 returns-else-length-gt4-clause-within g c =

@@ -4,12 +4,12 @@ use Rattle.std.proofs.lemmas.List.{nil_from_length}
 use Rattle.std.proofs.lemmas.Result.{err_from_is_err_and}
 use Rattle.wire.specs.Fields.{BatchFields, batch_fields}
 use Rattle.wire.specs.Spelling.{BatchHolds}
-use Rattle.wire.specs.Lying.{AreApart, batch_told}
+use Rattle.wire.specs.Lying.{AreApart, batch_of_tables}
 use Rattle.wire.specs.FrameLength.{frame_length}
 use Rattle.wire.specs.Reading.{read_batch, refusal}
 use Rattle.wire.proofs.FrameLengths.{at_least_four}
 use Rattle.wire.proofs.callers.Known.{none_before}
-use Rattle.wire.proofs.NextFrames.{takes_frame, whole_frame, is_fault, each_byte}
+use Rattle.wire.proofs.NextFrames.{takes_frame, entire_frame, is_fault, each_byte}
 use Rattle.wire.proofs.frames.read_unordered.Goals as goal
 
 pub returns-then-is_empty-clause-end : goal.returns-then-is_empty-clause-end
@@ -44,18 +44,18 @@ unordered_of-requires-clause-apart g c =
     let t = c.in_ok-tables in
     let held = c.fill_frame.new.buffer.items in
     let len : vec_len c.fill_frame.new.buffer ≡ length held = search rules in
-    let whole : t.field-0-2.now ≡ held = whole_frame held c.deref.result.now t.field-0-2.now c.deref.ensures.value
+    let entire : t.field-0-2.now ≡ held = entire_frame held c.deref.result.now t.field-0-2.now c.deref.ensures.value
     t.ensures.frame t.ensures.length (omega (arith, len, c.in_ok-fill_frame.ensures.within)) in
-    subst (λ (n : ℕ). AreApart 0 t.tables.spans.items n) (ap length whole ∙ sym len) t.ensures.apart
+    subst (λ (n : ℕ). AreApart 0 t.tables.spans.items n) (ap length entire ∙ sym len) t.ensures.apart
 
 pub unordered_of-requires-clause-holds : goal.unordered_of-requires-clause-holds
 unordered_of-requires-clause-holds g c =
     let t = c.in_ok-tables in
     let held = c.fill_frame.new.buffer.items in
     let len : vec_len c.fill_frame.new.buffer ≡ length held = search rules in
-    let whole : t.field-0-2.now ≡ held = whole_frame held c.deref.result.now t.field-0-2.now c.deref.ensures.value
+    let entire : t.field-0-2.now ≡ held = entire_frame held c.deref.result.now t.field-0-2.now c.deref.ensures.value
     t.ensures.frame t.ensures.length (omega (arith, len, c.in_ok-fill_frame.ensures.within)) in
-    subst (λ (frame : List ℕ). BatchHolds (batch_told frame t.tables)) whole t.ensures.holds
+    subst (λ (frame : List ℕ). BatchHolds (batch_of_tables frame t.tables)) entire t.ensures.holds
 
 pub returns-clause-batch : goal.returns-clause-batch
 returns-clause-batch g c =
@@ -64,10 +64,10 @@ returns-clause-batch g c =
     let batch = c.in_ok-batch.batch in
     let len : length held ≡ vec_len c.fill_frame.new.buffer = search rules in
     let within : length held ≤ frame_length held = omega (arith, len, c.in_ok-fill_frame.ensures.within) in
-    let whole : t.field-0-2.now ≡ held = whole_frame held c.deref.result.now t.field-0-2.now c.deref.ensures.value
+    let entire : t.field-0-2.now ≡ held = entire_frame held c.deref.result.now t.field-0-2.now c.deref.ensures.value
     t.ensures.frame t.ensures.length within in
-    let fields : batch_told t.field-0-2.now t.tables ≡ batch_fields batch =
-    ap (λ (frame : List ℕ). batch_told frame t.tables) whole ∙ sym c.in_ok-batch.ensures.fields in
+    let fields : batch_of_tables t.field-0-2.now t.tables ≡ batch_fields batch =
+    ap (λ (frame : List ℕ). batch_of_tables frame t.tables) entire ∙ sym c.in_ok-batch.ensures.fields in
     let read : read_batch held ≡ Ok (t.field-0-0, batch_fields batch) =
     subst (λ (f : BatchFields). read_batch held ≡ Ok (t.field-0-0, f)) fields
     (ap read_batch (sym c.deref.ensures.value) ∙ t.ensures.reads) in

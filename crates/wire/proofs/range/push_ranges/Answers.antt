@@ -4,8 +4,8 @@ use Rattle.std.proofs.lemmas.List.{length-append}
 use Rattle.std.proofs.Math.Seq.{drop-length, take-length}
 use Rattle.wire.specs.Lying.{range_read, index_of}
 use Rattle.wire.specs.Reading.{range_at, many_at}
-use Rattle.wire.proofs.Loop.{goes_on, ends, is_done, with_none}
-use Rattle.wire.proofs.Appending.{pushed_behind, front_stays, apart_pushed}
+use Rattle.wire.proofs.Loop.{continues, ends, is_done, with_none}
+use Rattle.wire.proofs.Appending.{pushed_after, front_stays, apart_pushed}
 use Rattle.wire.proofs.range.push_ranges.Goals as goal
 
 pub loop-init : goal.loop-init
@@ -38,8 +38,8 @@ loop-preserved c =
     let is = c.in_ok-push.ensures.items in
     let least : n ≤ length done = omega (arith, c.loop.invariant.2) in
     let pushed : map (range_read frame) (drop n new) ≡ map (range_read frame) (drop n done) ++ range_read frame span ∷ [] =
-    pushed_behind (range_read frame) n done new span least is in (
-      rw pushed (goes_on (range_at c.args.version)
+    pushed_after (range_read frame) n done new span least is in (
+      rw pushed (continues (range_at c.args.version)
           (map (range_read frame) (drop n done)) c.args.count c.loop.counter c.loop.rest.now
           (range_read frame span) c.in_ok-span.after.now
           (many_at (range_at c.args.version) c.args.count c.args.bytes.now) c.loop-test.true

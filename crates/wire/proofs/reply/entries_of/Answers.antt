@@ -3,7 +3,7 @@ use Rattle.std.proofs.lemmas.Result.{err_from_is_err_and}
 use Rattle.std.proofs.lemmas.List.{map_push}
 use Rattle.wire.specs.Fields.{entry_fields}
 use Rattle.wire.specs.Reading.{entry_at, many_at}
-use Rattle.wire.proofs.Loop.{goes_on, ends, is_done}
+use Rattle.wire.proofs.Loop.{continues, ends, is_done}
 use Rattle.wire.proofs.reply.entries_of.Goals as goal
 
 pub returns-in_err-entry-clause-reads : goal.returns-in_err-entry-clause-reads
@@ -20,7 +20,7 @@ loop-preserved c =
     let pushed : map entry_fields c.push.new.self.items
     ≡ map entry_fields c.loop.entries.items ++ entry_fields entry ∷ [] =
     rw c.in_ok-push.ensures.items (map_push _ c.loop.entries.items entry) in (
-      rw pushed (goes_on entry_at (map entry_fields c.loop.entries.items) c.args.count c.loop.counter
+      rw pushed (continues entry_at (map entry_fields c.loop.entries.items) c.args.count c.loop.counter
           c.loop.rest.now (entry_fields entry) c.in_ok-entry.after.now
           (many_at entry_at c.args.count c.args.bytes.now) c.loop-test.true c.in_ok-entry.ensures.reads
           c.loop.invariant.0),

@@ -1,7 +1,7 @@
 use Rattle.std.proofs.Common.{arith}
 use Rattle.std.proofs.lemmas.Result.{err_from_is_err_and}
 use Rattle.wire.specs.Reading.{places_at}
-use Rattle.wire.proofs.PlaceLists.{goes_on, ends, is_done, read_are_places}
+use Rattle.wire.proofs.PlaceLists.{continues, ends, is_done, read_are_places}
 use Rattle.wire.proofs.reply.places_of.Goals as goal
 
 pub returns-in_err-place-clause-reads : goal.returns-in_err-place-clause-reads
@@ -13,7 +13,7 @@ returns-in_err-place-clause-reads c =
 
 pub loop-preserved : goal.loop-preserved
 loop-preserved c = (
-  rw c.in_ok-push.ensures.items (goes_on c.loop.least c.loop.places.items c.args.count c.loop.counter
+  rw c.in_ok-push.ensures.items (continues c.loop.least c.loop.places.items c.args.count c.loop.counter
       c.loop.rest.now c.in_ok-place.place c.in_ok-place.after.now
       (places_at 0 c.args.count c.args.bytes.now) c.loop-test.true c.in_ok-place.ensures.reads
       c.loop.invariant.0),

@@ -13,8 +13,8 @@ index_mut-requires c =
     let len : vec_len l.frame ≡ length l.frame.items = search rules in
     omega (arith, within, len, l.invariant.1)
 
-pub returns-clause-told : goal.returns-clause-told
-returns-clause-told c =
+pub returns-clause-reported : goal.returns-clause-reported
+returns-clause-reported c =
     let old = c.args.frame.now in
     let len : vec_len old ≡ length old.items = search rules in
     sealed_all old.items c.loop-span.frame.items c.args.spans.now c.loop-span.span-index

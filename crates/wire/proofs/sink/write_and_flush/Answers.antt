@@ -1,14 +1,14 @@
 use Rattle.std.proofs.Common.{length, sym, subst}
 use Rattle.std.proofs.Math.Seq.{take-length}
 use Rattle.std.specs.Io.KnownBytes.{Appends}
-use Rattle.wire.proofs.callers.Given.{beginning, on_err_weaker}
+use Rattle.wire.proofs.callers.Given.{prefix, on_err_weaker}
 use Rattle.wire.proofs.sink.write_and_flush.Goals as goal
 
-pub returns-clause-beginning : goal.returns-clause-beginning
-returns-clause-beginning g c =
+pub returns-clause-prefix : goal.returns-clause-prefix
+returns-clause-prefix g c =
     let given = g.W.Sink.given in
     let bytes = c.args.bytes.now in
     on_err_weaker c.flush.result
-    (beginning (given c.args.writer.now) (given c.write_all.new.writer) (given c.flush.new.self) bytes (length bytes)
-    (subst (Appends (given c.args.writer.now) (given c.write_all.new.writer)) (sym (take-length bytes)) c.in_ok-write_all.ensures.whole))
+    (prefix (given c.args.writer.now) (given c.write_all.new.writer) (given c.flush.new.self) bytes (length bytes)
+    (subst (Appends (given c.args.writer.now) (given c.write_all.new.writer)) (sym (take-length bytes)) c.in_ok-write_all.ensures.entire))
     c.flush.ensures.kept

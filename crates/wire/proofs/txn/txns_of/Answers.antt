@@ -4,7 +4,7 @@ use Rattle.keyspace.specs.Tables.{AreRows}
 use Rattle.keyspace.proofs.callers.Rows.{rows_more}
 use Rattle.wire.specs.Lying.{txn_read, txns_read}
 use Rattle.wire.specs.Reading.{txn_at, many_at}
-use Rattle.wire.proofs.Loop.{goes_on, ends, is_done}
+use Rattle.wire.proofs.Loop.{continues, ends, is_done}
 use Rattle.wire.proofs.Appending.{row_pushed}
 use Rattle.wire.proofs.txn.txns_of.Goals as goal
 
@@ -24,16 +24,16 @@ loop-preserved c =
     let new = c.row_of.new.spans.items in
     let rows = c.loop.rows.items in
     let is = c.in_ok-push.ensures.items in
-    let told = c.in_ok-row.ensures in (
-      rw (row_pushed frame old new rows c.push.new.self.items row c.loop.invariant.1 told.front is)
-          (goes_on (txn_at c.args.version)
+    let reported = c.in_ok-row.ensures in (
+      rw (row_pushed frame old new rows c.push.new.self.items row c.loop.invariant.1 reported.front is)
+          (continues (txn_at c.args.version)
           (txns_read frame old 0 rows) c.args.count c.loop.counter c.loop.rest.now
           (txn_read frame new (length old) row) c.in_ok-row.after.now
           (many_at (txn_at c.args.version) c.args.count c.args.bytes.now) c.loop-test.true
-          told.reads c.loop.invariant.0),
-      rw is (subst (AreRows 0 (rows ++ row ∷ [])) told.row.1 (rows_more 0 rows (length old) row c.loop.invariant.1 told.row.0)),
-      told.rest,
-      told.apart,
+          reported.reads c.loop.invariant.0),
+      rw is (subst (AreRows 0 (rows ++ row ∷ [])) reported.row.1 (rows_more 0 rows (length old) row c.loop.invariant.1 reported.row.0)),
+      reported.rest,
+      reported.apart,
     )
 
 pub returns-clause-reads : goal.returns-clause-reads

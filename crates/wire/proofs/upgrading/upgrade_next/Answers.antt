@@ -6,7 +6,7 @@ use Rattle.keyspace.specs.declared.batch.Batch.{Batch}
 use Rattle.wire.specs.NextFrame.{TakesFrame}
 use Rattle.wire.specs.Upgrade.{new_frame}
 use Rattle.wire.proofs.NewFrames.{outgrows, begun}
-use Rattle.wire.proofs.FrameParts.{not_read, whole_part}
+use Rattle.wire.proofs.FrameParts.{not_read, entire_part}
 use Rattle.wire.proofs.upgrading.upgrade_next.Goals as goal
 
 pub returns-in_err-frame-clause-refused : goal.returns-in_err-frame-clause-refused
@@ -35,7 +35,7 @@ returns-in-Ok-clause-frame g c more =
     c.deref.ensures.value ∙ c.in_ok-frame.ensures.spelled.text in
     let before = g.W.Sink.given c.args.writer.now in
     let after = g.W.Sink.given c.write_all.new.writer in
-    (batch, takes, subst (λ (bytes : List ℕ). Appends before after bytes) text c.in-Ok.ensures.whole)
+    (batch, takes, subst (λ (bytes : List ℕ). Appends before after bytes) text c.in-Ok.ensures.entire)
 
 pub returns-clause-broken_off : goal.returns-clause-broken_off
 returns-clause-broken_off g c is_write =
@@ -48,10 +48,10 @@ returns-clause-broken_off g c is_write =
     c.deref.ensures.value ∙ c.in_ok-frame.ensures.spelled.text in
     let before = g.W.Sink.given c.args.writer.now in
     let after = g.W.Sink.given c.write_all.new.writer in
-    let part = begun before after c.deref.result.now c.in-Err.ensures.beginning in (
+    let part = begun before after c.deref.result.now c.in-Err.ensures.prefix in (
       batch,
       takes,
-      subst (λ (whole : List ℕ). IfSome after (λ _. (bytes rest : List ℕ) × (whole ≡ bytes ++ rest)
+      subst (λ (entire : List ℕ). IfSome after (λ _. (bytes rest : List ℕ) × (entire ≡ bytes ++ rest)
           × Appends before after bytes)) text part,
     )
 
@@ -64,4 +64,4 @@ returns-in_err-frame-clause-part g c =
     let batch = c.in-Some.batch in
     let takes = subst (λ (found : Option Batch). IfSome found
     (TakesFrame old new)) c.in-Some.is c.in_ok-batch.ensures.batch in
-    rw (p.1, p.2) (λ not_write. whole_part e old new batch takes (not_read e c.in_err-frame.ensures.err))
+    rw (p.1, p.2) (λ not_write. entire_part e old new batch takes (not_read e c.in_err-frame.ensures.err))

@@ -22,7 +22,7 @@ loop-number-preserved g c =
       received = c.in_ok-batch.ensures.received;
     } in
     let grown = subst (λ (bytes : List ℕ). Appends between after bytes)
-    c.deref.ensures.value c.in_ok-write_all.ensures.whole in (
+    c.deref.ensures.value c.in_ok-write_all.ensures.entire in (
       one_more c.args.plan.shape c.args.plan.transactions c.loop-number.number batch c.in_ok-frame.frame.items
           before between after c.loop-number.invariant.0 is_batch c.in_ok-frame.ensures.spelled grown,
       c.in_ok-write_all.ensures.ok ∙ c.loop-number.invariant.1,
@@ -62,7 +62,7 @@ returns-in_err-write_all-clause-broken_off g c =
       received = c.in_ok-batch.ensures.received;
     } in
     let begun = subst (λ (bytes : List ℕ). IfSome after (λ _. (n : ℕ) × Appends between after (take n bytes)))
-    c.deref.ensures.value c.in_err-write_all.ensures.beginning in
+    c.deref.ensures.value c.in_err-write_all.ensures.prefix in
     on_err c.from_residual-in_err-write_all.result _
     (write_breaks c.args.plan.shape c.args.plan.transactions c.loop-number.number c.args.plan.batches batch
     c.in_ok-frame.frame.items before between after (omega (arith, c.loop-number-test.true)) c.loop-number.invariant.0

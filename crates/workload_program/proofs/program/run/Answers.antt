@@ -9,10 +9,10 @@ returns-in-Ok-false-clause-written g c = λ done long.
     let refused = c.in-Ok-false.field-0-test in
     inr (c.write_asked.ensures.nothing cc, c.answer.ensures.shown done)
 
-pub returns-in-Ok-false-clause-told : goal.returns-in-Ok-false-clause-told
-returns-in-Ok-false-clause-told g c = λ one. elim (c.answer.ensures.memory one) [
+pub returns-in-Ok-false-clause-reported : goal.returns-in-Ok-false-clause-reported
+returns-in-Ok-false-clause-reported g c = λ one. elim (c.answer.ensures.memory one) [
   | inl failed ↦ (Write, (c.answer.ensures.failed failed).1)
-  | inr told ↦ (Memory, told)
+  | inr reported ↦ (Memory, reported)
 ]
 
 pub returns-in-Ok-false-clause-mistaken : goal.returns-in-Ok-false-clause-mistaken

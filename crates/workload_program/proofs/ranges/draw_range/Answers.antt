@@ -1,7 +1,7 @@
 use Rattle.std.proofs.Common.{rules, ◌≡◌, ◌<◌, ◌≤◌, ◌+◌, ◌∙◌, Err, ap, subst, arith, [], ◌∷◌, ◌++◌}
 use Rattle.workload_program.specs.Txns.{numbered_key, point}
 use Rattle.workload_program.specs.Versions.{keys_of}
-use Rattle.workload_program.proofs.KeyOrder.{keys_in_order, longer_behind, not_inverted}
+use Rattle.workload_program.proofs.KeyOrder.{keys_in_order, longer_after, not_inverted}
 use Rattle.workload_program.proofs.ranges.draw_range.Goals as goal
 
 pub returns-in_ok-checked-in-SkipListTest : goal.returns-in_ok-checked-in-SkipListTest
@@ -41,5 +41,5 @@ returns-in_err-checked-in-Points-2-clause-memory c =
     ∙ ap (λ bytes. bytes ++ 0 ∷ []) c.in_ok-end-in-Points.ensures.point in
     let refused = c.in_err-checked-in-Points-2.ensures in
     let same : c.begin-in-Points.inside.bytes ≡ c.in_ok-begin-in-Points.begin = search rules in
-    absurd (not_inverted _ _ key (key ++ 0 ∷ []) (same ∙ begin) end (longer_behind key (0 ∷ []))
+    absurd (not_inverted _ _ key (key ++ 0 ∷ []) (same ∙ begin) end (longer_after key (0 ∷ []))
     (refused.inverted.0 (ap Err refused.err)))

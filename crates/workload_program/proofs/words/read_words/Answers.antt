@@ -1,6 +1,6 @@
 use Rattle.std.proofs.Common.{[], ◌∷◌, string_bytes, sym, ◌∙◌, ap, subst}
 use Rattle.workload_program.specs.declared.plan.TheConstants.{MAX_TRANSACTIONS}
-use Rattle.workload_program.specs.Words.{IsNumberTo}
+use Rattle.workload_program.specs.Arguments.{IsNumberTo}
 use Rattle.workload_program.proofs.FourWords.{if_none, are_four, numbers_of}
 use Rattle.workload_program.proofs.words.read_words.Goals as goal
 

@@ -1,5 +1,5 @@
 use Rattle.std.proofs.Common.{arith, length, ap}
-use Rattle.keyspace.proofs.callers.Putting.{length-told}
+use Rattle.keyspace.proofs.callers.Putting.{length-reported}
 use Rattle.archcaraway_c.proofs.Joining.{tables_same}
 use Rattle.archcaraway_c.proofs.batch_object.BatchObject.add.Goals as goal
 use Rattle.archcaraway_c.proofs.batch_object.BatchObject.add.Goals.{in-Ok, in-Err-put}
@@ -13,7 +13,7 @@ put-requires-clause-few c =
       c.if-room-eq0.false,
       tables.rows.ok.0,
       ap length c.self.view_is,
-      length-told tables.buffer.items tables.spans.items 0 tables.rows.items,
+      length-reported tables.buffer.items tables.spans.items 0 tables.rows.items,
     )
 
 pub invariant_of-self : goal.invariant_of-self
@@ -29,7 +29,7 @@ invariant_of-self c =
           c.if-room-eq0.false,
           tables.rows.ok.0,
           ap length c.self.view_is,
-          length-told tables.buffer.items tables.spans.items 0 tables.rows.items,
+          length-reported tables.buffer.items tables.spans.items 0 tables.rows.items,
         ),
       )
       | in-Err-put w ↦ (

@@ -1,5 +1,5 @@
 use Rattle.std.proofs.Common.{arith, length, ap}
-use Rattle.keyspace.proofs.callers.Putting.{length-told}
+use Rattle.keyspace.proofs.callers.Putting.{length-reported}
 use Rattle.archcaraway_c.proofs.Joining.{tables_same}
 use Rattle.archcaraway_c.proofs.batch_object.BatchObject.append.Goals as goal
 use Rattle.archcaraway_c.proofs.batch_object.BatchObject.append.Goals.{in-Ok, in-Err}
@@ -17,8 +17,8 @@ put_all-requires-clause-few c =
       others.rows.ok.0,
       ap length c.self.view_is,
       ap length c.other.view_is,
-      length-told tables.buffer.items tables.spans.items 0 tables.rows.items,
-      length-told others.buffer.items others.spans.items 0 others.rows.items,
+      length-reported tables.buffer.items tables.spans.items 0 tables.rows.items,
+      length-reported others.buffer.items others.spans.items 0 others.rows.items,
     )
 
 pub invariant_of-self : goal.invariant_of-self
@@ -38,8 +38,8 @@ invariant_of-self c =
           others.rows.ok.0,
           ap length c.self.view_is,
           ap length c.other.view_is,
-          length-told tables.buffer.items tables.spans.items 0 tables.rows.items,
-          length-told others.buffer.items others.spans.items 0 others.rows.items,
+          length-reported tables.buffer.items tables.spans.items 0 tables.rows.items,
+          length-reported others.buffer.items others.spans.items 0 others.rows.items,
         ),
       )
       | in-Err w ↦ (

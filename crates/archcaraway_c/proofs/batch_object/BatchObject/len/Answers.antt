@@ -1,5 +1,5 @@
 use Rattle.std.proofs.Common.{arith, ap, length}
-use Rattle.keyspace.proofs.callers.Putting.{length-told}
+use Rattle.keyspace.proofs.callers.Putting.{length-reported}
 use Rattle.archcaraway_c.proofs.batch_object.BatchObject.len.Goals as goal
 
 pub returns-clause-count : goal.returns-clause-count
@@ -10,5 +10,5 @@ returns-clause-count c =
       c.len.ensures,
       tables.rows.ok.0,
       ap length c.self.view_is,
-      length-told tables.buffer.items tables.spans.items 0 tables.rows.items,
+      length-reported tables.buffer.items tables.spans.items 0 tables.rows.items,
     )

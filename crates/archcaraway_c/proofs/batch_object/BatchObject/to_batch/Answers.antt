@@ -1,7 +1,7 @@
 use Rattle.std.proofs.Common.{arith, ap, length}
 use Rattle.std.proofs.lemmas.List.{length-map}
 use Rattle.keyspace.specs.Fields.{txn_fields}
-use Rattle.keyspace.proofs.callers.Putting.{length-told}
+use Rattle.keyspace.proofs.callers.Putting.{length-reported}
 use Rattle.archcaraway_c.proofs.batch_object.BatchObject.to_batch.Goals as goal
 
 pub new-requires-clause-few : goal.new-requires-clause-few
@@ -14,5 +14,5 @@ new-requires-clause-few c =
       ap length c.self.view_is,
       ap length c.in_ok-txns.ensures.txns,
       length-map c.in_ok-txns.txns txn_fields,
-      length-told tables.buffer.items tables.spans.items 0 tables.rows.items,
+      length-reported tables.buffer.items tables.spans.items 0 tables.rows.items,
     )

@@ -4,9 +4,9 @@ use Rattle.std.proofs.lemmas.List.{length-map}
 use Rattle.keyspace.specs.declared.row.Row.{Row}
 use Rattle.keyspace.specs.Fields.{TxnLimits}
 use Rattle.keyspace.specs.Putting.{ArePut}
-use Rattle.keyspace.specs.Tables.{txns_told, AreTables}
+use Rattle.keyspace.specs.Tables.{txns_of_tables, AreTables}
 use Rattle.keyspace.proofs.callers.Putting.{length-put, few_spans, txn_put}
-use Rattle.archcaraway_c.specs.BatchObject.{range_given, txn_given, span_behind}
+use Rattle.archcaraway_c.specs.BatchObject.{range_given, txn_given, span_after}
 use Rattle.archcaraway_c.proofs.Appending.{hold_given, put_first, put_second}
 use Rattle.archcaraway_c.proofs.batch_tables.BatchTables.append.Goals as goal
 use Rattle.archcaraway_c.proofs.batch_tables.BatchTables.append.Goals.{Start, In_ok-push_ranges, In_ok-push_ranges-2, In_ok-push}
@@ -24,7 +24,7 @@ reads_put c =
     let keys = c.args.keys.now in
     let reads = c.args.reads.now in
     let before : c.len-before.result ≡ length old.buffer.items = c.len-before.ensures ∙ old.buffer.ok.0 in
-    let pushed = c.in_ok-push_ranges.ensures.pushed ∙ ap (λ n. old.spans.items ++ map (span_behind n) reads) before in
+    let pushed = c.in_ok-push_ranges.ensures.pushed ∙ ap (λ n. old.spans.items ++ map (span_after n) reads) before in
     subst₂ (λ bytes spans. ArePut old.buffer.items old.spans.items (map (range_given keys) reads) bytes spans)
     (sym c.in_ok-extend_from_slice.ensures.items) (sym pushed)
     (put_first old.buffer.items keys old.spans.items reads c.requires.reads)
@@ -39,7 +39,7 @@ writes_put c =
     let writes = c.args.writes.now in
     let spans₁ = c.push_ranges.new.spans.items in
     let before : c.len-before.result ≡ length old.buffer.items = c.len-before.ensures ∙ old.buffer.ok.0 in
-    let pushed = c.in_ok-push_ranges-2.ensures.pushed ∙ ap (λ n. spans₁ ++ map (span_behind n) writes) before in
+    let pushed = c.in_ok-push_ranges-2.ensures.pushed ∙ ap (λ n. spans₁ ++ map (span_after n) writes) before in
     subst₂ (λ bytes spans. ArePut bytes spans₁ (map (range_given keys) writes) bytes spans)
     (sym c.in_ok-extend_from_slice.ensures.items) (sym pushed)
     (put_second old.buffer.items keys spans₁ writes c.requires.writes)
@@ -72,8 +72,8 @@ limits c =
 
 all_put : (c : In_ok-push)
     → AreTables c.extend_from_slice.new.self.items c.push_ranges-2.new.spans.items c.push.new.self.items
-    × (txns_told c.extend_from_slice.new.self.items c.push_ranges-2.new.spans.items c.push.new.self.items
-    ≡ txns_told c.args.self.now.buffer.items c.args.self.now.spans.items c.args.self.now.rows.items
+    × (txns_of_tables c.extend_from_slice.new.self.items c.push_ranges-2.new.spans.items c.push.new.self.items
+    ≡ txns_of_tables c.args.self.now.buffer.items c.args.self.now.spans.items c.args.self.now.rows.items
     ++ txn_given c.args.snapshot c.args.marked c.args.keys.now c.args.reads.now c.args.writes.now ∷ [])
 all_put c =
     let at = goal.at.returns-clause-tables c in
@@ -86,7 +86,7 @@ all_put c =
     let spans₂ = c.push_ranges-2.new.spans in
     let fits : FitsSigned w64 c.args.snapshot = search rules in
     subst (λ (rows : List Row). AreTables buffer₁.items spans₂.items rows
-    × (txns_told buffer₁.items spans₂.items rows ≡ txns_told old.buffer.items old.spans.items old.rows.items ++ txn ∷ []))
+    × (txns_of_tables buffer₁.items spans₂.items rows ≡ txns_of_tables old.buffer.items old.spans.items old.rows.items ++ txn ∷ []))
     (sym c.in_ok-push.ensures.items)
     (txn_put old.buffer.items buffer₁.items buffer₁.items old.spans.items spans₁.items spans₂.items old.rows.items _
     txn c.requires.tables (limits at.Start) (reads_put at.In_ok-push_ranges) (writes_put at.In_ok-push_ranges-2)
@@ -96,5 +96,5 @@ all_put c =
 pub returns-clause-tables : goal.returns-clause-tables
 returns-clause-tables c = (all_put c).0
 
-pub returns-clause-told : goal.returns-clause-told
-returns-clause-told c = (all_put c).1
+pub returns-clause-reported : goal.returns-clause-reported
+returns-clause-reported c = (all_put c).1

@@ -4,7 +4,7 @@ use Rattle.keyspace.specs.declared.span.Span.{Span}
 use Rattle.keyspace.specs.declared.row.Row.{Row}
 use Rattle.keyspace.proofs.callers.Putting.{few_spans}
 use Rattle.archcaraway_c.specs.Moving.{span_moved, row_moved}
-use Rattle.archcaraway_c.proofs.Joining.{rows_end, tables_joined, told_joined, tables_same, told_same}
+use Rattle.archcaraway_c.proofs.Joining.{rows_end, tables_joined, reported_joined, tables_same, reported_same}
 use Rattle.archcaraway_c.proofs.batch_tables.BatchTables.append_all.Goals as goal
 use Rattle.archcaraway_c.proofs.batch_tables.BatchTables.append_all.Goals.{In_ok-extend_from_slice}
 
@@ -66,12 +66,12 @@ returns-clause-tables c =
     (tables_joined s.buffer.items s.spans.items s.rows.items c.requires.tables o.buffer.items o.spans.items o.rows.items
     c.requires.others)
 
-pub returns-clause-told : goal.returns-clause-told
-returns-clause-told c =
-    let at = goal.at.returns-clause-told c in
+pub returns-clause-reported : goal.returns-clause-reported
+returns-clause-reported c =
+    let at = goal.at.returns-clause-reported c in
     let s = c.args.self.now in
     let o = c.args.other.now in
-    told_same _ _ _ _ _ _ (buffer_is at.In_ok-extend_from_slice) (spans_are at.In_ok-extend_from_slice)
+    reported_same _ _ _ _ _ _ (buffer_is at.In_ok-extend_from_slice) (spans_are at.In_ok-extend_from_slice)
     (rows_are at.In_ok-extend_from_slice)
-    ∙ told_joined s.buffer.items s.spans.items s.rows.items c.requires.tables o.buffer.items o.spans.items o.rows.items
+    ∙ reported_joined s.buffer.items s.spans.items s.rows.items c.requires.tables o.buffer.items o.spans.items o.rows.items
     c.requires.others

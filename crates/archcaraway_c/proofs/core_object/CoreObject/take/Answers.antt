@@ -13,25 +13,25 @@ on_ok X (Err e) f = tt
 
 pub returns-clause-room : goal.returns-clause-room
 returns-clause-room c =
-    let goes_on = ap (λ (parts : CoreParts). parts.core.stop) c.self.view_is ∙ c.requires.goes_on in
+    let continues = ap (λ (parts : CoreParts). parts.core.stop) c.self.view_is ∙ c.requires.continues in
     subst (λ (parts : CoreParts). OnOk c.admit.result (¬ IsGateFull parts.core c.args.batch)) c.self.view_is
     (on_ok _ c.admit.result (λ x is full.
-    let both = sym is ∙ (c.admit.ensures.gate_full goes_on).1 full in
+    let both = sym is ∙ (c.admit.ensures.gate_full continues).1 full in
     absurd cc))
 
 pub returns-clause-stops : goal.returns-clause-stops
 returns-clause-stops c =
-    let goes_on = ap (λ (parts : CoreParts). parts.core.stop) c.self.view_is ∙ c.requires.goes_on in
+    let continues = ap (λ (parts : CoreParts). parts.core.stop) c.self.view_is ∙ c.requires.continues in
     subst (λ (parts : CoreParts). IfErr c.admit.result (λ stop.
     StopsAt parts.core c.admit.new.self c.args.proxy c.args.batch stop)) c.self.view_is
     (on_err _ _ c.admit.result (λ stop is met. record {
       met = met;
-      taken = λ log given stands. c.admit.ensures.stands goes_on log given stands;
+      taken = λ log given stands. c.admit.ensures.stands continues log given stands;
       gate_full = (
-        λ full. (c.admit.ensures.gate_full goes_on).0 (is ∙ ap Err full),
+        λ full. (c.admit.ensures.gate_full continues).0 (is ∙ ap Err full),
         λ full.
-            let both = sym is ∙ (c.admit.ensures.gate_full goes_on).1 full in
+            let both = sym is ∙ (c.admit.ensures.gate_full continues).1 full in
             cc,
       );
-      arena_full = λ full. c.admit.ensures.arena_full goes_on (is ∙ ap Err full);
+      arena_full = λ full. c.admit.ensures.arena_full continues (is ∙ ap Err full);
     }) c.admit.ensures.stops)

@@ -5,7 +5,7 @@ use Rattle.keyspace.specs.Writes.{writes_of}
 use Rattle.conflict.specs.ConflictSet.{SetState}
 use Rattle.archcaraway_c.specs.Judging.{JudgesBatch, verdict_numbers}
 use Rattle.archcaraway_c.specs.SetObject.{StopsAt}
-use Rattle.archcaraway_c.proofs.WhenFull.{met_behind, parts_behind}
+use Rattle.archcaraway_c.proofs.WhenFull.{met_after, parts_after}
 use Rattle.archcaraway_c.proofs.set_object.SetObject.judge_batch.Goals as goal
 
 pub invariant_of-self : goal.invariant_of-self
@@ -16,7 +16,7 @@ invariant_of-self c =
     let before = c.self.invariant.remembers.1 in
     record {
       resolved = λ _. c.in-Ok.ensures.resolved ∙ sym (to_z-of_z w64 batch.version fits);
-      goes_on = λ _. c.in-Ok.ensures.goes_on.1;
+      continues = λ _. c.in-Ok.ensures.continues.1;
       remembers = (
         ws ++ writes_of batch c.in-Ok.reply,
         record {
@@ -43,20 +43,20 @@ returns-in-Ok-clause-judges c =
       reply = reply;
       answered = ap (λ n. take n verdicts) (sym count) ∙ written;
       judged = c.in-Ok.ensures.judged;
-      goes_on = record {
+      continues = record {
         resolved = c.in-Ok.ensures.resolved;
         window = c.in-Ok.ensures.window;
         limit = c.in-Ok.ensures.limit;
-        stop = ap (λ (set : SetState). set.stop) c.self.view_is ∙ c.requires.goes_on;
+        stop = ap (λ (set : SetState). set.stop) c.self.view_is ∙ c.requires.continues;
         covers = c.in-Ok.ensures.covers;
       };
     })
 
 pub invariant_of-self-in-Err : goal.invariant_of-self-in-Err
 invariant_of-self-in-Err c =
-    let none : c.self.inside.stop ≡ None = ap (λ (set : SetState). set.stop) c.self.view_is ∙ c.requires.goes_on in
+    let none : c.self.inside.stop ≡ None = ap (λ (set : SetState). set.stop) c.self.view_is ∙ c.requires.continues in
     let ws = c.self.invariant.remembers.0 in
-    parts_behind c.args.when_full c.in-Err.stop c.self.inside.set c.resolve_when.new.self _ c.self.inside.stop c.stop_for-self-inside.result
+    parts_after c.args.when_full c.in-Err.stop c.self.inside.set c.resolve_when.new.self _ c.self.inside.stop c.stop_for-self-inside.result
     c.self.invariant none c.stop_for-self-inside.ensures.stop (λ refuse full. c.in-Err.ensures.refused refuse (ap Err full))
     (ws, c.in-Err.ensures.kept ws c.self.invariant.remembers.1)
 
@@ -64,23 +64,23 @@ pub returns-in-Err-clause-stops : goal.returns-in-Err-clause-stops
 returns-in-Err-clause-stops c =
     let stop = c.in-Err.stop in
     let w = c.args.when_full in
-    let none : c.self.inside.stop ≡ None = ap (λ (set : SetState). set.stop) c.self.view_is ∙ c.requires.goes_on in
-    let going = c.self.invariant.goes_on none in
-    let told = c.in-Err.ensures in (
+    let none : c.self.inside.stop ≡ None = ap (λ (set : SetState). set.stop) c.self.view_is ∙ c.requires.continues in
+    let going = c.self.invariant.continues none in
+    let reported = c.in-Err.ensures in (
       stop,
       search rules,
       subst (λ (set : SetState). StopsAt w set (record c.resolve_when.new.self { stop = c.stop_for-self-inside.result }) c.args.batch.now stop)
           c.self.view_is
           (record {
-            met_now = met_behind w stop c.self.inside.set c.resolve_when.new.self c.self.inside.stop c.stop_for-self-inside.result none
-                c.stop_for-self-inside.ensures.stop (λ refuse full. told.refused refuse (ap Err full));
-            window = told.window;
-            limit = told.limit;
+            met_now = met_after w stop c.self.inside.set c.resolve_when.new.self c.self.inside.stop c.stop_for-self-inside.result none
+                c.stop_for-self-inside.ensures.stop (λ refuse full. reported.refused refuse (ap Err full));
+            window = reported.window;
+            limit = reported.limit;
             full = λ is ws reply before judged.
-                told.full going (ap Err is) ws reply (record { covers = before.covers; rooted = before.rooted }) judged;
+                reported.full going (ap Err is) ws reply (record { covers = before.covers; rooted = before.rooted }) judged;
             no_room = λ is ws reply before judged.
-                told.no_room going (ap Err is) ws reply (record { covers = before.covers; rooted = before.rooted }) judged;
+                reported.no_room going (ap Err is) ws reply (record { covers = before.covers; rooted = before.rooted }) judged;
             memory = λ is ws reply before judged.
-                told.memory going (ap Err is) ws reply (record { covers = before.covers; rooted = before.rooted }) judged;
+                reported.memory going (ap Err is) ws reply (record { covers = before.covers; rooted = before.rooted }) judged;
           }),
     )

@@ -1,7 +1,7 @@
 use Rattle.std.proofs.Common.{rules, ◌≡◌, Err, None, ◌∙◌, ap, subst}
 use Rattle.conflict.specs.ConflictSet.{SetState}
 use Rattle.archcaraway_c.specs.SetObject.{Replies, StopsAt}
-use Rattle.archcaraway_c.proofs.WhenFull.{met_behind, parts_behind}
+use Rattle.archcaraway_c.proofs.WhenFull.{met_after, parts_after}
 use Rattle.archcaraway_c.proofs.set_object.SetObject.reply.Goals as goal
 
 pub returns-in-Ok-clause-replies : goal.returns-in-Ok-clause-replies
@@ -13,12 +13,12 @@ returns-in-Ok-clause-replies c =
       reply = r.reply;
       answered = r.answered;
       judged = r.judged;
-      goes_on = record {
-        resolved = r.goes_on.resolved;
-        window = r.goes_on.window;
-        limit = r.goes_on.limit;
-        stop = ap (λ (set : SetState). set.stop) c.self.view_is ∙ c.requires.goes_on;
-        covers = r.goes_on.covers;
+      continues = record {
+        resolved = r.continues.resolved;
+        window = r.continues.window;
+        limit = r.continues.limit;
+        stop = ap (λ (set : SetState). set.stop) c.self.view_is ∙ c.requires.continues;
+        covers = r.continues.covers;
       };
     })
 
@@ -26,14 +26,14 @@ pub returns-in-Err-clause-stops : goal.returns-in-Err-clause-stops
 returns-in-Err-clause-stops c =
     let stop = c.in-Err.stop in
     let w = c.args.when_full in
-    let none : c.self.inside.stop ≡ None = ap (λ (set : SetState). set.stop) c.self.view_is ∙ c.requires.goes_on in
+    let none : c.self.inside.stop ≡ None = ap (λ (set : SetState). set.stop) c.self.view_is ∙ c.requires.continues in
     let s = c.in-Err.ensures.stops in (
       stop,
       search rules,
       subst (λ (set : SetState). StopsAt w set (record c.reply_to.new.set { stop = c.stop_for-self-inside.result }) c.args.batch.now stop)
           c.self.view_is
           (record {
-            met_now = met_behind w stop c.self.inside.set c.reply_to.new.set c.self.inside.stop c.stop_for-self-inside.result none
+            met_now = met_after w stop c.self.inside.set c.reply_to.new.set c.self.inside.stop c.stop_for-self-inside.result none
                 c.stop_for-self-inside.ensures.stop (λ refuse full. c.in-Err.ensures.refused refuse (ap Err full));
             window = s.window;
             limit = s.limit;
@@ -48,7 +48,7 @@ returns-in-Err-clause-stops c =
 
 pub invariant_of-self-in-Err : goal.invariant_of-self-in-Err
 invariant_of-self-in-Err c =
-    let none : c.self.inside.stop ≡ None = ap (λ (set : SetState). set.stop) c.self.view_is ∙ c.requires.goes_on in
-    parts_behind c.args.when_full c.in-Err.stop c.self.inside.set c.reply_to.new.set _ c.self.inside.stop c.stop_for-self-inside.result
+    let none : c.self.inside.stop ≡ None = ap (λ (set : SetState). set.stop) c.self.view_is ∙ c.requires.continues in
+    parts_after c.args.when_full c.in-Err.stop c.self.inside.set c.reply_to.new.set _ c.self.inside.stop c.stop_for-self-inside.result
     c.self.invariant none c.stop_for-self-inside.ensures.stop (λ refuse full. c.in-Err.ensures.refused refuse (ap Err full))
     c.in-Err.ensures.remembers

@@ -63,6 +63,6 @@ loop-size-preserved g c =
             c.fill_up.ensures.other_sizes s other,
             c.loop-size.invariant.most s size few,
           ));
-      later = λ s behind. c.fill_up.ensures.other_sizes s (λ same. omega (arith, same, behind))
+      later = λ s following. c.fill_up.ensures.other_sizes s (λ same. omega (arith, same, following))
           ∙ c.loop-size.invariant.later s (omega arith);
     }

@@ -24,8 +24,8 @@ use Rattle.conflict.specs.ConflictSet.{
 use Rattle.conflict.specs.declared.error.SetStop.{SetStop}
 use Rattle.conflict.specs.declared.error.SetStop.TheVariants.{Memory, ArenaFull}
 use Rattle.conflict.specs.Pace.{IsPaced}
-use Rattle.conflict.proofs.Edges.{edge_rises, edge_below, edge_handed, at_most, from_least}
-use Rattle.conflict.proofs.Stopping.{refused_goes_on, memory_stops, refused_if}
+use Rattle.conflict.proofs.Edges.{edge_rises, edge_below, edge_passed, at_most, from_least}
+use Rattle.conflict.proofs.Stopping.{refused_continues, memory_stops, refused_if}
 use Rattle.conflict.proofs.conflict_set.ConflictSet.resolve_when.Goals as goal
 
 pub resolve_at-requires : goal.resolve_at-requires
@@ -36,7 +36,7 @@ resolve_at-requires c =
     let given = c.edge_of-edge.result in
     let fits : SFits w64 given = search rules in
     let window_fits : SFits w64 inside.window = search rules in
-    let is = edge_handed inside.window given b window_fits fits c.edge_of-edge.ensures.edge in
+    let is = edge_passed inside.window given b window_fits fits c.edge_of-edge.ensures.edge in
     let rising : inside.resolved <ℤ b.version =
     subst (λ r. r <ℤ b.version) (sym (ap (λ (s : SetState). s.resolved) c.self.view_is)) c.requires.rising in
     record {
@@ -56,7 +56,7 @@ invariant_of-self c =
     let fits : SFits w64 given = search rules in
     let window_fits : SFits w64 inside.window = search rules in
     let version_fits : SFits w64 b.version = search rules in
-    let is = edge_handed inside.window given b window_fits fits c.edge_of-edge.ensures.edge in
+    let is = edge_passed inside.window given b window_fits fits c.edge_of-edge.ensures.edge in
     let set_now : IsSet (record {
       window = inside.window;
       resolved = b.version;
@@ -85,7 +85,7 @@ returns-in-Ok-clause-judged c = λ ws covers.
     let window_fits : SFits w64 c.self.inside.window = search rules in
     let window : c.self.inside.window ≡ c.args.self.now.window = ap (λ (s : SetState). s.window) c.self.view_is in
     let map : c.self.inside.map ≡ c.args.self.now.map = ap (λ (s : SetState). s.map) c.self.view_is in
-    let is = edge_handed c.self.inside.window given b window_fits fits c.edge_of-edge.ensures.edge
+    let is = edge_passed c.self.inside.window given b window_fits fits c.edge_of-edge.ensures.edge
     ∙ ap (λ w. edge w b) window in
     let entries = c.in-Ok.ensures.judged ws (subst (λ m. MapCovers m ws) (sym map) covers)
     ∙ ap (λ e. judge_txns e ws [] b.txns) is in
@@ -106,7 +106,7 @@ returns-in-Ok-clause-edge c =
     let fits : SFits w64 given = search rules in
     let window_fits : SFits w64 c.self.inside.window = search rules in
     let window : c.self.inside.window ≡ c.args.self.now.window = ap (λ (s : SetState). s.window) c.self.view_is in
-    c.in-Ok.ensures.edge ∙ edge_handed c.self.inside.window given b window_fits fits c.edge_of-edge.ensures.edge
+    c.in-Ok.ensures.edge ∙ edge_passed c.self.inside.window given b window_fits fits c.edge_of-edge.ensures.edge
     ∙ ap (λ w. edge w b) window
 
 pub returns-in-Ok-clause-rooted : goal.returns-in-Ok-clause-rooted
@@ -122,7 +122,7 @@ returns-in-Ok-clause-swept c = λ ws rooted.
     let window_fits : SFits w64 c.self.inside.window = search rules in
     let window : c.self.inside.window ≡ c.args.self.now.window = ap (λ (s : SetState). s.window) c.self.view_is in
     let map : c.self.inside.map ≡ c.args.self.now.map = ap (λ (s : SetState). s.map) c.self.view_is in
-    let is = edge_handed c.self.inside.window given b window_fits fits c.edge_of-edge.ensures.edge
+    let is = edge_passed c.self.inside.window given b window_fits fits c.edge_of-edge.ensures.edge
     ∙ ap (λ w. edge w b) window in
     let all = ws ++ writes_of b c.in-Ok.reply in
     let ranges = committed b.txns c.in-Ok.reply.entries in
@@ -138,7 +138,7 @@ returns-in-Ok-clause-paced c =
     let window_fits : SFits w64 c.self.inside.window = search rules in
     let window : c.self.inside.window ≡ c.args.self.now.window = ap (λ (s : SetState). s.window) c.self.view_is in
     let map : c.self.inside.map ≡ c.args.self.now.map = ap (λ (s : SetState). s.map) c.self.view_is in
-    let is = edge_handed c.self.inside.window given b window_fits fits c.edge_of-edge.ensures.edge
+    let is = edge_passed c.self.inside.window given b window_fits fits c.edge_of-edge.ensures.edge
     ∙ ap (λ w. edge w b) window in
     let ranges = committed b.txns c.in-Ok.reply.entries in
     subst (λ m. IsPaced (edge c.args.self.now.window b) b.version m c.resolve_at.new.steps ranges) map
@@ -160,7 +160,7 @@ returns-in-Err-clause-full c = λ going full ws reply remembers judged.
     let window_fits : SFits w64 c.self.inside.window = search rules in
     let window : c.self.inside.window ≡ c.args.self.now.window = ap (λ (s : SetState). s.window) c.self.view_is in
     let map : c.self.inside.map ≡ c.args.self.now.map = ap (λ (s : SetState). s.map) c.self.view_is in
-    let is = edge_handed c.self.inside.window given b window_fits fits c.edge_of-edge.ensures.edge
+    let is = edge_passed c.self.inside.window given b window_fits fits c.edge_of-edge.ensures.edge
     ∙ ap (λ w. edge w b) window in
     let only : reply.entries ≡ judge_txns (edge c.args.self.now.window b) ws [] b.txns =
     ap (λ (r : Reply). r.entries) (c.one_reply.ensures.only c.args.self.now.window ws b reply judged) in
@@ -178,7 +178,7 @@ returns-in-Ok-clause-room c =
     let window_fits : SFits w64 c.self.inside.window = search rules in
     let window : c.self.inside.window ≡ c.args.self.now.window = ap (λ (s : SetState). s.window) c.self.view_is in
     let map : c.self.inside.map ≡ c.args.self.now.map = ap (λ (s : SetState). s.map) c.self.view_is in
-    let is = edge_handed c.self.inside.window given b window_fits fits c.edge_of-edge.ensures.edge
+    let is = edge_passed c.self.inside.window given b window_fits fits c.edge_of-edge.ensures.edge
     ∙ ap (λ w. edge w b) window in
     let ranges = committed b.txns c.in-Ok.reply.entries in
     subst (λ m. HasRoomToWrite (raised (edge c.args.self.now.window b) m) ranges) map
@@ -192,7 +192,7 @@ returns-in-Err-clause-full_united c = λ going full ws reply remembers judged.
     let window_fits : SFits w64 c.self.inside.window = search rules in
     let window : c.self.inside.window ≡ c.args.self.now.window = ap (λ (s : SetState). s.window) c.self.view_is in
     let map : c.self.inside.map ≡ c.args.self.now.map = ap (λ (s : SetState). s.map) c.self.view_is in
-    let is = edge_handed c.self.inside.window given b window_fits fits c.edge_of-edge.ensures.edge
+    let is = edge_passed c.self.inside.window given b window_fits fits c.edge_of-edge.ensures.edge
     ∙ ap (λ w. edge w b) window in
     let only : reply.entries ≡ judge_txns (edge c.args.self.now.window b) ws [] b.txns =
     ap (λ (r : Reply). r.entries) (c.one_reply.ensures.only c.args.self.now.window ws b reply judged) in
@@ -211,7 +211,7 @@ returns-in-Err-clause-no_room c = λ going full ws reply remembers judged.
     let window_fits : SFits w64 c.self.inside.window = search rules in
     let window : c.self.inside.window ≡ c.args.self.now.window = ap (λ (s : SetState). s.window) c.self.view_is in
     let map : c.self.inside.map ≡ c.args.self.now.map = ap (λ (s : SetState). s.map) c.self.view_is in
-    let is = edge_handed c.self.inside.window given b window_fits fits c.edge_of-edge.ensures.edge
+    let is = edge_passed c.self.inside.window given b window_fits fits c.edge_of-edge.ensures.edge
     ∙ ap (λ w. edge w b) window in
     let only : reply.entries ≡ judge_txns (edge c.args.self.now.window b) ws [] b.txns =
     ap (λ (r : Reply). r.entries) (c.one_reply.ensures.only c.args.self.now.window ws b reply judged) in
@@ -229,7 +229,7 @@ returns-in-Err-clause-memory c = λ going memory ws reply remembers judged.
     let window_fits : SFits w64 c.self.inside.window = search rules in
     let window : c.self.inside.window ≡ c.args.self.now.window = ap (λ (s : SetState). s.window) c.self.view_is in
     let map : c.self.inside.map ≡ c.args.self.now.map = ap (λ (s : SetState). s.map) c.self.view_is in
-    let is = edge_handed c.self.inside.window given b window_fits fits c.edge_of-edge.ensures.edge
+    let is = edge_passed c.self.inside.window given b window_fits fits c.edge_of-edge.ensures.edge
     ∙ ap (λ w. edge w b) window in
     let only : reply.entries ≡ judge_txns (edge c.args.self.now.window b) ws [] b.txns =
     ap (λ (r : Reply). r.entries) (c.one_reply.ensures.only c.args.self.now.window ws b reply judged) in
@@ -246,7 +246,7 @@ returns-in-Err-clause-refused c = λ refuse full.
     let is : c.in-Err.stop ≡ ArenaFull = cc full in
     let steps = c.in-Err.ensures.refused refuse full in
     let stop : c.stop_for-self-inside.result ≡ c.self.inside.stop =
-    c.stop_for-self-inside.ensures.stop ∙ refused_goes_on c.args.when_full c.in-Err.stop refuse is ∙ sym c.in_default.is in
+    c.stop_for-self-inside.ensures.stop ∙ refused_continues c.args.when_full c.in-Err.stop refuse is ∙ sym c.in_default.is in
     ap₂ (λ (m : Steps) (stop : Option SetStop). record {
       window = c.self.inside.window;
       resolved = c.self.inside.resolved;

@@ -13,4 +13,4 @@ returns-then-from-to c =
     let count = count_of c.self.inside.count words _ c.self.view_is in
     let found = some_marked c.self.inside.count words c.args.from c.args.to (omega arith) in
     let said = rw c.deref.ensures.value at c.any_in_run.ensures.found in
-    record { marked = rw (← c.self.view_is) (λ told. found.0 (said.0 told), λ some. said.1 (found.1 some)) }
+    record { marked = rw (← c.self.view_is) (λ determined. found.0 (said.0 determined), λ some. said.1 (found.1 some)) }

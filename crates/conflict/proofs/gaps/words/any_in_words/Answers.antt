@@ -10,4 +10,4 @@ returns c =
     let said : IsTrue c.any.result ↔ Any (λ word. word ≢ 0) part = search rules in
     let found = any_of_words words c.args.first c.args.last c.requires.ordered c.requires.within
     (λ word. search (rules, c.type_inv.words)) in
-    record { found = (λ told. found.0 (said.0 told), λ bit. said.1 (found.1 bit)) }
+    record { found = (λ determined. found.0 (said.0 determined), λ bit. said.1 (found.1 bit)) }

@@ -3,30 +3,30 @@ use Rattle.std.specs.Prelude.{ℕ}
 use Rattle.std.proofs.lemmas.Option.{get_or_from_slice_get, same_Some, slice_get_within}
 use Rattle.std.proofs.lemmas.List.{get_or-map, length-map}
 use Rattle.keys.specs.Range.{IsEmpty}
-use Rattle.keys.specs.Ranks.{run, run_or_none}
-use Rattle.keys.proofs.callers.Ranks.{empty_if}
+use Rattle.keys.specs.GapRuns.{run, run_or_none}
+use Rattle.keys.proofs.callers.GapRuns.{empty_if}
 use Rattle.keys.specs.Key.{IsBefore, IsAtMost}
 use Rattle.keys.specs.declared.range.Range.{Range}
-use Rattle.conflict.specs.declared.union.Span.{Span}
+use Rattle.conflict.specs.declared.union.UnitedSpan.{UnitedSpan}
 use Rattle.conflict.specs.declared.union.Union.TheInside.{Inside}
 use Rattle.conflict.specs.Union.{AreSpanned, AreUnited, EndsAt, HaveRuns}
 use Rattle.conflict.proofs.Comparing.{at_most_from_le, before_unless_le, before_from_lt, at_most_unless_lt}
 use Rattle.conflict.proofs.LastSpan.{last_of, set_last, no_spans}
 use Rattle.conflict.proofs.Spanned.{spanned_at}
-use Rattle.conflict.proofs.UnionAdded.{united_first, united_behind, united_within, united_farther}
-use Rattle.conflict.proofs.union.Union.add.Goals.{In-Some, then-is_lt, else-is_lt, in-Some+then-not-are_told_apart+else-is_le, in-Some+else-not-are_told_apart, in_default}
+use Rattle.conflict.proofs.UnionAdded.{united_first, united_after, united_within, united_farther}
+use Rattle.conflict.proofs.union.Union.add.Goals.{In-Some, then-is_lt, else-is_lt, in-Some+then-not-are_known_apart+else-is_le, in-Some+else-not-are_known_apart, in_default}
 use Rattle.conflict.proofs.union.Union.add.Given as given
 use Rattle.conflict.proofs.union.Union.add.Goals as goal
 
-abbrev alone : ℕ → Span
+abbrev alone : ℕ → UnitedSpan
 alone index = record { begin = index; end = index }
 
 -- the range that the last span ends with
-last_ends : (ranges : List Range) (spans : List Span) (n : ℕ) (last : Span) (united : List Range) → AreSpanned ranges spans united
+last_ends : (ranges : List Range) (spans : List UnitedSpan) (n : ℕ) (last : UnitedSpan) (united : List Range) → AreSpanned ranges spans united
     → n ≡ length spans → 0 < n → last ≡ get_or spans (n - 1) last → (ending : Range) × (slice_get ranges last.end ≡ Some ending)
 last_ends ranges spans n last united spanned count some is =
     let at = spanned_at ranges spans united spanned (n - 1) last (omega (arith, count, some)) in
-    let ends = subst (λ (x : Span). EndsAt ranges x.end at.0.end) (sym is) at.2.ends in
+    let ends = subst (λ (x : UnitedSpan). EndsAt ranges x.end at.0.end) (sym is) at.2.ends in
     (ends.0, ends.1)
 
 -- the run of a range, of what it is ranked as
@@ -77,12 +77,12 @@ module _ (ranges : List Range) (runs : List (ℕ × ℕ)) (have : HaveRuns range
   ]
 
   -- so they are apart
-  behind_by_runs : (i j : ℕ) (first second : Range) (d e : ℕ × ℕ) → slice_get ranges i ≡ Some first
+  after_by_runs : (i j : ℕ) (first second : Range) (d e : ℕ × ℕ) → slice_get ranges i ≡ Some first
       → slice_get ranges j ≡ Some second → (0 < (get_or runs i d).1) × (0 < (get_or runs j e).0)
       → ((keys : List (List ℕ)) (a b : Range) → get_or runs i d ≡ run_or_none keys a
       → get_or runs j e ≡ run_or_none keys b → IsBefore a.end b.begin)
       → IsBefore first.end second.begin
-  behind_by_runs i j first second d e at_i at_j some apart =
+  after_by_runs i j first second d e at_i at_j some apart =
       let own = run_at ranges runs have i first d at_i in
       let next = run_at ranges runs have j second e at_j in
       subst (λ (a : Range). IsBefore a.end second.begin) (itself_if_ends i first (get_or runs i d) at_i own some.0)
@@ -167,7 +167,7 @@ returns g c =
     record {
       added = λ range added at filled earlier were.
           elim c.match-last_mut.branch [
-            | in-Some+then-not-are_told_apart+else-is_le w ↦
+            | in-Some+then-not-are_known_apart+else-is_le w ↦
                 let last = w.in-Some.last.now in
                 let ending = w.range.result in
                 let some : 0 < n = w.in-Some.ensures.variant.0 refl in
@@ -176,14 +176,14 @@ returns g c =
                 let same : w.range-range.result ≡ range = same_Some w.range-range.result range
                 (sym w.range-range.ensures.range ∙ at) in
                 let begin : w.begin.result.now ≡ range.begin = w.begin.ensures.bytes ∙ ap (λ (r : Range). r.begin) same in
-                let behind : IsBefore ending.end range.begin =
+                let following : IsBefore ending.end range.begin =
                 before_unless_le w.begin.result.now w.end-end.result.now range.begin ending.end w.cmp.result
                 w.is_le.result begin w.end-end.ensures.bytes w.cmp.ensures w.is_le.ensures w.if-is_le.false in
                 let after = c.in_ok-push.ensures.items ∙ ap (λ (u : Inside). u.spans.items ++ own ∷ []) w.self-inside-is
                 ∙ ap (λ xs. xs ++ own ∷ []) (set_last spans.items n last spans.ok.0 some) in
                 subst (λ xs. AreUnited ranges xs (added ++ range ∷ [])) (sym after)
-                (united_behind ranges c.args.index range at filled added front last ending w.range.ensures.range was behind)
-            | in-Some+else-not-are_told_apart w ↦
+                (united_after ranges c.args.index range at filled added front last ending w.range.ensures.range was following)
+            | in-Some+else-not-are_known_apart w ↦
                 let last = w.in-Some.last.now in
                 let some : 0 < n = w.in-Some.ensures.variant.0 refl in
                 let split = last_of spans.items n last spans.ok.0 some w.in-Some.ensures.value in
@@ -192,14 +192,14 @@ returns g c =
                 (subst (λ xs. AreSpanned ranges xs c.requires.spanned.0) (sym c.self.view_is) c.requires.spanned.1) spans.ok.0 some
                 w.in-Some.ensures.value in
                 let runs = c.args.runs.now in
-                let told = w.if-not-are_told_apart.false in
-                let behind : IsBefore ends.0.end range.begin =
-                behind_by_runs ranges runs c.requires.runs last.end c.args.index ends.0 range _ _ ends.1 at
-                (w.are_told_apart.ensures.filled told) (w.are_told_apart.ensures.apart told) in
+                let determined = w.if-not-are_known_apart.false in
+                let following : IsBefore ends.0.end range.begin =
+                after_by_runs ranges runs c.requires.runs last.end c.args.index ends.0 range _ _ ends.1 at
+                (w.are_known_apart.ensures.filled determined) (w.are_known_apart.ensures.apart determined) in
                 let after = c.in_ok-push.ensures.items ∙ ap (λ (u : Inside). u.spans.items ++ own ∷ []) w.self-inside-is
                 ∙ ap (λ xs. xs ++ own ∷ []) (set_last spans.items n last spans.ok.0 some) in
                 subst (λ xs. AreUnited ranges xs (added ++ range ∷ [])) (sym after)
-                (united_behind ranges c.args.index range at filled added front last ends.0 ends.1 was behind)
+                (united_after ranges c.args.index range at filled added front last ends.0 ends.1 was following)
             | in_default w ↦
                 let none = no_spans spans.items n spans.ok.0 w.in_default.ensures.variant.1 in
                 let was = subst (λ xs. AreUnited ranges xs added) (sym c.self.view_is ∙ none) were in

@@ -4,7 +4,7 @@ use Rattle.std.proofs.lemmas.Option.{slice_get_within}
 use Rattle.keys.specs.Range.{IsEmpty, is_filled}
 use Rattle.keys.specs.Singles.{IsRankedAs}
 use Rattle.keys.specs.declared.range.Range.{Range}
-use Rattle.keys.proofs.callers.Ranks.{chosen_filled, empty_if}
+use Rattle.keys.proofs.callers.GapRuns.{chosen_filled, empty_if}
 use Rattle.conflict.specs.Union.{AreUnited}
 use Rattle.conflict.proofs.UnionAdded.{united_none}
 use Rattle.conflict.proofs.UnionOrder.{listed, listed_before, marked_next, unmarked_next, unites_picked}

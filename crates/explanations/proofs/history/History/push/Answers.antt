@@ -21,11 +21,11 @@ returns-clause-keeps c = λ ps keeps.
     subst (λ z. old.edge ≤ℤ z) (sym same) (subst (λ z. z ≤ℤ c.max-self-inside.result) edge_is bound) in
     let first : DropsUpTo old.edge ps c.reserve.new.self.items =
     subst (DropsUpTo old.edge ps) (sym (c.in_ok-reserve.ensures.items ∙ kept_is)) keeps in
-    let handed : DropsUpTo (to_z w64 (of_z w64 (to_z w64 (of_z w64 c.max-self-inside.result)))) c.reserve.new.self.items
+    let passed : DropsUpTo (to_z w64 (of_z w64 (to_z w64 (of_z w64 c.max-self-inside.result)))) c.reserve.new.self.items
     c.drop_old.new.kept.items =
     c.drop_old.ensures.drops in
     let second : DropsUpTo (to_z w64 (of_z w64 c.max-self-inside.result)) c.reserve.new.self.items c.drop_old.new.kept.items =
-    subst (λ z. DropsUpTo z c.reserve.new.self.items c.drop_old.new.kept.items) (ap (λ z. to_z w64 (of_z w64 z)) same) handed in
+    subst (λ z. DropsUpTo z c.reserve.new.self.items c.drop_old.new.kept.items) (ap (λ z. to_z w64 (of_z w64 z)) same) passed in
     let items : c.push_back_reserved.new.self.items ≡ c.drop_old.new.kept.items ++ c.args.processed ∷ [] =
     c.push_back_reserved.ensures.items in
     subst (DropsUpTo (to_z w64 (of_z w64 c.max-self-inside.result)) (ps ++ c.args.processed ∷ [])) (sym items)

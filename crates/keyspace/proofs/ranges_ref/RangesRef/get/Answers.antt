@@ -1,12 +1,12 @@
 use Rattle.std.proofs.Common.{rules, arith, ◌<◌, length, sym, ap, ◌∙◌, slice_get}
-use Rattle.keyspace.proofs.RangesTold.{no_span, length-told, holds_at, range_at}
+use Rattle.keyspace.proofs.RangesReported.{no_span, length-reported, holds_at, range_at}
 use Rattle.keyspace.proofs.ranges_ref.RangesRef.get.Goals as goal
 use Rattle.keyspace.proofs.ranges_ref.RangesRef.get.Goals.{After-self}
 
 within_spans : (c : After-self) → c.args.index < length c.self.inside.spans.now
 within_spans c =
     let ranges = c.self.inside in
-    omega (arith, length-told ranges.buffer.now ranges.spans.now ranges.holds, ap length c.self.view_is)
+    omega (arith, length-reported ranges.buffer.now ranges.spans.now ranges.holds, ap length c.self.view_is)
 
 pub offset_bounds-self-inside-index : goal.offset_bounds-self-inside-index
 offset_bounds-self-inside-index c =

@@ -3,7 +3,7 @@ use Rattle.std.proofs.lemmas.Int.{to_z-of_z}
 use Rattle.std.proofs.lemmas.List.{length-map}
 use Rattle.keyspace.specs.Fields.{range_fields, txn_fields}
 use Rattle.keyspace.specs.Putting.{ArePut}
-use Rattle.keyspace.specs.Tables.{txns_told, AreTables}
+use Rattle.keyspace.specs.Tables.{txns_of_tables, AreTables}
 use Rattle.keyspace.proofs.FieldsBack.{limits_of_txn}
 use Rattle.keyspace.proofs.Putting.{length-put}
 use Rattle.keyspace.proofs.TablesRanges.{few_spans}
@@ -47,8 +47,8 @@ overflow_cast-len c =
 
 all_put : (c : In_ok-push)
     → AreTables c.put_ranges-2.new.buffer.items c.put_ranges-2.new.spans.items c.push.new.self.items
-    × (txns_told c.put_ranges-2.new.buffer.items c.put_ranges-2.new.spans.items c.push.new.self.items
-    ≡ txns_told c.args.self.now.buffer.items c.args.self.now.spans.items c.args.self.now.rows.items ++ txn_fields c.args.txn.now ∷ [])
+    × (txns_of_tables c.put_ranges-2.new.buffer.items c.put_ranges-2.new.spans.items c.push.new.self.items
+    ≡ txns_of_tables c.args.self.now.buffer.items c.args.self.now.spans.items c.args.self.now.rows.items ++ txn_fields c.args.txn.now ∷ [])
 all_put c =
     let at = goal.at.returns-clause-tables c in
     let old = c.args.self.now in
@@ -59,8 +59,8 @@ all_put c =
     let spans₂ = c.put_ranges-2.new.spans in
     let fits : FitsSigned w64 txn.snapshot = search rules in
     subst (λ rows. AreTables buffer₂.items spans₂.items rows
-    × (txns_told buffer₂.items spans₂.items rows
-    ≡ txns_told old.buffer.items old.spans.items old.rows.items ++ txn_fields txn ∷ []))
+    × (txns_of_tables buffer₂.items spans₂.items rows
+    ≡ txns_of_tables old.buffer.items old.spans.items old.rows.items ++ txn_fields txn ∷ []))
     (sym c.in_ok-push.ensures.items)
     (txn_put old.buffer.items buffer₁.items buffer₂.items old.spans.items spans₁.items spans₂.items old.rows.items _
     (txn_fields txn) c.requires.tables (limits_of_txn txn) (reads_put at.In_ok-put_ranges)
@@ -70,5 +70,5 @@ all_put c =
 pub returns-clause-tables : goal.returns-clause-tables
 returns-clause-tables c = (all_put c).0
 
-pub returns-clause-told : goal.returns-clause-told
-returns-clause-told c = (all_put c).1
+pub returns-clause-reported : goal.returns-clause-reported
+returns-clause-reported c = (all_put c).1

@@ -2,20 +2,20 @@ use Rattle.std.proofs.Common.{arith, ℕ, Option, ◌≡◌, ◌⊎◌, ◌+◌,
 use Rattle.std.proofs.lemmas.List.{length-map}
 use Rattle.keys.specs.Hash.{AreHashesOf}
 use Rattle.keys.specs.Range.{IsSingle}
-use Rattle.keys.specs.Ranks.{AreChosenInOrder, AreRanked, RanksView}
+use Rattle.keys.specs.GapRuns.{AreChosenInOrder, AreRanked, GapRunsView}
 use Rattle.keys.specs.Singles.{is_marked, picked, AreRankedFor, HaveInOrder}
 use Rattle.keys.specs.declared.range.Range.{Range}
-use Rattle.keys.proofs.callers.Ranks.{among_within}
+use Rattle.keys.proofs.callers.GapRuns.{among_within}
 use Rattle.keyspace.specs.BatchRanges.{is_write_in, ranges_in, writes_in}
 use Rattle.keyspace.specs.Fields.{range_fields, txns_with, TxnLimits}
 use Rattle.keyspace.specs.RowMarks.{marks_of_rows}
-use Rattle.keyspace.specs.Tables.{range_told, txns_told, AreTables}
+use Rattle.keyspace.specs.Tables.{range_of_span, txns_of_tables, AreTables}
 use Rattle.keyspace.specs.declared.row.Row.{Row}
 use Rattle.keyspace.specs.declared.span.Span.{Span}
 use Rattle.keyspace.specs.declared.txn.Txn.{Txn}
 use Rattle.keyspace.proofs.FieldsBack.{fields_of_txns}
 use Rattle.keyspace.proofs.TablesRanges.{spans_hold, few_spans, ranges_are}
-use Rattle.keyspace.proofs.WriteMarks.{length-marks, picked_told, writes_in_order}
+use Rattle.keyspace.proofs.WriteMarks.{length-marks, picked_reported, writes_in_order}
 use Rattle.keyspace.proofs.txns.Txns.from_tables.Goals.{After-new-ranges, In_ok-written}
 use Rattle.keyspace.proofs.txns.Txns.from_tables.Goals as goal
 
@@ -27,8 +27,8 @@ new-ranges-requires-clause-holds c =
 -- there are as many ranges as spans
 count : (c : After-new-ranges) → length c.new-ranges.result ≡ length c.args.spans.items
 count c =
-    sym (length-map c.new-ranges.result range_fields) ∙ ap length c.new-ranges.ensures.told
-    ∙ length-map c.deref-2.result.now (range_told c.deref.result.now) ∙ ap length c.deref-2.ensures.value
+    sym (length-map c.new-ranges.result range_fields) ∙ ap length c.new-ranges.ensures.reported
+    ∙ length-map c.deref-2.result.now (range_of_span c.deref.result.now) ∙ ap length c.deref-2.ensures.value
 
 -- and as many marks
 marks : (c : In_ok-written) → length c.in_ok-written.written.items ≡ length c.args.spans.items
@@ -63,11 +63,11 @@ list_writes-requires c =
 
 -- what is kept with the tables
 module _ (buffer : List ℕ) (spans : List Span) (rows : List Row) (tables : AreTables buffer spans rows)
-    (holds : All TxnLimits (txns_told buffer spans rows)) where
+    (holds : All TxnLimits (txns_of_tables buffer spans rows)) where
   abbrev txns : List Txn
-  txns = txns_with (txns_told buffer spans rows) holds
+  txns = txns_with (txns_of_tables buffer spans rows) holds
 
-  kept : (ranges : List Range) (written : List Bool) (ranks : RanksView) (order writes : List ℕ) (hashes : List (Option ℕ))
+  kept : (ranges : List Range) (written : List Bool) (ranks : GapRunsView) (order writes : List ℕ) (hashes : List (Option ℕ))
       → ranges ≡ ranges_in txns → written ≡ marks_of_rows rows → AreRankedFor (picked written ranges) ranges ranks
       → AreRanked ranges ranks ⊎ All IsSingle ranges → HaveInOrder (is_marked written) ranges order
       → writes ≡ filter (is_marked written) order → AreHashesOf ranges hashes
@@ -77,7 +77,7 @@ module _ (buffer : List ℕ) (spans : List Span) (rows : List Row) (tables : Are
   kept ranges written ranks order writes hashes same marked ranked exact in_order filtered hashed = (
     subst (λ (rs : List Range). AreRankedFor (writes_in txns) rs ranks) same
         (subst (λ (ws : List Range). AreRankedFor ws ranges ranks)
-        (picked_told buffer spans rows tables holds written ranges marked same) ranked),
+        (picked_reported buffer spans rows tables holds written ranges marked same) ranked),
     subst (λ (rs : List Range). AreRanked rs ranks ⊎ All IsSingle rs) same exact,
     writes_in_order buffer spans rows tables holds written ranges order order writes marked same refl in_order filtered,
     subst (λ (rs : List Range). AreHashesOf rs hashes) same hashed,
@@ -91,7 +91,7 @@ invariant_of-result-2 c =
     kept c.args.buffer.items c.args.spans.items c.args.rows.items c.requires.tables _ ranges written c.in_ok-ranks.ranks
     order c.in_ok-write_order.write_order.items c.in_ok-hashes.hashes.items
     (ranges_are c.args.buffer.items c.args.spans.items c.args.rows.items c.requires.tables _ c.deref.result.now
-    c.deref-2.result.now ranges c.deref.ensures.value c.deref-2.ensures.value c.new-ranges.ensures.told)
+    c.deref-2.result.now ranges c.deref.ensures.value c.deref-2.ensures.value c.new-ranges.ensures.reported)
     (c.in_ok-written.ensures.marks ∙ ap marks_of_rows c.deref-3.ensures.value)
     (subst (λ (ms : List Bool). AreRankedFor (picked ms ranges) ranges c.in_ok-ranks.ranks) c.deref-5.ensures.value
     c.in_ok-ranks.ensures.ranked)
@@ -101,4 +101,4 @@ invariant_of-result-2 c =
     c.in_ok-hashes.ensures.hashes
 
 pub returns : goal.returns
-returns c = record { fields = fields_of_txns (txns_told c.args.buffer.items c.args.spans.items c.args.rows.items) _ }
+returns c = record { fields = fields_of_txns (txns_of_tables c.args.buffer.items c.args.spans.items c.args.rows.items) _ }

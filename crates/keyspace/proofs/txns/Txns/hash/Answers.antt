@@ -3,7 +3,7 @@ use Rattle.std.specs.Prelude.{Option, slice_get}
 use Rattle.keyspace.specs.declared.txn.Txn.{Txn}
 use Rattle.keyspace.specs.BatchRanges.{ranges_in}
 use Rattle.keyspace.specs.Fields.{txns_with}
-use Rattle.keyspace.specs.Tables.{txns_told}
+use Rattle.keyspace.specs.Tables.{txns_of_tables}
 use Rattle.keyspace.proofs.ReadHashes.{hash_found, hash_missing}
 use Rattle.keyspace.proofs.txns.Txns.hash.Goals as goal
 
@@ -11,7 +11,7 @@ pub returns-in-Some : goal.returns-in-Some
 returns-in-Some c =
     let kept = c.self.inside in
     let hashes = kept.hashes.items in
-    let txns = txns_with (txns_told kept.buffer.items kept.spans.items kept.rows.items) kept.tables.holds in
+    let txns = txns_with (txns_of_tables kept.buffer.items kept.spans.items kept.rows.items) kept.tables.holds in
     let lookup = c.in-Some.ensures.lookup in
     let long : length c.deref.result.now ≡ length hashes = ap length c.deref.ensures.value in
     let within : c.args.index < length hashes = omega arith in
@@ -26,7 +26,7 @@ pub returns-in-None : goal.returns-in-None
 returns-in-None c =
     let kept = c.self.inside in
     let hashes = kept.hashes.items in
-    let txns = txns_with (txns_told kept.buffer.items kept.spans.items kept.rows.items) kept.tables.holds in
+    let txns = txns_with (txns_of_tables kept.buffer.items kept.spans.items kept.rows.items) kept.tables.holds in
     let lookup = c.in-None.ensures.lookup in
     let long : length c.deref.result.now ≡ length hashes = ap length c.deref.ensures.value in
     let past : length hashes ≤ c.args.index = omega arith in

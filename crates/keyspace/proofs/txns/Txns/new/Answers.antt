@@ -7,8 +7,8 @@ use Rattle.keyspace.proofs.txns.Txns.new.Goals as goal
 
 pub returns : goal.returns
 returns c =
-    let told = c.in_ok-tables.ensures.told ∙ ap (map txn_fields) c.deref.ensures.value in
+    let reported = c.in_ok-tables.ensures.reported ∙ ap (map txn_fields) c.deref.ensures.value in
     record {
       txns = IfOk-weaker c.from_tables.result _ (λ (kept : List Txn). kept ≡ c.args.txns.items)
-          (λ kept fields. same_txns kept c.args.txns.items (fields ∙ told)) c.from_tables.ensures.fields;
+          (λ kept fields. same_txns kept c.args.txns.items (fields ∙ reported)) c.from_tables.ensures.fields;
     }

@@ -14,6 +14,6 @@ returns c =
     let tables = c.self.inside in
     record {
       ranges = ranges_are tables.buffer.items tables.spans.items tables.rows.items tables.tables tables.tables.holds
-          c.deref.result.now c.deref-2.result.now c.new.result c.deref.ensures.value c.deref-2.ensures.value c.new.ensures.told
+          c.deref.result.now c.deref-2.result.now c.new.result c.deref.ensures.value c.deref-2.ensures.value c.new.ensures.reported
           ∙ ap ranges_in c.self.view_is;
     }

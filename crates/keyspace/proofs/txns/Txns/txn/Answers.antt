@@ -5,10 +5,10 @@ use Rattle.std.proofs.lemmas.List.{length-map}
 use Rattle.keyspace.specs.declared.row.Row.{Row}
 use Rattle.keyspace.specs.BatchRanges.{ranges_in}
 use Rattle.keyspace.specs.Fields.{range_fields, TxnLimits}
-use Rattle.keyspace.specs.Tables.{range_told, txn_told, AreRows}
-use Rattle.keyspace.proofs.RangesTold.{part_told}
+use Rattle.keyspace.specs.Tables.{range_of_span, txn_of_row, AreRows}
+use Rattle.keyspace.proofs.RangesReported.{part_reported}
 use Rattle.keyspace.proofs.RowsInTurn.{row_at}
-use Rattle.keyspace.proofs.TablesRanges.{ranges_told}
+use Rattle.keyspace.proofs.TablesRanges.{ranges_reported}
 use Rattle.keyspace.proofs.TablesTxns.{length-txns, limits_at, txn_at}
 use Rattle.keyspace.proofs.txns.Txns.txn.Goals as goal
 use Rattle.keyspace.proofs.txns.Txns.txn.Goals.{After-self, After-index-row, After-first_span-begin, After-ranges-ranges}
@@ -32,23 +32,23 @@ row_of c within =
     c.index-row.result.now tables.tables.rows_fit (before c) within c.index-row.ensures
 
 limits_of : (c : After-first_span-begin) → c.args.index < length c.self.inside.rows.items
-    → TxnLimits (txn_told c.self.inside.buffer.items c.self.inside.spans.items c.first_span-begin.result c.index-row.result.now)
+    → TxnLimits (txn_of_row c.self.inside.buffer.items c.self.inside.spans.items c.first_span-begin.result c.index-row.result.now)
 limits_of c within =
     let tables = c.self.inside in
     limits_at tables.buffer.items tables.spans.items tables.rows.items tables.tables.holds c.args.index c.first_span-begin.result
     c.index-row.result.now (before c) within c.index-row.ensures
 
-told : (c : After-ranges-ranges)
-    → map range_fields c.ranges-ranges.result ≡ map (range_told c.self.inside.buffer.items) c.self.inside.spans.items
-told c =
+reported : (c : After-ranges-ranges)
+    → map range_fields c.ranges-ranges.result ≡ map (range_of_span c.self.inside.buffer.items) c.self.inside.spans.items
+reported c =
     let tables = c.self.inside in
     ap (map range_fields) (c.ranges-ranges.ensures.ranges ∙ ap ranges_in (sym c.self.view_is))
-    ∙ ranges_told tables.buffer.items tables.spans.items tables.rows.items tables.tables tables.tables.holds
+    ∙ ranges_reported tables.buffer.items tables.spans.items tables.rows.items tables.tables tables.tables.holds
 
 length-ranges : (c : After-ranges-ranges) → length c.ranges-ranges.result ≡ length c.self.inside.spans.items
 length-ranges c =
-    sym (length-map c.ranges-ranges.result range_fields) ∙ ap length (told c)
-    ∙ length-map c.self.inside.spans.items (range_told c.self.inside.buffer.items)
+    sym (length-map c.ranges-ranges.result range_fields) ∙ ap length (reported c)
+    ∙ length-map c.self.inside.spans.items (range_of_span c.self.inside.buffer.items)
 
 pub index-row-requires : goal.index-row-requires
 index-row-requires c = omega (arith, within_rows c, c.self.inside.rows.ok.0)
@@ -97,10 +97,10 @@ invariant_of-result c =
     let limits = limits_of at.After-first_span-begin (within_rows at.After-self) in
     let begin = c.first_span-begin.result in
     let middle = row.end - row.writes in
-    let reads = part_told tables.buffer.items tables.spans.items c.ranges-ranges.result c.slice.result begin middle
-    (told at.After-ranges-ranges) c.slice.ensures.ranges in
-    let writes = part_told tables.buffer.items tables.spans.items c.ranges-ranges.result c.slice-2.result middle row.end
-    (told at.After-ranges-ranges) c.slice-2.ensures.ranges in (
+    let reads = part_reported tables.buffer.items tables.spans.items c.ranges-ranges.result c.slice.result begin middle
+    (reported at.After-ranges-ranges) c.slice.ensures.ranges in
+    let writes = part_reported tables.buffer.items tables.spans.items c.ranges-ranges.result c.slice-2.result middle row.end
+    (reported at.After-ranges-ranges) c.slice-2.ensures.ranges in (
       subst (λ snapshot. pos 0 ≤ℤ snapshot) (sym (to_z-of_z w64 row.snapshot fits)) limits.snapshot,
       (
         subst (λ n. n ≤ 1024) (sym (ap length reads) ∙ length-map c.slice.result range_fields) limits.few_reads,
@@ -119,10 +119,10 @@ returns c =
     let fits : FitsSigned w64 row.snapshot = search rules in
     let begin = c.first_span-begin.result in
     let middle = row.end - row.writes in
-    let reads = part_told tables.buffer.items tables.spans.items c.ranges-ranges.result c.slice.result begin middle
-    (told at.After-ranges-ranges) c.slice.ensures.ranges in
-    let writes = part_told tables.buffer.items tables.spans.items c.ranges-ranges.result c.slice-2.result middle row.end
-    (told at.After-ranges-ranges) c.slice-2.ensures.ranges in
+    let reads = part_reported tables.buffer.items tables.spans.items c.ranges-ranges.result c.slice.result begin middle
+    (reported at.After-ranges-ranges) c.slice.ensures.ranges in
+    let writes = part_reported tables.buffer.items tables.spans.items c.ranges-ranges.result c.slice-2.result middle row.end
+    (reported at.After-ranges-ranges) c.slice-2.ensures.ranges in
     record {
       txn = ap (λ txns. slice_get txns c.args.index) (sym c.self.view_is)
           ∙ txn_at tables.buffer.items tables.spans.items tables.rows.items tables.tables.holds c.args.index begin row _

@@ -15,6 +15,6 @@ returns c =
     let tables = c.self.inside in
     record {
       ranges = ranges_are tables.buffer.items tables.spans.items tables.rows.items tables.tables tables.tables.holds
-          c.deref.result.now c.deref-2.result.now c.new.result c.deref.ensures.value c.deref-2.ensures.value c.new.ensures.told
+          c.deref.result.now c.deref-2.result.now c.new.result c.deref.ensures.value c.deref-2.ensures.value c.new.ensures.reported
           ∙ ap (λ (b : Batch). ranges_in b.txns) c.self.view_is;
     }

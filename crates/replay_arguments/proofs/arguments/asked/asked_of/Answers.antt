@@ -1,7 +1,7 @@
 use Rattle.std.proofs.Common.{sym, subst}
 use Rattle.clap.specs.Words.{found_of, rows_of}
 use Rattle.replay_output.specs.declared.options.reports.Reports.{Reports}
-use Rattle.replay_arguments.specs.Words.{HoldsReports, IsOfNoUse}
+use Rattle.replay_arguments.specs.Arguments.{HoldsReports, IsOfNoUse}
 use Rattle.replay_arguments.proofs.Refusals.{on_err}
 use Rattle.replay_arguments.proofs.arguments.asked.asked_of.Goals as goal
 

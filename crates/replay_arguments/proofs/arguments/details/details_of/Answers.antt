@@ -1,7 +1,7 @@
 use Rattle.std.proofs.Common.{sym, subst}
 use Rattle.std.specs.Prelude.{Bool, ◌↔◌, IsTrue}
 use Rattle.clap.specs.Words.{found_of, rows_of}
-use Rattle.replay_arguments.specs.Words.{DetailsNothing, IsSummarized}
+use Rattle.replay_arguments.specs.Arguments.{DetailsNothing, IsSummarized}
 use Rattle.replay_arguments.proofs.Summaries.{summarized_by}
 use Rattle.replay_arguments.proofs.arguments.details.details_of.Goals as goal
 

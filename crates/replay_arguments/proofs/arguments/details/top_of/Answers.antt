@@ -3,7 +3,7 @@ use Rattle.std.specs.Prelude.{None, Some, Option, true, false, is_some}
 use Rattle.std.proofs.lemmas.Bool.{false≢true}
 use Rattle.clap.specs.Words.{found_of}
 use Rattle.clap.proofs.WalkLemmas.{first_value-rows}
-use Rattle.replay_arguments.specs.Words.{IsTop, IsTopOf}
+use Rattle.replay_arguments.specs.Arguments.{IsTop, IsTopOf}
 use Rattle.replay_arguments.proofs.arguments.details.top_of.Goals as goal
 
 pub returns-in_default-clause-top : goal.returns-in_default-clause-top

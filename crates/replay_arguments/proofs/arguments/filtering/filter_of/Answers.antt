@@ -7,7 +7,7 @@ use Rattle.std.proofs.lemmas.Int.{to_z-of_z}
 use Rattle.clap.specs.Words.{first_of, found_of, one_of, rows_of}
 use Rattle.clap.specs.Values.{bool_text}
 use Rattle.clap.proofs.WalkLemmas.{first_value-rows}
-use Rattle.replay_arguments.specs.Words.{AreVersions, is_kept}
+use Rattle.replay_arguments.specs.Arguments.{AreVersions, is_kept}
 use Rattle.replay_arguments.proofs.Getters.{bool_text_same, is_some_mapped, text_read, text_of_bool}
 use Rattle.replay_arguments.proofs.Numbers.{Some-injective, bool_err, has_read}
 use Rattle.replay_arguments.proofs.Filters.{none_found}

@@ -1,5 +1,5 @@
 use Rattle.std.proofs.Common.{◌≡◌, ◌+◌, ◌≤◌, drop, map}
-use Rattle.replay_arguments.specs.Words.{count_inputs}
+use Rattle.replay_arguments.specs.Arguments.{count_inputs}
 use Rattle.replay_arguments.proofs.arguments.input.count_inputs.Given as goal
 
 abbrev pub invariant-loop-name : goal.invariant-loop-name

@@ -2,7 +2,7 @@ use Rattle.std.proofs.Common.{◌≡◌, ◌∙◌, ◌+◌, ◌≤◌, ℕ, ap,
 use Rattle.std.specs.Prelude.{◌↔◌, IsTrue}
 use Rattle.clap.specs.Words.{all_of, first_of, found_of, rows_of}
 use Rattle.clap.proofs.WalkLemmas.{first_value-rows, raw_values-rows}
-use Rattle.replay_arguments.specs.Words.{inputs_in, inputs_of}
+use Rattle.replay_arguments.specs.Arguments.{inputs_in, inputs_of}
 use Rattle.replay_arguments.proofs.arguments.input.has_input_once.Goals as goal
 
 pub returns : goal.returns

@@ -2,7 +2,7 @@ use Rattle.std.proofs.Common.{◌≡◌, ◌∙◌, ap, sym, subst, codes, rules
 use Rattle.std.proofs.lemmas.List.{length-map}
 use Rattle.clap.specs.Words.{found_of, rows_of}
 use Rattle.clap.proofs.WalkLemmas.{first_value-rows}
-use Rattle.replay_arguments.specs.Words.{HasInputOnce, HasRecords, HasReplies, KeepsInputs, HoldsExplain, HoldsForm, HoldsStream, HoldsSummary, NamesNothing, is_kept}
+use Rattle.replay_arguments.specs.Arguments.{HasInputOnce, HasRecords, HasReplies, KeepsInputs, HoldsExplain, HoldsForm, HoldsStream, HoldsSummary, NamesNothing, is_kept}
 use Rattle.replay_arguments.proofs.Refusals.{no_records_each, not_each, on_err}
 use Rattle.replay_arguments.proofs.arguments.names.names_of.Goals as goal
 

@@ -3,7 +3,7 @@ use Rattle.std.specs.Prelude.{false, is_some}
 use Rattle.std.proofs.lemmas.Bool.{false≢true}
 use Rattle.clap.specs.Words.{found_of, rows_of}
 use Rattle.clap.proofs.WalkLemmas.{raw_values-rows}
-use Rattle.replay_arguments.specs.Words.{HoldsStream, named}
+use Rattle.replay_arguments.specs.Arguments.{HoldsStream, named}
 use Rattle.replay_arguments.proofs.Refusals.{not_streamed, other_records}
 use Rattle.replay_arguments.proofs.arguments.names.records_of.Goals as goal
 

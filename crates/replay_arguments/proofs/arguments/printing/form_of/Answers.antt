@@ -5,7 +5,7 @@ use Rattle.std.specs.declared.str.ParseBoolError.{ParseBoolError}
 use Rattle.clap.specs.Words.{all_of, found_of, one_of, rows_of}
 use Rattle.clap.specs.Values.{bool_text}
 use Rattle.clap.proofs.WalkLemmas.{raw_values-rows}
-use Rattle.replay_arguments.specs.Words.{is_frames, is_json}
+use Rattle.replay_arguments.specs.Arguments.{is_frames, is_json}
 use Rattle.replay_arguments.proofs.Getters.{HoldsForm-of_parts, IsFormOf-held, is_some_mapped, text_read, text_of_bool}
 use Rattle.replay_arguments.proofs.Numbers.{bool_err, has_read}
 use Rattle.replay_arguments.proofs.arguments.printing.form_of.Goals as goal

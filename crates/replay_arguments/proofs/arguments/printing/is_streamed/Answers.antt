@@ -4,7 +4,7 @@ use Rattle.std.specs.Str.Parse.{ParsesBool}
 use Rattle.std.specs.declared.str.ParseBoolError.{ParseBoolError}
 use Rattle.clap.specs.Words.{found_of, rows_of}
 use Rattle.clap.specs.Values.{bool_text}
-use Rattle.replay_arguments.specs.Words.{HoldsStream, is_kept}
+use Rattle.replay_arguments.specs.Arguments.{HoldsStream, is_kept}
 use Rattle.replay_arguments.proofs.Getters.{text_read, text_of_bool}
 use Rattle.replay_arguments.proofs.Numbers.{bool_err, has_read}
 use Rattle.replay_arguments.proofs.Refusals.{no_stream}

@@ -1,4 +1,4 @@
-use Rattle.replay_arguments.specs.Words.{PrintsNothing}
+use Rattle.replay_arguments.specs.Arguments.{PrintsNothing}
 use Rattle.replay_arguments.proofs.Refusals.{on_err}
 use Rattle.replay_arguments.proofs.arguments.printing.printing_of.Goals as goal
 

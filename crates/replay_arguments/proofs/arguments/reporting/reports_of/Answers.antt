@@ -4,7 +4,7 @@ use Rattle.std.specs.Str.Parse.{ParsesBool}
 use Rattle.std.specs.declared.str.ParseBoolError.{ParseBoolError}
 use Rattle.clap.specs.Words.{found_of}
 use Rattle.clap.specs.Values.{bool_text}
-use Rattle.replay_arguments.specs.Words.{reports_all}
+use Rattle.replay_arguments.specs.Arguments.{reports_all}
 use Rattle.replay_arguments.proofs.Getters.{no_flag, text_of_bool, text_read}
 use Rattle.replay_arguments.proofs.arguments.reporting.reports_of.Goals as goal
 

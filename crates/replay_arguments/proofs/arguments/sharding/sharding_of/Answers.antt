@@ -3,7 +3,7 @@ use Rattle.std.specs.Prelude.{None, Option, is_some, true, false}
 use Rattle.std.proofs.lemmas.Bool.{false≢true}
 use Rattle.clap.specs.Words.{all_of, first_of, found_of, rows_of}
 use Rattle.clap.proofs.WalkLemmas.{first_value-rows, raw_values-rows}
-use Rattle.replay_arguments.specs.Words.{inputs_of}
+use Rattle.replay_arguments.specs.Arguments.{inputs_of}
 use Rattle.replay_arguments.proofs.Getters.{is_some_mapped}
 use Rattle.replay_arguments.proofs.Resolvers.{none_of, not_one, not_shared, parts_of_shared, shared}
 use Rattle.replay_arguments.proofs.arguments.sharding.sharding_of.Goals.{

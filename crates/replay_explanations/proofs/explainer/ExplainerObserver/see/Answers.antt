@@ -7,7 +7,7 @@ use Rattle.keyspace.specs.Processed.{Processed}
 use Rattle.explanations.specs.Explains.{newest_of}
 use Rattle.explanations.specs.History.{HistoryState, Keeps}
 use Rattle.explanations.proofs.callers.Following.{same_processed}
-use Rattle.replay_explanations.specs.Lines.{lines_from, whole}
+use Rattle.replay_explanations.specs.Lines.{lines_from, entire}
 use Rattle.replay_explanations.specs.Explainer.{ExplainerState}
 use Rattle.replay_explanations.proofs.Seen.{has_seen_no_more, has_seen_more, on_err, put_same}
 use Rattle.replay_explanations.proofs.explainer.ExplainerObserver.see.Goals as goal
@@ -76,7 +76,7 @@ returns-clause-seen c =
     c.in_ok-push.ensures.newest ∙ ap (λ (x : Processed). Some x.batch) pushed in
     let text_is =
     c.in_ok-text.ensures.text p.batch newest
-    ∙ ap (λ (es : List Entry). whole c.self.inside.form (lines_from c.self.inside.form c.push.new.self.window c.push.new.self.kept p.batch 0 p.batch.txns es)) c.as_slice.ensures.items in
+    ∙ ap (λ (es : List Entry). entire c.self.inside.form (lines_from c.self.inside.form c.push.new.self.window c.push.new.self.kept p.batch 0 p.batch.txns es)) c.as_slice.ensures.items in
     let fits : SFits w64 c.args.batch.version = search rules in
     has_seen_more before after p text working
     (c.in_ok-push.ensures.window ∙ ap (λ (e : ExplainerState). e.history.window) is) (ap (λ (e : ExplainerState). e.form) is) keeps edge_is newest text_is

@@ -5,7 +5,7 @@ use Rattle.keys.specs.declared.range.Range.{Range}
 use Rattle.explanations.specs.Explains.{explaining_newest}
 use Rattle.explanations.specs.Written.{Written}
 use Rattle.replay_hot_ranges.specs.Conflicts.{InConflict, in_conflict, newest}
-use Rattle.replay_hot_ranges.specs.Tally.{AreTalliesWith}
+use Rattle.replay_hot_ranges.specs.RangeTally.{AreTalliesWith}
 use Rattle.replay_hot_ranges.proofs.Adding.{explained}
 use Rattle.replay_hot_ranges.proofs.counting.Tallies.add_read.Goals as goal
 

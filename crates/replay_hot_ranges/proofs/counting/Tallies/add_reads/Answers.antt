@@ -4,7 +4,7 @@ use Rattle.keys.specs.declared.range.Range.{Range}
 use Rattle.keys.proofs.callers.Lists.{some_at}
 use Rattle.std.specs.List.{flat_map}
 use Rattle.replay_hot_ranges.specs.Conflicts.{InConflict, conflict_of}
-use Rattle.replay_hot_ranges.specs.Tally.{AreTalliesWith}
+use Rattle.replay_hot_ranges.specs.RangeTally.{AreTalliesWith}
 use Rattle.replay_hot_ranges.proofs.Adding.{conflicts_more}
 use Rattle.replay_hot_ranges.proofs.counting.Tallies.add_reads.Goals as goal
 
@@ -24,8 +24,8 @@ loop-read-preserved c = λ t txns at same before.
 pub returns : goal.returns
 returns c = record {
   added = λ t txns at same before.
-      let whole : take c.loop-read.read t.reads ≡ t.reads =
+      let entire : take c.loop-read.read t.reads ≡ t.reads =
       take_all c.loop-read.read t.reads (let len = ap (λ (rs : List Range). length rs) same in omega arith) in
       subst (λ (rs : List Range). AreTalliesWith txns (flat_map (conflict_of c.args.history.now.kept c.args.batch.now c.args.txn t) rs) c.loop-read.self)
-      whole (c.loop-read.invariant t txns at same before);
+      entire (c.loop-read.invariant t txns at same before);
 }

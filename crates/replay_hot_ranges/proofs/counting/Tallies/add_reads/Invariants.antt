@@ -2,7 +2,7 @@ use Rattle.std.proofs.Common.{◌≡◌, [], List, Some, slice_get, take}
 use Rattle.std.specs.List.{flat_map}
 use Rattle.keyspace.specs.declared.txn.Txn.{Txn}
 use Rattle.replay_hot_ranges.specs.Conflicts.{InConflict, conflict_of}
-use Rattle.replay_hot_ranges.specs.Tally.{AreTalliesWith}
+use Rattle.replay_hot_ranges.specs.RangeTally.{AreTalliesWith}
 use Rattle.replay_hot_ranges.proofs.counting.Tallies.add_reads.Given as goal
 
 -- the conflicts of the read ranges so far

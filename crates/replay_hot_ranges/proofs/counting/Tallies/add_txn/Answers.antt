@@ -5,7 +5,7 @@ use Rattle.keyspace.specs.declared.reply.Verdict.{Verdict}
 use Rattle.keyspace.specs.declared.txn.Txn.{Txn}
 use Rattle.replay_hot_ranges.specs.Conflicts.{InConflict, conflicts_of, rejected_by}
 use Rattle.replay_hot_ranges.specs.Counts.{read_side, written_side}
-use Rattle.replay_hot_ranges.specs.Tally.{AreTallies}
+use Rattle.replay_hot_ranges.specs.RangeTally.{AreTallies}
 use Rattle.replay_hot_ranges.proofs.Noting.{ended}
 use Rattle.replay_hot_ranges.proofs.counting.Tallies.add_txn.Goals as goal
 
@@ -35,11 +35,11 @@ returns-in_ok-begin-in-Conflict c = record {
       let reads_are : c.transaction.inside.reads ≡ t.reads = ap (λ (u : Txn). u.reads) (c.transaction.view_is ∙ same) in
       let reads = put t txns at reads_are (c.in_ok-begin-in-Conflict.ensures.begun txns before) in
       let tallies = c.add_reads.new.self in
-      let whole : AreTallies (txns ++ conflicts ∷ []) tallies = (
+      let entire : AreTallies (txns ++ conflicts ∷ []) tallies = (
         ended read_side txns conflicts tallies.txns tallies.reads reads.0,
         ended written_side txns conflicts tallies.txns tallies.writes reads.1,
       ) in
       subst (λ (all : List (List InConflict)). AreTallies all tallies)
-      (sym (ap (λ (v : Verdict). txns ++ rejected_by v conflicts) c.in-Conflict.is)) whole)
+      (sym (ap (λ (v : Verdict). txns ++ rejected_by v conflicts) c.in-Conflict.is)) entire)
       c.add_reads.ensures.added;
 }

@@ -2,7 +2,7 @@ use Rattle.std.proofs.Common.{◌≡◌, ◌<◌, ◌++◌, List, Some, get_or, 
 use Rattle.std.proofs.lemmas.Option.{slice_get-get_or}
 use Rattle.keys.proofs.callers.Lists.{some_at}
 use Rattle.replay_hot_ranges.specs.Conflicts.{InConflict, rejected_from}
-use Rattle.replay_hot_ranges.specs.Tally.{AreTallies}
+use Rattle.replay_hot_ranges.specs.RangeTally.{AreTallies}
 use Rattle.replay_hot_ranges.proofs.Adding.{rejected_more}
 use Rattle.replay_hot_ranges.proofs.counting.Tallies.add_txns.Goals as goal
 

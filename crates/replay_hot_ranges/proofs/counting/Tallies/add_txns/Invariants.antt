@@ -1,6 +1,6 @@
 use Rattle.std.proofs.Common.{◌++◌, List, take}
 use Rattle.replay_hot_ranges.specs.Conflicts.{InConflict, rejected_from}
-use Rattle.replay_hot_ranges.specs.Tally.{AreTallies}
+use Rattle.replay_hot_ranges.specs.RangeTally.{AreTallies}
 use Rattle.replay_hot_ranges.proofs.counting.Tallies.add_txns.Given as goal
 
 -- the conflicts of the transactions so far

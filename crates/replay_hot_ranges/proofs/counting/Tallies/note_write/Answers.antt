@@ -1,7 +1,7 @@
 use Rattle.std.proofs.Common.{◌++◌, [], ◌∷◌, subst}
 use Rattle.std.proofs.lemmas.Result.{on_ok_weaker}
 use Rattle.explanations.specs.Written.{Written}
-use Rattle.replay_hot_ranges.specs.Tally.{AreTalliesWith}
+use Rattle.replay_hot_ranges.specs.RangeTally.{AreTalliesWith}
 use Rattle.replay_hot_ranges.proofs.counting.Tallies.note_write.Goals as goal
 
 pub returns : goal.returns

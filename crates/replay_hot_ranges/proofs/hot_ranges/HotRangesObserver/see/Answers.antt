@@ -7,7 +7,7 @@ use Rattle.explanations.specs.Explains.{newest_of}
 use Rattle.explanations.specs.History.{Keeps}
 use Rattle.explanations.proofs.callers.Following.{same_processed}
 use Rattle.replay_hot_ranges.specs.Conflicts.{InConflict, rejected_from}
-use Rattle.replay_hot_ranges.specs.Tally.{AreTallies}
+use Rattle.replay_hot_ranges.specs.RangeTally.{AreTallies}
 use Rattle.replay_hot_ranges.proofs.Seen.{has_seen_more}
 use Rattle.replay_hot_ranges.proofs.hot_ranges.HotRangesObserver.see.Goals as goal
 

@@ -10,15 +10,15 @@ pub returns-in_ok-print_entries-in-Reply : goal.returns-in_ok-print_entries-in-R
 returns-in_ok-print_entries-in-Reply c =
     let text = c.args.text.now in
     let begun = c.write_all.new.self in
-    let told = c.print_entries.new.text in
+    let reported = c.print_entries.new.text in
     let ended = c.write_all-in-Reply.new.self in
-    let entries = subst (λ (es : List Entry). told ≡ begun ++ entries_json es) c.as_slice.ensures.items
+    let entries = subst (λ (es : List Entry). reported ≡ begun ++ entries_json es) c.as_slice.ensures.items
     c.in_ok-print_entries-in-Reply.ensures.text in
     record {
       text = on_ok_weaker c.write_all-in-Reply.result
           (λ end. subst (λ (a : Answer). ended ≡ text ++ outcome_json a) (sym c.in-Reply.is)
           (appends_then (Some text) (Some begun) (Some ended) _ _ c.in_ok-write_all-in-Reply.ensures.bytes
-          (appends_then (Some begun) (Some told) (Some ended) _ _ entries end)))
+          (appends_then (Some begun) (Some reported) (Some ended) _ _ entries end)))
           c.write_all-in-Reply.ensures.bytes;
     }
 

@@ -1,7 +1,7 @@
 use Rattle.std.proofs.Common.{◌≡◌, drop}
 use Rattle.std.specs.List.{list_any}
 use Rattle.keyspace.specs.declared.reply.Entry.{Entry}
-use Rattle.replay_output.specs.Filter.{is_verdict}
+use Rattle.replay_output.specs.LineFilter.{is_verdict}
 use Rattle.replay_output.proofs.options.filtering.any_has.Given as goal
 
 abbrev pub invariant-loop-entry : goal.invariant-loop-entry

@@ -7,7 +7,7 @@ use Rattle.replay_output.proofs.report.lines.print_sorted.Given as goal
 
 abbrev pub invariant-loop-lines : goal.invariant-loop-lines
 invariant-loop-lines g l = record {
-  whole : Appends (g.W.Sink.given l.initial.out) (g.W.Sink.given l.out)
+  entire : Appends (g.W.Sink.given l.initial.out) (g.W.Sink.given l.out)
       (flat_map (λ lines. text_of (vec_items lines)) (take l.lines-index l.sorted));
   ok : g.W.Sink.failures l.out ≡ g.W.Sink.failures l.initial.out;
 }

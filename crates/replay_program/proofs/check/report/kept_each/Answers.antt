@@ -3,7 +3,7 @@ use Rattle.std.proofs.Math.Nat.{lt_of_not-le}
 use Rattle.std.proofs.lemmas.Grind.{common_steps}
 use Rattle.std.specs.Prelude.{vec_len}
 use Rattle.std.specs.Vec.Iter.{into_iter_items}
-use Rattle.checking.proofs.callers.Left.{count_at_left, left_behind}
+use Rattle.checking.proofs.callers.Left.{count_at_left, left_after}
 use Rattle.replay_program.proofs.check.report.kept_each.Goals as goal
 
 pub returns-in_default-kept_of-clause-takes : goal.returns-in_default-kept_of-clause-takes
@@ -22,7 +22,7 @@ loop-lines-preserved c = record {
   passed = first_of (search rules, grind (arith, common_steps));
   room = first_of (search rules, grind (arith, common_steps));
   left =
-      left_behind c.args.received.items (vec_len c.loop-lines.kept) c.in-Some.lines (into_iter_items c.next.new.self) _
+      left_after c.args.received.items (vec_len c.loop-lines.kept) c.in-Some.lines (into_iter_items c.next.new.self) _
       c.in-Some.ensures.steps.0 c.loop-lines.invariant.left
       ∙ ap (λ n. drop n c.args.received.items) (sym c.push_reserved.ensures.len);
 }

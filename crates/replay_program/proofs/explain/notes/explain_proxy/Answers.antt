@@ -1,7 +1,7 @@
 use Rattle.std.proofs.Common.{ap, sym, ◌∙◌, arith}
 use Rattle.replay_explanations.specs.Explainer.{text_of}
 use Rattle.replay_program.specs.Explained.{noted}
-use Rattle.replay_program.proofs.Noting.{all_alike, changed_also, none_changed}
+use Rattle.replay_program.proofs.Noting.{all_same, changed_also, none_changed}
 use Rattle.replay_program.proofs.explain.notes.explain_proxy.Goals as goal
 
 pub loop-line-init : goal.loop-line-init
@@ -17,5 +17,5 @@ loop-line-preserved c =
 pub returns-clause-noted : goal.returns-clause-noted
 returns-clause-noted c =
     c.loop-line.invariant
-    ∙ all_alike (noted c.args.explainer.now.form (text_of c.args.explainer.now.texts) c.args.proxy) 0 c.loop-line.line-index c.args.lines.now
+    ∙ all_same (noted c.args.explainer.now.form (text_of c.args.explainer.now.texts) c.args.proxy) 0 c.loop-line.line-index c.args.lines.now
     (omega (arith, c.loop-line-test.false))

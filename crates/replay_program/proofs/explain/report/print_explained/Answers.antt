@@ -31,8 +31,8 @@ returns-clause-takes g c = λ proxy memory.
     (ap (map answers_of) c.in_default.ensures.noted ∙ noted_answers form explained received))
     (c.print_report.ensures.takes proxy memory))
 
-pub returns-clause-beginning : goal.returns-clause-beginning
-returns-clause-beginning g c = λ style same are wrote.
+pub returns-clause-prefix : goal.returns-clause-prefix
+returns-clause-prefix g c = λ style same are wrote.
     let form = c.args.explainer.now.form in
     let explained = text_of c.args.explainer.now.texts in
     let received = map vec_items c.args.received.now in
@@ -41,4 +41,4 @@ returns-clause-beginning g c = λ style same are wrote.
     subst (λ (answers : List (List Answer)). IfSome (g.O.Sink.given c.print_report.new.out) (λ _. (n : ℕ)
     × Appends (g.O.Sink.given c.args.out.now) (g.O.Sink.given c.print_report.new.out) (take n (lines_by print answers))))
     (ap (map answers_of) c.in_default.ensures.noted ∙ noted_answers form explained received)
-    (c.print_report.ensures.beginning print by wrote)
+    (c.print_report.ensures.prefix print by wrote)

@@ -4,7 +4,7 @@ use Rattle.replay_program.specs.Met.{HasMet}
 use Rattle.replay_program.specs.Replayed.{HasFailed, Written, written}
 use Rattle.replay_stream.specs.Sinks.{state_by}
 use Rattle.replay_program.proofs.Meeting.{met_nothing, not_failed}
-use Rattle.replay_program.proofs.Programs.{done_alike, fails_alike, not_created, not_opened, to_file, to_standard}
+use Rattle.replay_program.proofs.Programs.{done_same, fails_same, not_created, not_opened, to_file, to_standard}
 use Rattle.replay_program.proofs.program.line.do_line.Goals as goal
 
 pub returns-in-Err-clause-failed : goal.returns-in-Err-clause-failed
@@ -75,7 +75,7 @@ returns-in-Ok-create g c =
     let new = c.in-Ok-create.ensures.begun in
     record {
       done = λ is. to_file state files line report standard error (IsTaskDone state files bytes line line.task report) name opened last
-          c.in-Some.is refl new refl refl (done_alike state files bytes line line.task first report out refl refl
+          c.in-Some.is refl new refl refl (done_same state files bytes line line.task first report out refl refl
           (subst (λ (b : List (Option (List ℕ))). IsTaskDone state files b line line.task first out) are (ran.done is)));
       differs = λ is. to_file state files line report standard error (FindsDifferences files bytes line line.task) name opened last
           c.in-Some.is refl new refl refl
@@ -83,7 +83,7 @@ returns-in-Ok-create g c =
       quiet = ran.quiet;
       failed = λ is. inr (inr (inr (to_file state files line report standard error
           (λ (out : Written). TaskFails state files bytes line line.task report out error) name opened last c.in-Some.is refl new refl refl
-          (fails_alike state files bytes line line.task first report out error refl refl
+          (fails_same state files bytes line line.task first report out error refl refl
           (subst (λ (b : List (Option (List ℕ))). TaskFails state files b line line.task first out error) are (ran.failed is))))));
       met = subst (λ (b : List (Option (List ℕ))). HasMet line.options b report.met error) are ran.met;
       output_failed = λ is. to_file state files line report standard error HasFailed name opened last c.in-Some.is refl new refl refl

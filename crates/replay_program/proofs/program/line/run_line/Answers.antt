@@ -1,5 +1,3 @@
-use Rattle.std.proofs.Common.{List, ℕ, Option, ap, subst, sym}
-use Rattle.std.specs.Io.KnownBytes.{Keeps}
 use Rattle.replay_program.proofs.program.line.run_line.Goals as goal
 
 pub returns : goal.returns
@@ -10,8 +8,12 @@ returns g c =
     record {
       done = ran.done;
       differs = ran.differs;
-      quiet = λ other. subst (λ (after : Option (List ℕ)). Keeps (given c.args.error.now) after) (sym (ap given (said.quiet other)))
-          (ran.quiet other);
+      quiet = λ other. record {
+        given = given c.do_line-report.new.error;
+        failures = g.E.Sink.failures c.do_line-report.new.error;
+        kept = ran.quiet other;
+        further = said.quiet other;
+      };
       failed = λ is. record {
         given = given c.do_line-report.new.error;
         failures = g.E.Sink.failures c.do_line-report.new.error;

@@ -5,7 +5,7 @@ use Rattle.replay_program.specs.ShardedProgram.{FindsDifferencesByShards, IsTask
 use Rattle.replay_stream.specs.Sinks.{state_by}
 use Rattle.replay_program.proofs.Meeting.{not_failed}
 use Rattle.replay_program.proofs.Programs.{to_file, to_standard}
-use Rattle.replay_program.proofs.ShardingEnds.{shards_done_alike, shards_fail_alike, shards_met_nothing, shards_without_output}
+use Rattle.replay_program.proofs.ShardingEnds.{shards_done_same, shards_fail_same, shards_met_nothing, shards_without_output}
 use Rattle.replay_program.proofs.program.sharding.do_line_sharded.Goals as goal
 
 pub returns-in-None : goal.returns-in-None
@@ -82,7 +82,7 @@ returns-in-Ok g c =
         are,
         to_file state files line report standard error (IsTaskDoneByShards state files points bytes line line.task report) name opened last
             c.in-Some.is refl new refl refl
-            (shards_done_alike state files points bytes line line.task first report out refl (ran.done bytes read is)),
+            (shards_done_same state files points bytes line line.task first report out refl (ran.done bytes read is)),
       );
       differs = λ is. (
         points,
@@ -98,7 +98,7 @@ returns-in-Ok g c =
             to_file state files line report standard error
                 (λ (out : Written). TaskFailsByShards state files points bytes line line.task report out error) name opened last
                 c.in-Some.is refl new refl refl
-                (shards_fail_alike state files points bytes line line.task first report out error refl (ran.failed bytes read is)),
+                (shards_fail_same state files points bytes line line.task first report out error refl (ran.failed bytes read is)),
           ));
       met = ran.met bytes read;
       output_failed = λ is. to_file state files line report standard error HasFailed name opened last c.in-Some.is refl new refl refl

@@ -1,5 +1,4 @@
-use Rattle.std.proofs.Common.{List, ℕ, Option, ap, refl, subst, sym}
-use Rattle.std.specs.Io.KnownBytes.{Keeps}
+use Rattle.std.proofs.Common.{refl}
 use Rattle.replay_arguments.specs.Opening.{contents_each}
 use Rattle.replay_program.specs.Program.{texts}
 use Rattle.replay_program.specs.Replayed.{written}
@@ -21,18 +20,18 @@ returns g c =
     let contents = g.F.Files.contents c.args.files.now in
     let line = c.args.line.now in
     let old = c.args.error.now in
-    let told = c.do_line_sharded-report.new.error in
+    let reported = c.do_line_sharded-report.new.error in
     record {
       done = ran.done;
       differs = ran.differs;
-      quiet = λ other. subst (λ (after : Option (List ℕ)). Keeps (given old) after) (sym (ap given (said.quiet other))) (ran.quiet other);
+      quiet = λ other. record { given = given reported; failures = failures reported; kept = ran.quiet other; further = said.quiet other };
       failed = λ is. record {
-        given = given told;
-        failures = failures told;
+        given = given reported;
+        failures = failures reported;
         failed = ran.failed is;
         met =
             met_by_line contents line (contents_each contents (texts line.files.items)) c.do_line_sharded-report.result.met
-            (written (given old) (given told) (failures old) (failures told)) c.in-Ok.sharded.points c.in-Ok.ensures.points ran.met;
+            (written (given old) (given reported) (failures old) (failures reported)) c.in-Ok.sharded.points c.in-Ok.ensures.points ran.met;
         output_failed = ran.output_failed;
         further = said.further is;
       };

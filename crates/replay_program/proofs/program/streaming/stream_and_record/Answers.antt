@@ -53,7 +53,7 @@ returns-in-Ok g c =
     } in
     let streamed = c.stream_over.ensures in
     record {
-      done = λ is. record { writers = writers; opened = created; whole = streamed.done is };
+      done = λ is. record { writers = writers; opened = created; entire = streamed.done is };
       quiet = streamed.quiet;
       failed = λ is. inr (recorded_and_failed state begun c.args.options bytes records writers recorders created out error (streamed.failed is));
       met = streamed.met;

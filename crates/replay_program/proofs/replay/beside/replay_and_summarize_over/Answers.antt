@@ -11,10 +11,10 @@ use Rattle.replay_workers.specs.Run.{IsMeasuredRun, is_complete}
 use Rattle.resolver.specs.declared.stop.Stop.{Stop}
 use Rattle.replay_output.specs.declared.failures.Ending.TheVariants.{Complete, Stopped}
 use Rattle.replay_output.specs.declared.status.Status.TheVariants.{Done}
-use Rattle.replay_program.specs.Met.{TellsStop}
+use Rattle.replay_program.specs.Met.{ReportsStop}
 use Rattle.replay_program.specs.Replayed.{written, Took, ending_of}
 use Rattle.replay_program.specs.Summarized.{BothFailed, run_summary}
-use Rattle.replay_program.proofs.Meeting.{has_met, is_failed, met_nothing, not_failed, tells_as}
+use Rattle.replay_program.proofs.Meeting.{has_met, is_failed, met_nothing, not_failed, reports_as}
 use Rattle.replay_program.proofs.Measuring.{measured_for_any, occupied_over}
 use Rattle.replay_program.proofs.Replaying.{complete_from, ending_is, are_lines, is_replayed_over}
 use Rattle.replay_program.proofs.replay.beside.replay_and_summarize_over.Goals.{then-account, else-account}
@@ -28,7 +28,7 @@ returns-in-Err g c = record {
     record {
       cause = c.in-Err.cause;
       nothing_printed = refl;
-      told = c.fail_to_start.ensures.line;
+      reported = c.fail_to_start.ensures.line;
     },
     refl,
   );
@@ -50,7 +50,7 @@ returns g c =
     let received = map (vec_items {X = Line} {Z = Global}) c.deref_mut.result.now in
     let failures = c.deref_mut-2.result.now in
     let complete = c.if-account.new in
-    let whole : c.if-account.new ≡ is_complete outcome account =
+    let entire : c.if-account.new ≡ is_complete outcome account =
     elim c.if-account.branch [
       | then-account w ↦ w.new-is ∙ sym (ap (λ (b : Bool). b && outcome.all_sent) w.if-account.true)
       | else-account w ↦
@@ -65,7 +65,7 @@ returns g c =
     let of_both = subst
     (λ (f : List ProxyFailure). IsMeasuredRun (λ _. Unit {0}) occupancy options files received f (is_complete outcome account) account.stop)
     (sym c.deref_mut-2.ensures.value) of_lines in
-    let measured = subst (λ (b : Bool). IsMeasuredRun (λ _. Unit {0}) occupancy options files received failures b account.stop) (sym whole) of_both in
+    let measured = subst (λ (b : Bool). IsMeasuredRun (λ _. Unit {0}) occupancy options files received failures b account.stop) (sym entire) of_both in
     let run = measured.observed.run in
     let over = λ (nothing : NothingFailed failures (ending_of complete account.stop)).
     occupied_over options files received failures complete occupancy account.stop (λ _. Unit {0}) measured
@@ -80,12 +80,12 @@ returns g c =
     (g.E.Sink.failures c.args.error.now) (g.E.Sink.failures c.print_with_summary-report.new.error) in
     let are = are_lines options files received failures complete account.stop run in
     let status = c.print_with_summary-report.result.status in
-    let stopped : (s : Stop) → account.stop ≡ Some s → TellsStop s error =
+    let stopped : (s : Stop) → account.stop ≡ Some s → ReportsStop s error =
     λ s is.
     let by : c.new-ending.result ≡ Stopped s = ending ∙ ap (λ (o : Option Stop). ending_of complete o) is in
     let not_done : status ≢ Done = λ done. let bad : Complete ≡ Stopped s = sym (report.nothing_failed done).complete ∙ by in cc in
     let both = report.failed options.style are (is_failed status report.ends report.same not_done) in
-    tells_as error both.told c.new-ending.result s by both.lines_of_failures in
+    reports_as error both.reported c.new-ending.result s by both.lines_of_failures in
     record {
       done = λ is.
           let texts = report.done options.style are is in
@@ -93,7 +93,7 @@ returns g c =
           is_replayed_over options files received failures complete account.stop run
           (λ log answers. Took out (lines_of options.style answers)
           × ((o : Occupancy) × IsOccupancyOver options.limit options.window log o × Took beside (run_summary form (Some o) answers)))
-          c.answers_tell_verdicts.ensures.tell nothing (texts.0, (occupancy, over nothing, texts.1));
+          c.answers_report_verdicts.ensures.known_verdicts nothing (texts.0, (occupancy, over nothing, texts.1));
       quiet = report.quiet;
       failed = λ is.
           inr (record {

@@ -8,11 +8,11 @@ use Rattle.replay_output.specs.declared.status.Status.TheVariants.{Done}
 use Rattle.replay_output.specs.Line.{AreLines}
 use Rattle.replay_output.specs.Lines.{lines as lines_of}
 use Rattle.replay_output.specs.Failures.{NothingFailed}
-use Rattle.replay_program.specs.Met.{TellsStop}
+use Rattle.replay_program.specs.Met.{ReportsStop}
 use Rattle.replay_program.specs.Replayed.{written, Took, ending_of}
 use Rattle.replay_program.specs.Sharded.{NamesShard}
 use Rattle.replay_program.specs.Summarized.{BothFailed, run_summary}
-use Rattle.replay_program.proofs.Meeting.{is_failed, not_failed, tells_as}
+use Rattle.replay_program.proofs.Meeting.{is_failed, not_failed, reports_as}
 use Rattle.replay_program.proofs.ShardedRuns.{all_answers, has_met_by_shards, is_replayed_by_shards, met_nothing_by_shards, quiet_still, stop_met}
 use Rattle.replay_program.proofs.sharded.beside.replay_and_summarize_sharded_over.Goals as goal
 
@@ -24,7 +24,7 @@ returns-in-Err g c = record {
     record {
       cause = c.in-Err.cause;
       nothing_printed = refl;
-      told = c.fail_to_start.ensures.line;
+      reported = c.fail_to_start.ensures.line;
     },
     refl,
   );
@@ -68,12 +68,12 @@ returns g c =
     let are : AreLines options.style received =
     subst (λ (l : List (List Line)). AreLines options.style l) (sym lines_are) c.in-Ok.ensures.lines in
     let printed = c.print_with_summary-report.result.status in
-    let tells : (s : Stop) → stop ≡ Some s → TellsStop s so_far =
+    let reports : (s : Stop) → stop ≡ Some s → ReportsStop s so_far =
     λ s is.
     let by : c.ending_of-ending.result ≡ Stopped s = ending ∙ ap (λ (o : Option Stop). ending_of combined.complete o) is in
     let not_done : printed ≢ Done = λ done. let bad : Complete ≡ Stopped s = sym (report.nothing_failed done).complete ∙ by in cc in
     let both = report.failed options.style are (is_failed printed report.ends report.same not_done) in
-    tells_as so_far both.told c.ending_of-ending.result s by both.lines_of_failures in
+    reports_as so_far both.reported c.ending_of-ending.result s by both.lines_of_failures in
     record {
       done = λ files read is.
           let done = sym status ∙ is in
@@ -107,7 +107,7 @@ returns g c =
           });
       met = λ files read.
           has_met_by_shards points options files combined (c.in-Ok.ensures.together files read) c.met_of.result so_far error
-          c.met_of.ensures.stop c.met_of.ensures.version tells named;
+          c.met_of.ensures.stop c.met_of.ensures.version reports named;
       output_failed = λ is. report.output_failed (sym c.met_of.ensures.output_failed ∙ is);
       ends = λ is. report.ends (sym status ∙ is);
       same = λ is. report.same (sym status ∙ is);

@@ -9,7 +9,7 @@ use Rattle.replay_output.specs.Failures.{failure_lines, NothingFailed}
 use Rattle.replay_program.specs.Checked.{KeepReplies, TakesToCompare, check_lines, differences_of}
 use Rattle.replay_program.specs.Replayed.{written, Took}
 use Rattle.replay_program.specs.Sharded.{AreAsCombined, NamesShard}
-use Rattle.replay_program.proofs.Meeting.{not_failed, stop_told}
+use Rattle.replay_program.proofs.Meeting.{not_failed, stop_reported}
 use Rattle.replay_program.proofs.Replaying.{held_ok, ran_as_and_failed, held_at, held_and, ok_at}
 use Rattle.replay_program.proofs.ShardedRuns.{all_answers, done_or_differs, failures_count, has_met_by_shards, is_replayed_by_shards, met_nothing_by_shards, quiet_still, received_count, stop_met}
 use Rattle.replay_program.proofs.sharded.checked.check_sharded_over.Goals as goal
@@ -22,7 +22,7 @@ returns-in-Err g c = record {
   failed = λ files read is. inl (record {
     cause = c.in-Err.cause;
     nothing_printed = refl;
-    told = c.fail_to_start.ensures.line;
+    reported = c.fail_to_start.ensures.line;
   });
   met = λ files read.
       met_nothing_by_shards c.args.sharded.points c.args.options files c.unstarted.result.met
@@ -44,7 +44,7 @@ returns g c =
     let stop = stop_met combined in
     let ending = c.ending_of-ending.ensures.ending in
     let report = c.print_check-report.ensures in
-    let told = c.print_check-report.new.failures in
+    let reported = c.print_check-report.new.failures in
     let out = written (g.O.Sink.given c.args.out.now) (g.O.Sink.given c.print_check-report.new.out)
     (g.O.Sink.failures c.args.out.now) (g.O.Sink.failures c.print_check-report.new.out) in
     let so_far = written (g.E.Sink.given c.args.error.now) (g.E.Sink.given c.print_check-report.new.error)
@@ -59,7 +59,7 @@ returns g c =
     let status = c.print_stopped.ensures.status in
     let are : KeepReplies received = (options.style, c.requires.kept, c.in-Ok.ensures.lines) in
     let lines = report.lines are in
-    let told_lines = subst (λ (e : Ending). OnOk c.print_check-report.result.told (Took so_far (failure_lines told e))) ending
+    let reported_lines = subst (λ (e : Ending). OnOk c.print_check-report.result.reported (Took so_far (failure_lines reported e))) ending
     report.failure_lines in
     record {
       done = λ files read is.
@@ -97,8 +97,8 @@ returns g c =
             failed = ran_as_and_failed received failures combined.complete stop (length files)
                 (received_count points options files combined runs received failures refl failures_are)
                 (failures_count points options files combined runs received failures refl failures_are) (AreAsCombined combined)
-                (refl, failures_are, refl, refl) (check_lines recorded) (TakesToCompare recorded) out so_far told
-                c.print_check-report.result.printed c.print_check-report.result.told lines
+                (refl, failures_are, refl, refl) (check_lines recorded) (TakesToCompare recorded) out so_far reported
+                c.print_check-report.result.printed c.print_check-report.result.reported lines
                 (λ proxy memory. omega (
                   arith,
                   report.memory proxy memory,
@@ -106,7 +106,7 @@ returns g c =
                   length-map combined.lines.items (vec_items {X = Line} {Z = Global}),
                 ))
                 report.takes
-                report.nothing (report.beginning are) report.write.0 told_lines report.told.0 report.loss report.no_loss
+                report.nothing (report.prefix are) report.write.0 reported_lines report.reported.0 report.loss report.no_loss
                 (λ all.
                 report.failed (sym status ∙ is)
                 (all.0, all.1, subst (λ (e : Ending). NothingFailed failures e) (sym ending) all.2));
@@ -115,7 +115,7 @@ returns g c =
       met = λ files read.
           has_met_by_shards points options files combined (c.in-Ok.ensures.together files read) c.met_of.result so_far error
           c.met_of.ensures.stop c.met_of.ensures.version
-          (stop_told [] c.print_check-report.result.told so_far told combined.complete stop told_lines report.told.0) named;
+          (stop_reported [] c.print_check-report.result.reported so_far reported combined.complete stop reported_lines report.reported.0) named;
       output_failed = λ is. report.write.0 (c.is_unwritten.ensures.write (sym c.met_of.ensures.output_failed ∙ is));
       ends = λ is. report.ends (sym status ∙ is);
     }

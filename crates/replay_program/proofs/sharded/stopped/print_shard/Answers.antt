@@ -8,7 +8,7 @@ pub returns-clause-text : goal.returns-clause-text
 returns-clause-text g c =
     let given = g.E.Sink.given in
     let number = subst (Appends (given c.write_all.new.writer) (given c.write_all-2.new.writer))
-    (c.as_bytes.ensures.value ∙ c.format.ensures.text) c.in_ok-write_all-2.ensures.whole in
+    (c.as_bytes.ensures.value ∙ c.format.ensures.text) c.in_ok-write_all-2.ensures.entire in
     on_ok_weaker c.write_all-3.result
-    (λ end. appends_then _ _ _ _ _ c.in_ok-write_all.ensures.whole (appends_then _ _ _ _ _ number end))
-    c.write_all-3.ensures.whole
+    (λ end. appends_then _ _ _ _ _ c.in_ok-write_all.ensures.entire (appends_then _ _ _ _ _ number end))
+    c.write_all-3.ensures.entire

@@ -5,6 +5,6 @@ use Rattle.replay_program.proofs.summary.beside.print_proxy.Given as goal
 
 abbrev pub invariant-loop-line : goal.invariant-loop-line
 invariant-loop-line g l = record {
-  whole : Appends (g.W.Sink.given l.initial.out) (g.W.Sink.given l.out) (text_of (take l.line-index l.lines));
+  entire : Appends (g.W.Sink.given l.initial.out) (g.W.Sink.given l.out) (text_of (take l.line-index l.lines));
   ok : g.W.Sink.failures l.out ≡ g.W.Sink.failures l.initial.out;
 }

@@ -5,7 +5,7 @@ use Rattle.replay_output.specs.Line.{answers_of, texts}
 use Rattle.replay_output.specs.Lines.{line, lines}
 use Rattle.replay_output.proofs.LineTexts.{texts_are_lines}
 use Rattle.replay_output.proofs.callers.Texts.{are_lines_by}
-use Rattle.replay_program.specs.Replayed.{Took, TookBeginning, written}
+use Rattle.replay_program.specs.Replayed.{Took, TookPrefix, written}
 use Rattle.replay_program.specs.Summarized.{run_summary}
 use Rattle.replay_program.proofs.Beside.{both_failed, both_lost, held}
 use Rattle.replay_program.proofs.Meeting.{failed_if}
@@ -24,8 +24,8 @@ returns-in-Err-clause-failed g c = λ style are is.
     let error = written (g.E.Sink.given c.args.error.now) (g.E.Sink.given c.report_loss.new.error)
     (g.E.Sink.failures c.args.error.now) (g.E.Sink.failures c.report_loss.new.error) in
     both_lost c.args.summary.now.form c.args.occupancy style received c.args.failures.now c.args.ending out beside error c.in-Err.proxy
-    c.report_loss.new.failures c.report_loss.result.told (omega (arith, c.in-Err.ensures.proxy, count))
-    (c.requires.proxies ∙ sym count) c.in-Err.ensures.takes report.loss report.failure_lines report.told.0 refl refl
+    c.report_loss.new.failures c.report_loss.result.reported (omega (arith, c.in-Err.ensures.proxy, count))
+    (c.requires.proxies ∙ sym count) c.in-Err.ensures.takes report.loss report.failure_lines report.reported.0 refl refl
 
 pub returns-clause-done : goal.returns-clause-done
 returns-clause-done g c = λ style are is.
@@ -39,11 +39,11 @@ returns-clause-done g c = λ style are is.
       held c.print_and_flush-printed.result
           (subst (λ (text : List ℕ). OnOk c.print_and_flush-printed.result (Took out text))
           (ap texts c.in-Ok.ensures.sorted ∙ texts_are_lines (line style) received (are_lines_by style received are))
-          c.print_and_flush-printed.ensures.whole) all.1,
+          c.print_and_flush-printed.ensures.entire) all.1,
       held c.write_and_flush-put.result
           (subst (λ (text : List ℕ). OnOk c.write_and_flush-put.result (Took beside text))
           (c.deref.ensures.value ∙ c.in-Ok.ensures.text style are ∙ no_ranges form (run_summary form c.args.occupancy (map answers_of received)) [] refl)
-          c.write_and_flush-put.ensures.whole) all.2,
+          c.write_and_flush-put.ensures.entire) all.2,
     )
 
 pub returns-clause-failed : goal.returns-clause-failed
@@ -52,24 +52,24 @@ returns-clause-failed g c = λ style are is.
     let received = map vec_items c.args.received.now in
     let printed = c.print_and_flush-printed.ensures in
     let put = c.write_and_flush-put.ensures in
-    let told = c.print_failures-told.ensures in
+    let reported = c.print_failures-reported.ensures in
     let out = written (g.O.Sink.given c.args.out.now) (g.O.Sink.given c.print_and_flush-printed.new.out)
     (g.O.Sink.failures c.args.out.now) (g.O.Sink.failures c.print_and_flush-printed.new.out) in
     let beside = written (g.T.Sink.given c.args.summary.now.writer) (g.T.Sink.given c.write_and_flush-put.new.writer)
     (g.T.Sink.failures c.args.summary.now.writer) (g.T.Sink.failures c.write_and_flush-put.new.writer) in
-    let error = written (g.E.Sink.given c.args.error.now) (g.E.Sink.given c.print_failures-told.new.error)
-    (g.E.Sink.failures c.args.error.now) (g.E.Sink.failures c.print_failures-told.new.error) in
+    let error = written (g.E.Sink.given c.args.error.now) (g.E.Sink.given c.print_failures-reported.new.error)
+    (g.E.Sink.failures c.args.error.now) (g.E.Sink.failures c.print_failures-reported.new.error) in
     let answers_are : texts (map vec_items c.text_of.new.received) ≡ lines style (map answers_of received) =
     ap texts c.in-Ok.ensures.sorted ∙ texts_are_lines (line style) received (are_lines_by style received are) in
     let summary_is : c.deref.result.now ≡ run_summary form c.args.occupancy (map answers_of received) =
     c.deref.ensures.value ∙ c.in-Ok.ensures.text style are ∙ no_ranges form (run_summary form c.args.occupancy (map answers_of received)) [] refl in
     both_failed form c.args.occupancy style received c.args.failures.now c.args.ending out beside error c.print_and_flush-printed.result
-    c.write_and_flush-put.result c.print_failures-told.result
-    (subst (λ (text : List ℕ). OnOk c.print_and_flush-printed.result (Took out text)) answers_are printed.whole)
-    (subst (λ (text : List ℕ). OnErr c.print_and_flush-printed.result (TookBeginning out text)) answers_are printed.beginning) printed.failed
-    (subst (λ (text : List ℕ). OnOk c.write_and_flush-put.result (Took beside text)) summary_is put.whole)
-    (subst (λ (text : List ℕ). OnErr c.write_and_flush-put.result (TookBeginning beside text)) summary_is put.beginning) put.failed
-    told.text told.failed.0
+    c.write_and_flush-put.result c.print_failures-reported.result
+    (subst (λ (text : List ℕ). OnOk c.print_and_flush-printed.result (Took out text)) answers_are printed.entire)
+    (subst (λ (text : List ℕ). OnErr c.print_and_flush-printed.result (TookPrefix out text)) answers_are printed.prefix) printed.failed
+    (subst (λ (text : List ℕ). OnOk c.write_and_flush-put.result (Took beside text)) summary_is put.entire)
+    (subst (λ (text : List ℕ). OnErr c.write_and_flush-put.result (TookPrefix beside text)) summary_is put.prefix) put.failed
+    reported.text reported.failed.0
     (λ all.
     let done = c.status_of.ensures.done.1 (c.nothing_failed.ensures.nothing.1 all.0, all.1, all.2, all.3) in
     cc (done, is))

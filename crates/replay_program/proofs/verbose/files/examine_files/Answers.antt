@@ -1,6 +1,6 @@
 use Rattle.std.proofs.Common.{List, ℕ, Bor, arith, subst}
 use Rattle.replay_program.specs.Verbose.{AreExamined}
-use Rattle.replay_program.proofs.Saying.{examined_more, get_of, none_examined, take_whole}
+use Rattle.replay_program.proofs.Saying.{examined_more, get_of, none_examined, take_entire}
 use Rattle.replay_program.proofs.verbose.files.examine_files.Goals as goal
 
 pub loop-name-init : goal.loop-name-init
@@ -27,4 +27,4 @@ returns-in-Err-clause-found g c = record {
 pub returns-clause-batches : goal.returns-clause-batches
 returns-clause-batches g c =
     subst (λ (l : List (List ℕ)). AreExamined (g.F.Files.contents c.args.files.now) l c.loop-name.batches.least_previous)
-    (take_whole (λ (name : Bor (List ℕ)). name.now) c.args.names.now c.loop-name.name-index (omega arith)) c.loop-name.invariant.examined
+    (take_entire (λ (name : Bor (List ℕ)). name.now) c.args.names.now c.loop-name.name-index (omega arith)) c.loop-name.invariant.examined

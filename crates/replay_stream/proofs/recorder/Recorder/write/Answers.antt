@@ -6,7 +6,7 @@ pub returns-in-Ok-clause-writes : goal.returns-in-Ok-clause-writes
 returns-in-Ok-clause-writes g c = λ first taken before was.
     let failure = c.args.self.now.failure in
     let none = none_yet failure (search rules) in
-    written_after first taken before _ _ c.args.answer.now failure none was (c.in-Ok.ensures.whole, c.in-Ok.ensures.ok)
+    written_after first taken before _ _ c.args.answer.now failure none was (c.in-Ok.ensures.entire, c.in-Ok.ensures.ok)
 
 pub returns-in-Err-Write-clause-writes : goal.returns-in-Err-Write-clause-writes
 returns-in-Err-Write-clause-writes g c = λ first taken before was.
@@ -14,4 +14,4 @@ returns-in-Err-Write-clause-writes g c = λ first taken before was.
     let none = none_yet failure (search rules) in
     let failed = c.in-Err-Write.is ∙ ap Err c.in-Err-Write.field-0-is in
     failed_after first taken before _ _ c.args.answer.now failure none was
-    (c.write_record.ensures.write.0 failed, c.write_record.ensures.beginning failed)
+    (c.write_record.ensures.write.0 failed, c.write_record.ensures.prefix failed)

@@ -16,7 +16,7 @@ returns-in-Err-send-clause-sent g c =
       batches = before.0;
       left = left;
       sent = c.in-Err-send.ensures.unchanged ∙ before.1;
-      frames = subst (λ (batch : Batch). GivesEach Gives first left (before.0 ++ batch ∷ [])) (sym c.in-Err-send.ensures.handed_back) batches;
+      frames = subst (λ (batch : Batch). GivesEach Gives first left (before.0 ++ batch ∷ [])) (sym c.in-Err-send.ensures.returned) batches;
       all = λ _ none. search rules;
       first_fault = tt;
     }

@@ -1,9 +1,9 @@
 use Rattle.replay_workers.specs.Ends.{SendsNothing}
-use Rattle.replay_workers.specs.Inbox.{InboxGoesOn}
+use Rattle.replay_workers.specs.Inbox.{InboxContinues}
 use Rattle.replay_workers.proofs.inbox.Inbox.take_all.Given as goal
 
 abbrev pub invariant-loop : goal.invariant-loop
 invariant-loop g l = record {
-  goes : InboxGoesOn l.fn.self l.self;
+  goes : InboxContinues l.fn.self l.self;
   nothing : SendsNothing l.fn.self.ends l.self.ends;
 }

@@ -1,7 +1,7 @@
 use Rattle.std.proofs.Common.{◌≡◌, ◌≢◌, ℕ, ◌+◌, ◌<◌, ◌≤◌, List, length, ap, ◌∙◌, inl, inr, arith, get_or-set_same, get_or-set_other, length-set}
 use Rattle.std.specs.Prelude.{slice_get, slice_index}
 use borrow.Author.Count.{below_more}
-use Rattle.flow.specs.declared.told.Told.{Told}
+use Rattle.flow.specs.declared.reported_state.ReportedState.{ReportedState}
 use Rattle.resolver.specs.Lanes.{sent_to}
 use Rattle.resolver.proofs.callers.Lists.{slice_get-set_other}
 use Rattle.replay_workers.specs.Watch.{Look}
@@ -16,24 +16,24 @@ loop-proxy-preserved g c =
     let old = c.loop-proxy.self in
     let new = c.keep.new.self in
     let place = c.loop-proxy.proxy in
-    let t = c.told-told.result in
+    let t = c.reported_state-reported.result in
     let s = c.sent-sent.result in
-    let in_told : place < length old.told = omega (arith, before.told_count, ap (λ (l : Look). length l.told) c.self.view_is) in
+    let in_reported : place < length old.reported = omega (arith, before.reported_count, ap (λ (l : Look). length l.reported) c.self.view_is) in
     let in_sent : place < length old.sent = omega (arith, c.keep.ensures.counts) in
     let other : (k : ℕ) → place + 1 ≤ k → k ≢ place = λ k after. omega arith in
-    let written = same_after was.told old.told new.told was.sent old.sent new.sent place t s c.loop-proxy.is_same
-    c.keep.result c.if-not-keep.is_same in_told in_sent (before.told_later place (omega arith))
-    (before.sent_later place (omega arith)) c.keep.ensures.told c.keep.ensures.sent before.same c.keep.ensures.same in
+    let written = same_after was.reported old.reported new.reported was.sent old.sent new.sent place t s c.loop-proxy.is_same
+    c.keep.result c.if-not-keep.is_same in_reported in_sent (before.reported_later place (omega arith))
+    (before.sent_later place (omega arith)) c.keep.ensures.reported c.keep.ensures.sent before.same c.keep.ensures.same in
     record {
-      told_count = ap length c.keep.ensures.told ∙ length-set old.told place t ∙ before.told_count;
+      reported_count = ap length c.keep.ensures.reported ∙ length-set old.reported place t ∙ before.reported_count;
       sent_count = ap length c.keep.ensures.sent ∙ length-set old.sent place s ∙ before.sent_count;
       same = elim c.if-not-keep.branch [
         | then-not-keep w ↦ written (inl (cc, w.is_same-is))
         | else-not-keep w ↦ written (inr (cc, w.is_same-is))
       ];
-      told_later = λ k after.
-          ap (λ (l : List Told). slice_get l k) c.keep.ensures.told
-          ∙ slice_get-set_other old.told place k t (other k after) ∙ before.told_later k (omega arith);
+      reported_later = λ k after.
+          ap (λ (l : List ReportedState). slice_get l k) c.keep.ensures.reported
+          ∙ slice_get-set_other old.reported place k t (other k after) ∙ before.reported_later k (omega arith);
       sent_later = λ k after.
           ap (λ (l : List ℕ). slice_get l k) c.keep.ensures.sent
           ∙ slice_get-set_other old.sent place k s (other k after) ∙ before.sent_later k (omega arith);

@@ -5,10 +5,10 @@ use Rattle.replay_workers.proofs.watch.Watch.finds_the_same.Given as goal
 
 abbrev pub invariant-loop-proxy : goal.invariant-loop-proxy
 invariant-loop-proxy g l = record {
-  told_count : length l.self.told ≡ length l.fn.self.told;
+  reported_count : length l.self.reported ≡ length l.fn.self.reported;
   sent_count : length l.self.sent ≡ length l.fn.self.sent;
-  same : IsTrue l.is_same ↔ ((l.self.told ≡ l.fn.self.told) × (l.self.sent ≡ l.fn.self.sent));
-  told_later : (k : ℕ) → l.proxy ≤ k → slice_get l.self.told k ≡ slice_get l.fn.self.told k;
+  same : IsTrue l.is_same ↔ ((l.self.reported ≡ l.fn.self.reported) × (l.self.sent ≡ l.fn.self.sent));
+  reported_later : (k : ℕ) → l.proxy ≤ k → slice_get l.self.reported k ≡ slice_get l.fn.self.reported k;
   sent_later : (k : ℕ) → l.proxy ≤ k → slice_get l.self.sent k ≡ slice_get l.fn.self.sent k;
   sent : (k : ℕ) → k < l.proxy → slice_index l.self.sent k ≡ length (sent_to l.resolver.lanes k);
 }

@@ -3,7 +3,7 @@ use Rattle.keyspace.specs.declared.batch.Batch.{Batch}
 use Rattle.lane.specs.Lane.{PortView}
 use Rattle.replay_workers.specs.Worker.{LeavesLane, unsent_of}
 use Rattle.replay_workers.proofs.callers.Ending.{ended_first, left_closed, left_open}
-use Rattle.replay_workers.proofs.Keeping.{inbox_goes_on, with_ends}
+use Rattle.replay_workers.proofs.Keeping.{inbox_continues, with_ends}
 use Rattle.replay_workers.proofs.worker.Worker.close.Goals as goal
 
 pub returns-then-is_cut_short-clause-leaves : goal.returns-then-is_cut_short-clause-leaves
@@ -21,7 +21,7 @@ pub returns-clause-inbox : goal.returns-clause-inbox
 returns-clause-inbox g c =
     let old = c.args.self.now.inbox in
     let closed = record old { ends = c.close.new.self } in
-    inbox_goes_on old closed c.take_to_end.new.self (with_ends old closed c.close.ensures.ends c.close.ensures.replies refl)
+    inbox_continues old closed c.take_to_end.new.self (with_ends old closed c.close.ensures.ends c.close.ensures.replies refl)
     c.take_to_end.ensures.inbox
 
 pub returns-clause-leaves : goal.returns-clause-leaves

@@ -1,7 +1,7 @@
 use Rattle.std.proofs.Common.{◌++◌, [], ◌∷◌, rules, sym, ap, subst, ◌∙◌, append_assoc, append-nil, List, inl, inr, refl}
 use Rattle.keyspace.specs.declared.batch.Batch.{Batch}
 use Rattle.replay_workers.specs.Batches.{GivesEach}
-use Rattle.replay_workers.proofs.Keeping.{inbox_goes_on}
+use Rattle.replay_workers.proofs.Keeping.{inbox_continues}
 use Rattle.replay_workers.proofs.callers.Reading.{gives_also}
 use Rattle.replay_workers.proofs.worker.Worker.send_batches.Goals as goal
 
@@ -18,7 +18,7 @@ returns-in-Err-send-clause-sent g c =
         left = left;
         sent = c.in-Err-send.ensures.unchanged ∙ before.1;
         frames =
-            subst (λ (batch : Batch). GivesEach Gives first left (before.0 ++ batch ∷ [])) (sym c.in-Err-send.ensures.handed_back) batches;
+            subst (λ (batch : Batch). GivesEach Gives first left (before.0 ++ batch ∷ [])) (sym c.in-Err-send.ensures.returned) batches;
         all = λ _ none. search rules;
         first_fault = tt;
       },
@@ -45,7 +45,7 @@ loop-preserved g c =
 
 pub returns-in-Err-send-clause-inbox : goal.returns-in-Err-send-clause-inbox
 returns-in-Err-send-clause-inbox g c =
-    inbox_goes_on c.args.self.now.inbox c.loop.self.inbox c.send.new.self.inbox c.loop.invariant.inbox
+    inbox_continues c.args.self.now.inbox c.loop.self.inbox c.send.new.self.inbox c.loop.invariant.inbox
     c.in-Err-send.ensures.inbox
 
 pub returns-in-Ok-None-clause-sent : goal.returns-in-Ok-None-clause-sent

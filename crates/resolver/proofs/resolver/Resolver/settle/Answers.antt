@@ -5,7 +5,7 @@ use Rattle.keyspace.specs.Run.{Step}
 use Rattle.lane.specs.Lane.{HasEnded}
 use Rattle.resolver.specs.declared.client.Client.{Client}
 use Rattle.resolver.specs.Resolver.{ResolverState, StandsOverFrom, AreClients}
-use Rattle.resolver.specs.Lanes.{Each, LanesGoOn, AreSameLists, sent_to}
+use Rattle.resolver.specs.Lanes.{Each, LanesContinue, AreSameLists, sent_to}
 use Rattle.resolver.specs.Parts.{ProxyLanesView, Parts, AreParts, EachSettled, lanes_of, owed_with, resolver_of}
 use Rattle.resolver.specs.Settled.{SettledFrom, IsComplete}
 use Rattle.resolver.proofs.Resolving.{stands_settled}
@@ -78,7 +78,7 @@ returns-clause-settled c =
     (clients_are c).count)
     c.runs_are_chains.ensures.chain c.each_batch_is_answered.ensures.once
     c.each_batch_is_answered.ensures.none_held c.chains_are_serializable.ensures.chains
-    c.answers_tell_verdicts.ensures.tell _ (complete_is c).0 (c.new.ensures.stop ∙ c.stop.ensures.stop))
+    c.answers_report_verdicts.ensures.known_verdicts _ (complete_is c).0 (c.new.ensures.stop ∙ c.stop.ensures.stop))
 
 pub returns-clause-settled_for_some : goal.returns-clause-settled_for_some
 returns-clause-settled_for_some c = λ version before.
@@ -111,7 +111,7 @@ returns-clause-core c =
 
 pub returns-clause-lanes : goal.returns-clause-lanes
 returns-clause-lanes c =
-    subst₂ (Each (λ _ l m. LanesGoOn l m × AreSameLists l m)) (ap (λ (r : ResolverState). r.lanes) c.self.view_is)
+    subst₂ (Each (λ _ l m. LanesContinue l m × AreSameLists l m)) (ap (λ (r : ResolverState). r.lanes) c.self.view_is)
     (ap lanes_of (sym (all_lanes_are c)))
     (lanes_settled (parts c).all_lanes (new c) c.args.clients.now c.settle-all_taken.new.clients (each c)
     (clients_are c).count)

@@ -4,8 +4,8 @@ use Rattle.chain.specs.declared.gate.TheConstants.{MAX_HELD}
 use Rattle.std.specs.Vec.{with_items}
 use Rattle.keyspace.specs.Run.{run}
 use Rattle.resolver.specs.declared.stop.Stop.TheVariants.{GateFull, ArenaFull}
-use Rattle.resolver.specs.Core.{GoesOn, StopsAtLimit}
-use Rattle.resolver.specs.Lanes.{Each, LanesGoOn, IsLookedThrough, ComesBefore, all_ended, sent_to}
+use Rattle.resolver.specs.Core.{Continues, StopsAtLimit}
+use Rattle.resolver.specs.Lanes.{Each, LanesContinue, IsLookedThrough, ComesBefore, all_ended, sent_to}
 use Rattle.resolver.specs.OpeningLog.{log_from}
 use Rattle.resolver.specs.Observed.{ObservesStep}
 use Rattle.resolver.specs.Resolver.{ResolverState, StandsOverFrom, TakesFrom, Finishes, TakesNoStep}
@@ -17,7 +17,7 @@ use Rattle.resolver.proofs.Stepping.{
   same_bools,
   other_than_false,
   newly_ended,
-  go_on_itself,
+  continue_itself,
   found_in,
   none_found_in,
   parts_taken,
@@ -29,12 +29,12 @@ use Rattle.resolver.proofs.Stepping.{
   lanes_taken,
   passed_taken,
   some_after,
-  goes_on_taken,
+  continues_taken,
   parts_looked,
   replies_looked,
   lanes_looked,
   all_looked,
-  goes_on_looked,
+  continues_looked,
   open_before,
   finishes_now,
   through_still,
@@ -81,7 +81,7 @@ module _ (g : Over) (c : goal.After-from_residual g) where
   stopped_takes =
       subst (λ r. TakesFrom c.in-Some-take_from.proxy r (resolver_of stopped_new)) c.self.view_is
       (takes_from stopped_old stopped_new c.self.inside.next c.in-Some-take_from.proxy c.in-Some-take_from.batch
-      stopped_found c.self.invariant stopped_running c.admit_observed.ensures.admits.goes_on refl refl refl
+      stopped_found c.self.invariant stopped_running c.admit_observed.ensures.admits.continues refl refl refl
       (c.admit_observed.ensures.admits.stands stopped_running))
 
 -- a batch was found, and it was admitted
@@ -118,18 +118,18 @@ module _ (g : Over) (c : goal.In_ok-admit_observed-in-Some-take_from g) where
   admitted_takes =
       subst (λ r. TakesFrom c.in-Some-take_from.proxy r (resolver_of admitted_new)) c.self.view_is
       (takes_from admitted_old admitted_new c.self.inside.next c.in-Some-take_from.proxy c.in-Some-take_from.batch
-      admitted_found c.self.invariant admitted_running c.admit_observed.ensures.admits.goes_on refl refl refl
+      admitted_found c.self.invariant admitted_running c.admit_observed.ensures.admits.continues refl refl refl
       (c.admit_observed.ensures.admits.stands admitted_running))
 
 pub invariant_of-self : goal.invariant_of-self
 invariant_of-self g c =
     parts_taken (stopped_old g c) (stopped_new g c) c.self.inside.next c.in-Some-take_from.proxy c.in-Some-take_from.batch
-    (stopped_found g c) c.self.invariant (stopped_running g c) c.admit_observed.ensures.admits.goes_on refl refl refl
+    (stopped_found g c) c.self.invariant (stopped_running g c) c.admit_observed.ensures.admits.continues refl refl refl
 
 pub invariant_of-self-in-Some-take_from : goal.invariant_of-self-in-Some-take_from
 invariant_of-self-in-Some-take_from g c =
     parts_taken (admitted_old g c) (admitted_new g c) c.self.inside.next c.in-Some-take_from.proxy c.in-Some-take_from.batch
-    (admitted_found g c) c.self.invariant (admitted_running g c) c.admit_observed.ensures.admits.goes_on refl refl refl
+    (admitted_found g c) c.self.invariant (admitted_running g c) c.admit_observed.ensures.admits.continues refl refl refl
 
 pub returns-in_err-admit_observed-in-Some-take_from-clause-stop_met : goal.returns-in_err-admit_observed-in-Some-take_from-clause-stop_met
 returns-in_err-admit_observed-in-Some-take_from-clause-stop_met g c =
@@ -142,7 +142,7 @@ returns-in_err-admit_observed-in-Some-take_from-clause-gate_full g c =
     let met = same_stop c.from_residual.result stop GateFull c.from_residual.ensures.1 is in
     let full = (c.admit_observed.ensures.admits.gate_full (stopped_running g c)).0 (c.in_err-admit_observed-in-Some-take_from.was ∙ ap Err met) in
     let took = takes_when (stopped_old g c) (stopped_new g c) c.self.inside.next c.in-Some-take_from.proxy c.in-Some-take_from.batch
-    (stopped_found g c) c.self.invariant (stopped_running g c) c.admit_observed.ensures.admits.goes_on refl refl refl (λ b. (c.self.inside.core.version <ℤ b.previous) × (length c.self.inside.core.held ≡ MAX_HELD)) full
+    (stopped_found g c) c.self.invariant (stopped_running g c) c.admit_observed.ensures.admits.continues refl refl refl (λ b. (c.self.inside.core.version <ℤ b.previous) × (length c.self.inside.core.held ≡ MAX_HELD)) full
     (c.admit_observed.ensures.admits.stands (stopped_running g c)) in
     subst (λ (r : ResolverState). (p : ℕ) × (t : TakesFrom p r (resolver_of (stopped_new g c)))
     × (r.core.version <ℤ t.batch.previous) × (length r.core.held ≡ MAX_HELD)) c.self.view_is
@@ -157,15 +157,15 @@ returns-in_err-admit_observed-in-Some-take_from-clause-arena_full g c =
     let window = c.self.inside.core.set.window in
     let given = sent_to (lanes_of (stopped_new g c).all_lanes) in
     let core = (resolver_of (stopped_new g c)).core in
-    let whole = log_from version (length (lanes_of (stopped_old g c).all_lanes)) log in
+    let entire = log_from version (length (lanes_of (stopped_old g c).all_lanes)) log in
     subst (λ (r : ResolverState). (p : ℕ) × (t : TakesFrom p r (resolver_of (stopped_new g c)))
     × StopsAtLimit r.core.set.map.limit r.core.set.window p t.batch
     (run r.core.set.window (log_from version (length r.lanes) log)) given core)
     c.self.view_is
     (takes_over (stopped_old g c) (stopped_new g c) c.self.inside.next c.in-Some-take_from.proxy c.in-Some-take_from.batch
-    (stopped_found g c) c.self.invariant (stopped_running g c) c.admit_observed.ensures.admits.goes_on refl refl refl (λ p b. StopsAtLimit limit window p b (run window whole) given core)
+    (stopped_found g c) c.self.invariant (stopped_running g c) c.admit_observed.ensures.admits.continues refl refl refl (λ p b. StopsAtLimit limit window p b (run window entire) given core)
     (stops_at_limit (stopped_old g c) (stopped_new g c) c.self.inside.next c.in-Some-take_from.proxy c.in-Some-take_from.batch
-    (stopped_found g c) c.self.invariant (stopped_running g c) c.admit_observed.ensures.admits.goes_on refl refl refl version log
+    (stopped_found g c) c.self.invariant (stopped_running g c) c.admit_observed.ensures.admits.continues refl refl refl version log
     (subst (λ (r : ResolverState). StandsOverFrom version r log) (sym c.self.view_is) s)
     (c.admit_observed.ensures.admits.arena_full (stopped_running g c) (c.in_err-admit_observed-in-Some-take_from.was ∙ ap Err met)))
     (c.admit_observed.ensures.admits.stands (stopped_running g c)))
@@ -174,37 +174,37 @@ pub returns-in_err-admit_observed-in-Some-take_from-clause-replies : goal.return
 returns-in_err-admit_observed-in-Some-take_from-clause-replies g c =
     subst (λ (r : ResolverState). Each (λ p l m. m.replies ≡ l.replies) r.lanes (lanes_of (stopped_new g c).all_lanes)) c.self.view_is
     (replies_taken (stopped_old g c) (stopped_new g c) c.self.inside.next c.in-Some-take_from.proxy c.in-Some-take_from.batch
-    (stopped_found g c) c.self.invariant (stopped_running g c) c.admit_observed.ensures.admits.goes_on refl refl refl)
+    (stopped_found g c) c.self.invariant (stopped_running g c) c.admit_observed.ensures.admits.continues refl refl refl)
 
 pub returns-in_err-admit_observed-in-Some-take_from-clause-lanes : goal.returns-in_err-admit_observed-in-Some-take_from-clause-lanes
 returns-in_err-admit_observed-in-Some-take_from-clause-lanes g c =
-    subst (λ (r : ResolverState). Each (λ p l m. LanesGoOn l m) r.lanes (lanes_of (stopped_new g c).all_lanes)) c.self.view_is
+    subst (λ (r : ResolverState). Each (λ p l m. LanesContinue l m) r.lanes (lanes_of (stopped_new g c).all_lanes)) c.self.view_is
     (lanes_taken (stopped_old g c) (stopped_new g c) c.self.inside.next c.in-Some-take_from.proxy c.in-Some-take_from.batch
-    (stopped_found g c) c.self.invariant (stopped_running g c) c.admit_observed.ensures.admits.goes_on refl refl refl)
+    (stopped_found g c) c.self.invariant (stopped_running g c) c.admit_observed.ensures.admits.continues refl refl refl)
 
-pub returns-in_err-admit_observed-in-Some-take_from-clause-goes_on : goal.returns-in_err-admit_observed-in-Some-take_from-clause-goes_on
-returns-in_err-admit_observed-in-Some-take_from-clause-goes_on g c =
-    subst (λ (r : ResolverState). GoesOn r.core (resolver_of (stopped_new g c)).core) c.self.view_is
-    (goes_on_taken (stopped_old g c) (stopped_new g c) c.self.inside.next c.in-Some-take_from.proxy c.in-Some-take_from.batch
-    (stopped_found g c) c.self.invariant (stopped_running g c) c.admit_observed.ensures.admits.goes_on refl refl refl)
+pub returns-in_err-admit_observed-in-Some-take_from-clause-continues : goal.returns-in_err-admit_observed-in-Some-take_from-clause-continues
+returns-in_err-admit_observed-in-Some-take_from-clause-continues g c =
+    subst (λ (r : ResolverState). Continues r.core (resolver_of (stopped_new g c)).core) c.self.view_is
+    (continues_taken (stopped_old g c) (stopped_new g c) c.self.inside.next c.in-Some-take_from.proxy c.in-Some-take_from.batch
+    (stopped_found g c) c.self.invariant (stopped_running g c) c.admit_observed.ensures.admits.continues refl refl refl)
 
 pub returns-in_ok-admit_observed-in-Some-take_from-clause-replies : goal.returns-in_ok-admit_observed-in-Some-take_from-clause-replies
 returns-in_ok-admit_observed-in-Some-take_from-clause-replies g c =
     subst (λ (r : ResolverState). Each (λ p l m. m.replies ≡ l.replies) r.lanes (lanes_of (admitted_new g c).all_lanes)) c.self.view_is
     (replies_taken (admitted_old g c) (admitted_new g c) c.self.inside.next c.in-Some-take_from.proxy c.in-Some-take_from.batch
-    (admitted_found g c) c.self.invariant (admitted_running g c) c.admit_observed.ensures.admits.goes_on refl refl refl)
+    (admitted_found g c) c.self.invariant (admitted_running g c) c.admit_observed.ensures.admits.continues refl refl refl)
 
 pub returns-in_ok-admit_observed-in-Some-take_from-clause-lanes : goal.returns-in_ok-admit_observed-in-Some-take_from-clause-lanes
 returns-in_ok-admit_observed-in-Some-take_from-clause-lanes g c =
-    subst (λ (r : ResolverState). Each (λ p l m. LanesGoOn l m) r.lanes (lanes_of (admitted_new g c).all_lanes)) c.self.view_is
+    subst (λ (r : ResolverState). Each (λ p l m. LanesContinue l m) r.lanes (lanes_of (admitted_new g c).all_lanes)) c.self.view_is
     (lanes_taken (admitted_old g c) (admitted_new g c) c.self.inside.next c.in-Some-take_from.proxy c.in-Some-take_from.batch
-    (admitted_found g c) c.self.invariant (admitted_running g c) c.admit_observed.ensures.admits.goes_on refl refl refl)
+    (admitted_found g c) c.self.invariant (admitted_running g c) c.admit_observed.ensures.admits.continues refl refl refl)
 
-pub returns-in_ok-admit_observed-in-Some-take_from-clause-goes_on : goal.returns-in_ok-admit_observed-in-Some-take_from-clause-goes_on
-returns-in_ok-admit_observed-in-Some-take_from-clause-goes_on g c =
-    subst (λ (r : ResolverState). GoesOn r.core (resolver_of (admitted_new g c)).core) c.self.view_is
-    (goes_on_taken (admitted_old g c) (admitted_new g c) c.self.inside.next c.in-Some-take_from.proxy c.in-Some-take_from.batch
-    (admitted_found g c) c.self.invariant (admitted_running g c) c.admit_observed.ensures.admits.goes_on refl refl refl)
+pub returns-in_ok-admit_observed-in-Some-take_from-clause-continues : goal.returns-in_ok-admit_observed-in-Some-take_from-clause-continues
+returns-in_ok-admit_observed-in-Some-take_from-clause-continues g c =
+    subst (λ (r : ResolverState). Continues r.core (resolver_of (admitted_new g c)).core) c.self.view_is
+    (continues_taken (admitted_old g c) (admitted_new g c) c.self.inside.next c.in-Some-take_from.proxy c.in-Some-take_from.batch
+    (admitted_found g c) c.self.invariant (admitted_running g c) c.admit_observed.ensures.admits.continues refl refl refl)
 
 pub returns-in_ok-admit_observed-in-Some-take_from-clause-took : goal.returns-in_ok-admit_observed-in-Some-take_from-clause-took
 returns-in_ok-admit_observed-in-Some-take_from-clause-took g c =
@@ -221,7 +221,7 @@ returns-in_ok-admit_observed-in-Some-take_from-clause-passed g c =
     (subst (λ (r : ResolverState). Each (λ q l m. ComesBefore r.next q c.in-Some-take_from.proxy → IsLookedThrough l m) r.lanes
     (lanes_of (admitted_new g c).all_lanes)) c.self.view_is
     (passed_taken (admitted_old g c) (admitted_new g c) c.self.inside.next c.in-Some-take_from.proxy c.in-Some-take_from.batch
-    (admitted_found g c) c.self.invariant (admitted_running g c) c.admit_observed.ensures.admits.goes_on refl refl refl))
+    (admitted_found g c) c.self.invariant (admitted_running g c) c.admit_observed.ensures.admits.continues refl refl refl))
 
 -- no batch was found, and nothing was finished
 module _ (g : Over) (c : goal.Then-ended-self g) where
@@ -250,8 +250,8 @@ module _ (g : Over) (c : goal.Then-ended-self g) where
   same_found =
       none_found_in c.self.inside.all_lanes c.take_from.new.all_lanes c.deref_mut.result.now c.deref_mut.ensures.value c.in-None.ensures.none
 
-  same_goes_on : GoesOn c.self.inside.core (c.self.inside.core)
-  same_goes_on = go_on_itself c.self.inside.core
+  same_continues : Continues c.self.inside.core (c.self.inside.core)
+  same_continues = continue_itself c.self.inside.core
 
   same_ended : c.have_ended-ended.result ≡ all_ended (lanes_of (with_items c.self.inside.all_lanes c.take_from.new.all_lanes).items)
   same_ended = c.have_ended-ended.ensures.all ∙ ap (λ all_lanes. all_ended (lanes_of all_lanes)) c.deref.ensures.value
@@ -286,15 +286,15 @@ module _ (g : Over) (c : goal.After-from_residual-in_err-finish-in-None g) where
   refused_found =
       none_found_in c.self.inside.all_lanes c.take_from.new.all_lanes c.deref_mut.result.now c.deref_mut.ensures.value c.in-None.ensures.none
 
-  refused_goes_on : GoesOn c.self.inside.core (c.finish.new.self)
-  refused_goes_on = c.finish.ensures.goes_on
+  refused_continues : Continues c.self.inside.core (c.finish.new.self)
+  refused_continues = c.finish.ensures.continues
 
   refused_ended : c.have_ended-ended.result ≡ all_ended (lanes_of (with_items c.self.inside.all_lanes c.take_from.new.all_lanes).items)
   refused_ended = c.have_ended-ended.ensures.all ∙ ap (λ all_lanes. all_ended (lanes_of all_lanes)) c.deref.ensures.value
 
   refused_before : c.self.inside.finished ≡ false
   refused_before =
-      newly_ended refused_old refused_new refused_found c.self.invariant refused_running refused_goes_on refl refl
+      newly_ended refused_old refused_new refused_found c.self.invariant refused_running refused_continues refl refl
       c.have_ended-ended.result refused_ended c.if-ended-self.false
 
   refused_after : all_ended (lanes_of (with_items c.self.inside.all_lanes c.take_from.new.all_lanes).items) ≡ true
@@ -303,14 +303,14 @@ module _ (g : Over) (c : goal.After-from_residual-in_err-finish-in-None g) where
   refused_finishes : Finishes c.args.self.now (resolver_of refused_new)
   refused_finishes =
       subst (λ r. Finishes r (resolver_of refused_new)) c.self.view_is
-      (finishes_now refused_old refused_new refused_found c.self.invariant refused_running refused_goes_on refl refl refused_before
+      (finishes_now refused_old refused_new refused_found c.self.invariant refused_running refused_continues refl refl refused_before
       refused_after (c.finish.ensures.stands refused_running))
 
   refused_parts : AreParts refused_new
   refused_parts =
-      parts_looked refused_old refused_new refused_found c.self.invariant refused_running refused_goes_on refl refl
+      parts_looked refused_old refused_new refused_found c.self.invariant refused_running refused_continues refl refl
       (λ _. sym refused_after)
-      (open_before refused_old refused_new refused_found c.self.invariant refused_running refused_goes_on refl refl refused_before refused_after)
+      (open_before refused_old refused_new refused_found c.self.invariant refused_running refused_continues refl refl refused_before refused_after)
 
 -- no batch was found, and the core was finished
 module _ (g : Over) (c : goal.In_ok-finish-in-None g) where
@@ -339,15 +339,15 @@ module _ (g : Over) (c : goal.In_ok-finish-in-None g) where
   finished_found =
       none_found_in c.self.inside.all_lanes c.take_from.new.all_lanes c.deref_mut.result.now c.deref_mut.ensures.value c.in-None.ensures.none
 
-  finished_goes_on : GoesOn c.self.inside.core (c.finish.new.self)
-  finished_goes_on = c.finish.ensures.goes_on
+  finished_continues : Continues c.self.inside.core (c.finish.new.self)
+  finished_continues = c.finish.ensures.continues
 
   finished_ended : c.have_ended-ended.result ≡ all_ended (lanes_of (with_items c.self.inside.all_lanes c.take_from.new.all_lanes).items)
   finished_ended = c.have_ended-ended.ensures.all ∙ ap (λ all_lanes. all_ended (lanes_of all_lanes)) c.deref.ensures.value
 
   finished_before : c.self.inside.finished ≡ false
   finished_before =
-      newly_ended finished_old finished_new finished_found c.self.invariant finished_running finished_goes_on refl refl
+      newly_ended finished_old finished_new finished_found c.self.invariant finished_running finished_continues refl refl
       c.have_ended-ended.result finished_ended c.if-ended-self.false
 
   finished_after : all_ended (lanes_of (with_items c.self.inside.all_lanes c.take_from.new.all_lanes).items) ≡ true
@@ -356,19 +356,19 @@ module _ (g : Over) (c : goal.In_ok-finish-in-None g) where
   finished_finishes : Finishes c.args.self.now (resolver_of finished_new)
   finished_finishes =
       subst (λ r. Finishes r (resolver_of finished_new)) c.self.view_is
-      (finishes_now finished_old finished_new finished_found c.self.invariant finished_running finished_goes_on refl refl finished_before
+      (finishes_now finished_old finished_new finished_found c.self.invariant finished_running finished_continues refl refl finished_before
       finished_after (c.finish.ensures.stands finished_running))
 
   finished_parts : AreParts finished_new
   finished_parts =
-      parts_looked finished_old finished_new finished_found c.self.invariant finished_running finished_goes_on refl refl
+      parts_looked finished_old finished_new finished_found c.self.invariant finished_running finished_continues refl refl
       (λ _. sym finished_after)
-      (open_before finished_old finished_new finished_found c.self.invariant finished_running finished_goes_on refl refl finished_before finished_after)
+      (open_before finished_old finished_new finished_found c.self.invariant finished_running finished_continues refl refl finished_before finished_after)
 
 pub invariant_of-self-then-ended-self : goal.invariant_of-self-then-ended-self
 invariant_of-self-then-ended-self g c =
-    parts_looked (same_old g c) (same_new g c) (same_found g c) c.self.invariant (same_running g c) (same_goes_on g c) refl refl (λ _. sym (same_all g c))
-    (through_still (same_old g c) (same_new g c) (same_found g c) c.self.invariant (same_running g c) (same_goes_on g c) refl refl refl refl (same_all g c))
+    parts_looked (same_old g c) (same_new g c) (same_found g c) c.self.invariant (same_running g c) (same_continues g c) refl refl (λ _. sym (same_all g c))
+    (through_still (same_old g c) (same_new g c) (same_found g c) c.self.invariant (same_running g c) (same_continues g c) refl refl refl refl (same_all g c))
 
 pub invariant_of-self-in_err-finish-in-None : goal.invariant_of-self-in_err-finish-in-None
 invariant_of-self-in_err-finish-in-None g c =
@@ -381,7 +381,7 @@ invariant_of-self-in-None g c =
 pub returns-then-ended-self-clause-none : goal.returns-then-ended-self-clause-none
 returns-then-ended-self-clause-none g c =
     λ _. inr (subst (λ r. TakesNoStep r (resolver_of (same_new g c))) c.self.view_is
-    (takes_no_step (same_old g c) (same_new g c) (same_found g c) c.self.invariant (same_running g c) (same_goes_on g c) refl refl refl refl (same_all g c)))
+    (takes_no_step (same_old g c) (same_new g c) (same_found g c) c.self.invariant (same_running g c) (same_continues g c) refl refl refl refl (same_all g c)))
 
 pub returns-in_err-finish-in-None-clause-stop_met : goal.returns-in_err-finish-in-None-clause-stop_met
 returns-in_err-finish-in-None-clause-stop_met g c =
@@ -394,63 +394,63 @@ returns-in_ok-finish-in-None-clause-none g c =
 pub returns-then-ended-self-clause-looked_through : goal.returns-then-ended-self-clause-looked_through
 returns-then-ended-self-clause-looked_through g c =
     λ _. subst (λ (r : ResolverState). Each (λ p l m. IsLookedThrough l m) r.lanes (lanes_of (same_new g c).all_lanes)) c.self.view_is
-    (all_looked (same_old g c) (same_new g c) (same_found g c) c.self.invariant (same_running g c) (same_goes_on g c) refl refl)
+    (all_looked (same_old g c) (same_new g c) (same_found g c) c.self.invariant (same_running g c) (same_continues g c) refl refl)
 
 pub returns-then-ended-self-clause-replies : goal.returns-then-ended-self-clause-replies
 returns-then-ended-self-clause-replies g c =
     subst (λ (r : ResolverState). Each (λ p l m. m.replies ≡ l.replies) r.lanes (lanes_of (same_new g c).all_lanes)) c.self.view_is
-    (replies_looked (same_old g c) (same_new g c) (same_found g c) c.self.invariant (same_running g c) (same_goes_on g c) refl refl)
+    (replies_looked (same_old g c) (same_new g c) (same_found g c) c.self.invariant (same_running g c) (same_continues g c) refl refl)
 
 pub returns-then-ended-self-clause-lanes : goal.returns-then-ended-self-clause-lanes
 returns-then-ended-self-clause-lanes g c =
-    subst (λ (r : ResolverState). Each (λ p l m. LanesGoOn l m) r.lanes (lanes_of (same_new g c).all_lanes)) c.self.view_is
-    (lanes_looked (same_old g c) (same_new g c) (same_found g c) c.self.invariant (same_running g c) (same_goes_on g c) refl refl)
+    subst (λ (r : ResolverState). Each (λ p l m. LanesContinue l m) r.lanes (lanes_of (same_new g c).all_lanes)) c.self.view_is
+    (lanes_looked (same_old g c) (same_new g c) (same_found g c) c.self.invariant (same_running g c) (same_continues g c) refl refl)
 
-pub returns-then-ended-self-clause-goes_on : goal.returns-then-ended-self-clause-goes_on
-returns-then-ended-self-clause-goes_on g c =
-    subst (λ (r : ResolverState). GoesOn r.core (resolver_of (same_new g c)).core) c.self.view_is
-    (goes_on_looked (same_old g c) (same_new g c) (same_found g c) c.self.invariant (same_running g c) (same_goes_on g c) refl refl)
+pub returns-then-ended-self-clause-continues : goal.returns-then-ended-self-clause-continues
+returns-then-ended-self-clause-continues g c =
+    subst (λ (r : ResolverState). Continues r.core (resolver_of (same_new g c)).core) c.self.view_is
+    (continues_looked (same_old g c) (same_new g c) (same_found g c) c.self.invariant (same_running g c) (same_continues g c) refl refl)
 
 pub returns-in_err-finish-in-None-clause-replies : goal.returns-in_err-finish-in-None-clause-replies
 returns-in_err-finish-in-None-clause-replies g c =
     subst (λ (r : ResolverState). Each (λ p l m. m.replies ≡ l.replies) r.lanes (lanes_of (refused_new g c).all_lanes)) c.self.view_is
-    (replies_looked (refused_old g c) (refused_new g c) (refused_found g c) c.self.invariant (refused_running g c) (refused_goes_on g c) refl refl)
+    (replies_looked (refused_old g c) (refused_new g c) (refused_found g c) c.self.invariant (refused_running g c) (refused_continues g c) refl refl)
 
 pub returns-in_err-finish-in-None-clause-lanes : goal.returns-in_err-finish-in-None-clause-lanes
 returns-in_err-finish-in-None-clause-lanes g c =
-    subst (λ (r : ResolverState). Each (λ p l m. LanesGoOn l m) r.lanes (lanes_of (refused_new g c).all_lanes)) c.self.view_is
-    (lanes_looked (refused_old g c) (refused_new g c) (refused_found g c) c.self.invariant (refused_running g c) (refused_goes_on g c) refl refl)
+    subst (λ (r : ResolverState). Each (λ p l m. LanesContinue l m) r.lanes (lanes_of (refused_new g c).all_lanes)) c.self.view_is
+    (lanes_looked (refused_old g c) (refused_new g c) (refused_found g c) c.self.invariant (refused_running g c) (refused_continues g c) refl refl)
 
-pub returns-in_err-finish-in-None-clause-goes_on : goal.returns-in_err-finish-in-None-clause-goes_on
-returns-in_err-finish-in-None-clause-goes_on g c =
-    subst (λ (r : ResolverState). GoesOn r.core (resolver_of (refused_new g c)).core) c.self.view_is
-    (goes_on_looked (refused_old g c) (refused_new g c) (refused_found g c) c.self.invariant (refused_running g c) (refused_goes_on g c) refl refl)
+pub returns-in_err-finish-in-None-clause-continues : goal.returns-in_err-finish-in-None-clause-continues
+returns-in_err-finish-in-None-clause-continues g c =
+    subst (λ (r : ResolverState). Continues r.core (resolver_of (refused_new g c)).core) c.self.view_is
+    (continues_looked (refused_old g c) (refused_new g c) (refused_found g c) c.self.invariant (refused_running g c) (refused_continues g c) refl refl)
 
 pub returns-in_ok-finish-in-None-clause-looked_through : goal.returns-in_ok-finish-in-None-clause-looked_through
 returns-in_ok-finish-in-None-clause-looked_through g c =
     λ _. subst (λ (r : ResolverState). Each (λ p l m. IsLookedThrough l m) r.lanes (lanes_of (finished_new g c).all_lanes)) c.self.view_is
-    (all_looked (finished_old g c) (finished_new g c) (finished_found g c) c.self.invariant (finished_running g c) (finished_goes_on g c) refl refl)
+    (all_looked (finished_old g c) (finished_new g c) (finished_found g c) c.self.invariant (finished_running g c) (finished_continues g c) refl refl)
 
 pub returns-in_ok-finish-in-None-clause-replies : goal.returns-in_ok-finish-in-None-clause-replies
 returns-in_ok-finish-in-None-clause-replies g c =
     subst (λ (r : ResolverState). Each (λ p l m. m.replies ≡ l.replies) r.lanes (lanes_of (finished_new g c).all_lanes)) c.self.view_is
-    (replies_looked (finished_old g c) (finished_new g c) (finished_found g c) c.self.invariant (finished_running g c) (finished_goes_on g c) refl refl)
+    (replies_looked (finished_old g c) (finished_new g c) (finished_found g c) c.self.invariant (finished_running g c) (finished_continues g c) refl refl)
 
 pub returns-in_ok-finish-in-None-clause-lanes : goal.returns-in_ok-finish-in-None-clause-lanes
 returns-in_ok-finish-in-None-clause-lanes g c =
-    subst (λ (r : ResolverState). Each (λ p l m. LanesGoOn l m) r.lanes (lanes_of (finished_new g c).all_lanes)) c.self.view_is
-    (lanes_looked (finished_old g c) (finished_new g c) (finished_found g c) c.self.invariant (finished_running g c) (finished_goes_on g c) refl refl)
+    subst (λ (r : ResolverState). Each (λ p l m. LanesContinue l m) r.lanes (lanes_of (finished_new g c).all_lanes)) c.self.view_is
+    (lanes_looked (finished_old g c) (finished_new g c) (finished_found g c) c.self.invariant (finished_running g c) (finished_continues g c) refl refl)
 
-pub returns-in_ok-finish-in-None-clause-goes_on : goal.returns-in_ok-finish-in-None-clause-goes_on
-returns-in_ok-finish-in-None-clause-goes_on g c =
-    subst (λ (r : ResolverState). GoesOn r.core (resolver_of (finished_new g c)).core) c.self.view_is
-    (goes_on_looked (finished_old g c) (finished_new g c) (finished_found g c) c.self.invariant (finished_running g c) (finished_goes_on g c) refl refl)
+pub returns-in_ok-finish-in-None-clause-continues : goal.returns-in_ok-finish-in-None-clause-continues
+returns-in_ok-finish-in-None-clause-continues g c =
+    subst (λ (r : ResolverState). Continues r.core (resolver_of (finished_new g c)).core) c.self.view_is
+    (continues_looked (finished_old g c) (finished_new g c) (finished_found g c) c.self.invariant (finished_running g c) (finished_continues g c) refl refl)
 
 pub returns-in_ok-admit_observed-in-Some-take_from-clause-still_open :
     goal.returns-in_ok-admit_observed-in-Some-take_from-clause-still_open
 returns-in_ok-admit_observed-in-Some-take_from-clause-still_open g c = λ proxy is.
     some_after (admitted_old g c) (admitted_new g c) c.self.inside.next c.in-Some-take_from.proxy
-    c.in-Some-take_from.batch (admitted_found g c) c.self.invariant (admitted_running g c) c.admit_observed.ensures.admits.goes_on refl
+    c.in-Some-take_from.batch (admitted_found g c) c.self.invariant (admitted_running g c) c.admit_observed.ensures.admits.continues refl
     refl refl
 
 pub returns-in-Some-clause-sees : goal.returns-in-Some-clause-sees
@@ -463,7 +463,7 @@ returns-in_err-admit_observed-in-Some-take_from-clause-sees g c =
     let after = g.O.Observer.has_seen c.admit_observed.new.observer in
     subst (λ r. ObservesStep before after r (resolver_of (stopped_new g c))) c.self.view_is
     (sees_taken (stopped_old g c) (stopped_new g c) c.self.inside.next c.in-Some-take_from.proxy c.in-Some-take_from.batch
-    (stopped_found g c) c.self.invariant (stopped_running g c) c.admit_observed.ensures.admits.goes_on refl refl refl
+    (stopped_found g c) c.self.invariant (stopped_running g c) c.admit_observed.ensures.admits.continues refl refl refl
     before after (c.admit_observed.ensures.seen (stopped_running g c)))
 
 pub returns-in_ok-admit_observed-in-Some-take_from-clause-sees :
@@ -474,14 +474,14 @@ returns-in_ok-admit_observed-in-Some-take_from-clause-sees g c =
     subst (λ r. ObservesStep before after r (resolver_of (admitted_new g c))) c.self.view_is
     (sees_taken (admitted_old g c) (admitted_new g c) c.self.inside.next c.in-Some-take_from.proxy
     c.in-Some-take_from.batch (admitted_found g c) c.self.invariant (admitted_running g c)
-    c.admit_observed.ensures.admits.goes_on refl refl refl before after
+    c.admit_observed.ensures.admits.continues refl refl refl before after
     (c.admit_observed.ensures.seen (admitted_running g c)))
 
 pub returns-then-ended-self-clause-sees : goal.returns-then-ended-self-clause-sees
 returns-then-ended-self-clause-sees g c =
     let seen = g.O.Observer.has_seen c.args.observer.now in
     subst (λ r. ObservesStep seen seen r (resolver_of (same_new g c))) c.self.view_is
-    (sees_nothing (same_old g c) (same_new g c) (same_found g c) c.self.invariant (same_running g c) (same_goes_on g c)
+    (sees_nothing (same_old g c) (same_new g c) (same_found g c) c.self.invariant (same_running g c) (same_continues g c)
     refl refl refl refl (same_all g c) seen)
 
 pub returns-in_err-finish-in-None-clause-sees : goal.returns-in_err-finish-in-None-clause-sees
@@ -489,11 +489,11 @@ returns-in_err-finish-in-None-clause-sees g c =
     let seen = g.O.Observer.has_seen c.args.observer.now in
     subst (λ r. ObservesStep seen seen r (resolver_of (refused_new g c))) c.self.view_is
     (sees_finish (refused_old g c) (refused_new g c) (refused_found g c) c.self.invariant (refused_running g c)
-    (refused_goes_on g c) refl refl (refused_before g c) (refused_after g c) seen)
+    (refused_continues g c) refl refl (refused_before g c) (refused_after g c) seen)
 
 pub returns-in_ok-finish-in-None-clause-sees : goal.returns-in_ok-finish-in-None-clause-sees
 returns-in_ok-finish-in-None-clause-sees g c =
     let seen = g.O.Observer.has_seen c.args.observer.now in
     subst (λ r. ObservesStep seen seen r (resolver_of (finished_new g c))) c.self.view_is
     (sees_finish (finished_old g c) (finished_new g c) (finished_found g c) c.self.invariant (finished_running g c)
-    (finished_goes_on g c) refl refl (finished_before g c) (finished_after g c) seen)
+    (finished_continues g c) refl refl (finished_before g c) (finished_after g c) seen)

@@ -8,7 +8,7 @@ use Rattle.keyspace.specs.Run.{run}
 use Rattle.resolver.specs.Lanes.{Each, IsLookedThrough, ComesBefore}
 use Rattle.resolver.specs.OpeningLog.{log_from}
 use Rattle.resolver.specs.Resolver.{TakesFrom, TakesNoStep, StepsBy, IsThrough, IfNotTaken}
-use Rattle.resolver.proofs.Turning.{TakesFrom-on, Finishes-on, TakesNoStep-on, looked_on, full_on, lanes_on, told, StepsBy-told, IfNotTaken-told, took-told, all_looked_on, stopped_on, stop_met_on, done_means, done_where, closed_by, answers_over, stops_on, same_set, sees_taken_on, sees_finish_on, sees_nothing_on}
+use Rattle.resolver.proofs.Turning.{TakesFrom-on, Finishes-on, TakesNoStep-on, looked_on, full_on, lanes_on, reported, StepsBy-reported, IfNotTaken-reported, took-reported, all_looked_on, stopped_on, stop_met_on, done_means, done_where, closed_by, answers_over, stops_on, same_set, sees_taken_on, sees_finish_on, sees_nothing_on}
 use Rattle.resolver.proofs.Resolving.{resolving_turned, resolving_stopped}
 use Rattle.resolver.proofs.Shares.{beyond_share}
 use Rattle.resolver.proofs.Stops.{same_stop, OnErr-always}
@@ -22,7 +22,7 @@ pub returns-in_err-proxy-clause-turns : goal.returns-in_err-proxy-clause-turns
 returns-in_err-proxy-clause-turns g c =
     let old = c.args.self.now in
     let new = c.close.new.self in
-    let h = c.hand_out.ensures in
+    let h = c.deliver.ensures in
     let k = c.close.ensures in
     let step = c.in_err-proxy.ensures in
     let lanes = lanes_on h k c.step-stepped.ensures.lanes in
@@ -55,45 +55,45 @@ returns-in_err-proxy-clause-turns g c =
       beyond_share = λ running is version before.
           let full = gate_full running is in
           beyond_share version old new lanes.count
-          (ap (λ s. s.window) (same_set h k) ∙ c.step-stepped.ensures.goes_on.window) k.count running before full.0 full.1
+          (ap (λ s. s.window) (same_set h k) ∙ c.step-stepped.ensures.continues.window) k.count running before full.0 full.1
           full.2 full.3;
       arena_full = λ running is version log s.
           let full = step.arena_full running (ap Err (is_met stop.ArenaFull is)) version log s in
           let set = old.core.set in
-          let whole = log_from version (length old.lanes) log in (
+          let entire = log_from version (length old.lanes) log in (
             full.0,
             TakesFrom-on h k full.0 full.1,
-            stops_on h k set.map.limit set.window full.0 full.1.batch (run set.window whole) full.2,
+            stops_on h k set.map.limit set.window full.0 full.1.batch (run set.window entire) full.2,
           );
       lanes = lanes;
-      goes_on = search rules;
+      continues = search rules;
     }
 
 pub returns-in_err-proxy-clause-sees_taken : goal.returns-in_err-proxy-clause-sees_taken
-returns-in_err-proxy-clause-sees_taken g c = sees_taken_on c.hand_out.ensures c.close.ensures c.step-stepped.ensures.sees
+returns-in_err-proxy-clause-sees_taken g c = sees_taken_on c.deliver.ensures c.close.ensures c.step-stepped.ensures.sees
 
 pub returns-in_err-proxy-clause-sees_finish : goal.returns-in_err-proxy-clause-sees_finish
-returns-in_err-proxy-clause-sees_finish g c = sees_finish_on c.hand_out.ensures c.close.ensures c.step-stepped.ensures.sees
+returns-in_err-proxy-clause-sees_finish g c = sees_finish_on c.deliver.ensures c.close.ensures c.step-stepped.ensures.sees
 
 pub returns-in_err-proxy-clause-sees_nothing : goal.returns-in_err-proxy-clause-sees_nothing
 returns-in_err-proxy-clause-sees_nothing g c =
-    sees_nothing_on c.hand_out.ensures c.close.ensures c.step-stepped.ensures.sees
+    sees_nothing_on c.deliver.ensures c.close.ensures c.step-stepped.ensures.sees
 
 pub returns-clause-sees_taken : goal.returns-clause-sees_taken
-returns-clause-sees_taken g c = sees_taken_on c.hand_out.ensures c.close.ensures c.step-stepped.ensures.sees
+returns-clause-sees_taken g c = sees_taken_on c.deliver.ensures c.close.ensures c.step-stepped.ensures.sees
 
 pub returns-clause-sees_finish : goal.returns-clause-sees_finish
-returns-clause-sees_finish g c = sees_finish_on c.hand_out.ensures c.close.ensures c.step-stepped.ensures.sees
+returns-clause-sees_finish g c = sees_finish_on c.deliver.ensures c.close.ensures c.step-stepped.ensures.sees
 
 pub returns-clause-sees_nothing : goal.returns-clause-sees_nothing
-returns-clause-sees_nothing g c = sees_nothing_on c.hand_out.ensures c.close.ensures c.step-stepped.ensures.sees
+returns-clause-sees_nothing g c = sees_nothing_on c.deliver.ensures c.close.ensures c.step-stepped.ensures.sees
 
 same_Ok : {x y : Turn} → ◌≡◌ {A = Result Turn Stop} (Ok x) (Ok y) → x ≡ y
 same_Ok is = cc
 
-result_is : (g : Over) (c : Joined-branch-2 g) → c.match-branch-2.result ≡ told c.in_ok-proxy.field-0 c.self.inside.closed
+result_is : (g : Over) (c : Joined-branch-2 g) → c.match-branch-2.result ≡ reported c.in_ok-proxy.field-0 c.self.inside.closed
 result_is g c = elim c.match-branch-2.branch [
-  | in-Some w ↦ w.result-is ∙ ap (λ t. told t c.self.inside.closed) (sym w.in-Some.is)
+  | in-Some w ↦ w.result-is ∙ ap (λ t. reported t c.self.inside.closed) (sym w.in-Some.is)
   | in-None w ↦ rw (w.in-None.is, w.if-self.true) w.result-is
   | in-None-2 w ↦ rw (w.in-None.is, w.if-self.false) w.result-is
 ]
@@ -102,13 +102,13 @@ pub returns-clause-turns : goal.returns-clause-turns
 returns-clause-turns g c =
     let old = c.args.self.now in
     let new = c.close.new.self in
-    let h = c.hand_out.ensures in
+    let h = c.deliver.ensures in
     let k = c.close.ensures in
     let step = c.in_ok-proxy.ensures in
     let is = result_is g c in
     let stepped : StepsBy c.match-branch-2.result old new =
     subst (λ t. StepsBy t old new) (sym is)
-    (StepsBy-told old new c.in_ok-proxy.field-0 c.self.inside.closed
+    (StepsBy-reported old new c.in_ok-proxy.field-0 c.self.inside.closed
     (λ proxy some. TakesFrom-on h k proxy (step.took proxy (ap Ok some)))
     (λ none. elim (step.none (ap Ok none)) [
       | inl finishes ↦ inl (Finishes-on h k finishes)
@@ -125,11 +125,11 @@ returns-clause-turns g c =
       looked_through =
           let looked = Each (λ _ l m. IsLookedThrough l m) old.lanes new.lanes in
           subst (λ t. IfNotTaken t looked) (sym is)
-          (IfNotTaken-told c.in_ok-proxy.field-0 c.self.inside.closed looked
+          (IfNotTaken-reported c.in_ok-proxy.field-0 c.self.inside.closed looked
           (λ none. all_looked_on h k (step.looked_through (ap Ok none))));
       passed = λ proxy took.
           looked_on h k (λ p. ComesBefore old.next p proxy)
-          (step.passed proxy (ap Ok (took-told c.in_ok-proxy.field-0 c.self.inside.closed proxy (sym is ∙ same_Ok took))));
+          (step.passed proxy (ap Ok (took-reported c.in_ok-proxy.field-0 c.self.inside.closed proxy (sym is ∙ same_Ok took))));
       next = search rules;
       next_stays = search rules;
       owed = full_on h k c.step-stepped.ensures.replies;
@@ -138,7 +138,7 @@ returns-clause-turns g c =
           let inside = c.self.inside in
           let parts : Parts = record { core = inside.core; all_lanes = inside.all_lanes.items; next = inside.next; finished = inside.finished; closed = inside.closed } in
           let mid = c.step-stepped.new.self in
-          let a = answers_over mid c.hand_out.new.self new h k in (
+          let a = answers_over mid c.deliver.new.self new h k in (
             λ done.
                 let both = done_means mid new a c.in_ok-proxy.field-0 inside.closed step.no_stop
                 (λ closed. subst IsThrough c.self.view_is (c.self.invariant.through closed)) (sym is ∙ same_Ok done) in
@@ -152,5 +152,5 @@ returns-clause-turns g c =
       beyond_share = search rules;
       arena_full = search rules;
       lanes = lanes_on h k c.step-stepped.ensures.lanes;
-      goes_on = search rules;
+      continues = search rules;
     }

@@ -15,13 +15,13 @@ returns-in-Err-clause-admits g c =
     record {
       stands = λ none log given stands.
           subst (λ (core : CoreState). StoppedIn (log ++ x ∷ []) given (record core { stop = stop })) (sym c.self-2.view_is)
-          (StoppedIn-more old.set.window log x given (record met { stop = stop }) c.take-taken.ensures.goes_on.window
+          (StoppedIn-more old.set.window log x given (record met { stop = stop }) c.take-taken.ensures.continues.window
           (MadeBetween-stopped stop given met _ _
           (c.in-Err.ensures.err (run old.set.window log) given (IsIn-standing old.stop log given old none stands))));
       «open» = search rules;
       stops = search rules;
       stopped = search rules;
-      goes_on = search rules;
+      continues = search rules;
       gate_full = search rules;
       arena_full = λ none is log given stands.
           let state = run old.set.window log in
@@ -44,13 +44,13 @@ returns-in_default-taken-clause-admits g c =
     let new = c.take-taken.new.self in
     record {
       stands = λ none log given stands.
-          StandsBy-more old.set.window log (Take c.args.proxy c.args.batch) given new c.take-taken.ensures.goes_on.window
+          StandsBy-more old.set.window log (Take c.args.proxy c.args.batch) given new c.take-taken.ensures.continues.window
           new.stop c.in_default-taken.ensures.«open»
           (c.in_default-taken.ensures.ok (run old.set.window log) given (IsIn-standing old.stop log given old none stands));
       «open» = search rules;
       stops = search rules;
       stopped = search rules;
-      goes_on = search rules;
+      continues = search rules;
       gate_full = search rules;
       arena_full = search rules;
     }

@@ -1,6 +1,6 @@
 use Rattle.std.proofs.Common.{rules, w64, SFits, ◌<◌, length, sym, ap, subst, ◌∙◌, arith}
 use Rattle.std.proofs.lemmas.Int.{to_z-of_z}
-use Rattle.keyspace.specs.declared.answer.Answer.TheVariants as told
+use Rattle.keyspace.specs.declared.answer.Answer.TheVariants as reported
 use Rattle.keyspace.specs.Leaving.{Held}
 use Rattle.keyspace.specs.Run.{Finish, step}
 use Rattle.resolver.specs.Owed.{owed_also}
@@ -9,7 +9,7 @@ use Rattle.resolver.proofs.Stops.{OnErr-always}
 use Rattle.resolver.proofs.Finishing.{
   first_known,
   IsCore-first,
-  Tells-first,
+  Reports-first,
   IsIn-finish,
   MadeBetween-finish,
 }
@@ -59,12 +59,12 @@ pub loop-proxy-preserved : goal.loop-proxy-preserved
 loop-proxy-preserved c =
     let d = (goal.at.loop-proxy-preserved c).In-Some in
     let fits : SFits w64 c.in-Some.batch.version = search rules in
-    Tells-first (old d) (now d) (earliest d) c.first.new.self c.loop-proxy.invariant
+    Reports-first (old d) (now d) (earliest d) c.first.new.self c.loop-proxy.invariant
     c.in-Some.ensures.first c.push.new.self.answers
     (c.push.ensures.answers
-    ∙ ap (λ v. owed_also c.in-Some.proxy (told.Held v) c.reserve.new.self.answers)
+    ∙ ap (λ v. owed_also c.in-Some.proxy (reported.Held v) c.reserve.new.self.answers)
     (to_z-of_z w64 c.in-Some.batch.version fits)
-    ∙ ap (owed_also c.in-Some.proxy (told.Held c.in-Some.batch.version)) c.in_ok-reserve.ensures.same)
+    ∙ ap (owed_also c.in-Some.proxy (reported.Held c.in-Some.batch.version)) c.in_ok-reserve.ensures.same)
 
 pub returns-clause-ok : goal.returns-clause-ok
 returns-clause-ok c = λ state given are.

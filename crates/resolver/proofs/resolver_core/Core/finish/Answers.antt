@@ -12,7 +12,7 @@ returns-in-Err-clause-stands c = λ none log given stands.
     let stop = Some c.in-Err.stop in
     subst (λ (core : CoreState). StoppedIn (log ++ Finish ∷ []) given (record core { stop = stop })) (sym c.self-2.view_is)
     (StoppedIn-more old.set.window log Finish given (record met { stop = stop })
-    c.answer_held-finished.ensures.goes_on.window
+    c.answer_held-finished.ensures.continues.window
     (MadeBetween-stopped stop given met _ _
     (c.in-Err.ensures.err (run old.set.window log) given (IsIn-standing old.stop log given old none stands))))
 
@@ -20,6 +20,6 @@ pub returns-in_default-finished-clause-stands : goal.returns-in_default-finished
 returns-in_default-finished-clause-stands c = λ none log given stands.
     let old = c.args.self.now in
     let new = c.answer_held-finished.new.self in
-    StandsBy-more old.set.window log Finish given new c.answer_held-finished.ensures.goes_on.window
+    StandsBy-more old.set.window log Finish given new c.answer_held-finished.ensures.continues.window
     new.stop (c.answer_held-finished.ensures.stop ∙ none)
     (c.in_default-finished.ensures.ok (run old.set.window log) given (IsIn-standing old.stop log given old none stands))

@@ -12,7 +12,7 @@ invariant_of-result c =
     let set = c.in_ok-set.set in
     is_core set.window c.args.proxies set c.new-2.result c.in-Ok.replies c.in-Ok-new.owed
     c.new-2.ensures.empty c.in-Ok-new.ensures.empty (to_z w64 (of_z w64 c.args.version))
-    c.in_ok-set.ensures.goes_on c.in_ok-set.ensures.resolved _ c.in_ok-set.ensures.remembers
+    c.in_ok-set.ensures.continues c.in_ok-set.ensures.resolved _ c.in_ok-set.ensures.remembers
     (c.in-Ok.ensures.kept set.window)
 
 pub returns-clause-stands : goal.returns-clause-stands

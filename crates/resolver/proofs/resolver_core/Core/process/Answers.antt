@@ -21,7 +21,7 @@ use Rattle.std.proofs.Common.{
 }
 use Rattle.std.specs.Prelude.{ℤ, ◌<ℤ◌, ◌≤ℤ◌}
 use Rattle.std.proofs.lemmas.Int.{to_z-of_z, ints}
-use Rattle.keyspace.specs.declared.answer.Answer.TheVariants as told
+use Rattle.keyspace.specs.declared.answer.Answer.TheVariants as reported
 use Rattle.keyspace.specs.declared.reply.Reply.{Reply}
 use Rattle.keyspace.specs.Writes.{Write, writes, writes_of}
 use Rattle.keyspace.specs.Judged.{edge}
@@ -129,7 +129,7 @@ invariant_of-self-in_err-keep g c =
     let d = (goal.at.invariant_of-self-in_err-keep g c).In-Ok in
     let version = to_z-of_z w64 c.args.batch.version (fits g d) in
     let later = later g d in
-    IsCore-later (before g d) _ c.self.invariant c.in-Ok.ensures.goes_on.1 (c.in-Ok.ensures.resolved ∙ sym version)
+    IsCore-later (before g d) _ c.self.invariant c.in-Ok.ensures.continues.1 (c.in-Ok.ensures.resolved ∙ sym version)
     (remembers_some g d) refl (ap length c.in_ok-reserve.ensures.same)
     (λ proxy v reply is.
     let past = c.self.invariant.past proxy v reply (c.in_err-keep.ensures.err proxy v reply is) in
@@ -139,7 +139,7 @@ pub invariant_of-self-in_err-see : goal.invariant_of-self-in_err-see
 invariant_of-self-in_err-see g c =
     let d = (goal.at.invariant_of-self-in_err-see g c).In-Ok in
     let version = to_z-of_z w64 c.args.batch.version (fits g d) in
-    IsCore-later (before g d) _ c.self.invariant c.in-Ok.ensures.goes_on.1 (c.in-Ok.ensures.resolved ∙ sym version)
+    IsCore-later (before g d) _ c.self.invariant c.in-Ok.ensures.continues.1 (c.in-Ok.ensures.resolved ∙ sym version)
     (remembers_some g d) refl (ap length c.in_ok-reserve.ensures.same)
     (λ proxy v reply is. past g d _ version _ proxy v reply (sym (c.in_ok-keep.ensures.ok proxy v) ∙ is))
 
@@ -147,10 +147,10 @@ pub invariant_of-self-2 : goal.invariant_of-self-2
 invariant_of-self-2 g c =
     let d = (goal.at.invariant_of-self-2 g c).In-Ok in
     let version = to_z-of_z w64 c.args.batch.version (fits g d) in
-    IsCore-later (before g d) _ c.self.invariant c.in-Ok.ensures.goes_on.1 (c.in-Ok.ensures.resolved ∙ sym version)
+    IsCore-later (before g d) _ c.self.invariant c.in-Ok.ensures.continues.1 (c.in-Ok.ensures.resolved ∙ sym version)
     (remembers_some g d) refl
     (ap length c.push.ensures.answers
-    ∙ length-owed_also c.args.proxy (told.Reply c.in-Ok.reply) c.reserve.new.self.answers
+    ∙ length-owed_also c.args.proxy (reported.Reply c.in-Ok.reply) c.reserve.new.self.answers
     ∙ ap length c.in_ok-reserve.ensures.same)
     (λ proxy v reply is. past g d _ version _ proxy v reply (sym (c.in_ok-keep.ensures.ok proxy v) ∙ is))
 
@@ -174,7 +174,7 @@ returns-clause-ok g c = λ state given are.
           (to_z-of_z w64 batch.received (received_fits g d));
       owed =
           c.push.ensures.answers
-          ∙ ap (owed_also c.args.proxy (told.Reply reply)) c.in_ok-reserve.ensures.same;
+          ∙ ap (owed_also c.args.proxy (reported.Reply reply)) c.in_ok-reserve.ensures.same;
     })
 
 pub see-requires : goal.see-requires

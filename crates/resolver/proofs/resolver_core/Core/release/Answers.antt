@@ -4,7 +4,7 @@ use Rattle.keyspace.specs.Leaving.{Held, next_due}
 use Rattle.keyspace.specs.Laws.{Leaves}
 use Rattle.keyspace.specs.Run.{State, admit, leave, leave_all}
 use Rattle.resolver.specs.declared.stop.Stop.TheVariants.{ArenaFull}
-use Rattle.resolver.specs.Core.{CoreState, Given, core_of, IsIn, GoesOn, StopsIn}
+use Rattle.resolver.specs.Core.{CoreState, Given, core_of, IsIn, Continues, StopsIn}
 use Rattle.resolver.proofs.Growing.{Grows, grows_leave, grows_leave_all, MadeBetween-grown}
 use Rattle.resolver.proofs.Stops.{OnErr-always, same_stop}
 use Rattle.resolver.proofs.Releasing.{
@@ -12,7 +12,7 @@ use Rattle.resolver.proofs.Releasing.{
   leaver_known,
   IsCore-left,
   IsIn-left,
-  GoesOn-then,
+  Continues-then,
   Reaches,
   IsIn-reached,
   seen_reached,
@@ -54,9 +54,9 @@ module _ (g : Over) (c : In-Some g) where
   abbrev without : CoreState
   without = record before { held = c.next_for.new.self }
 
-  goes_on : GoesOn c.args.self.now without
-  goes_on =
-      let now = subst (GoesOn c.args.self.now) (sym c.self.view_is) c.loop-proxy.invariant.goes_on in
+  continues : Continues c.args.self.now without
+  continues =
+      let now = subst (Continues c.args.self.now) (sym c.self.view_is) c.loop-proxy.invariant.continues in
       record { window = now.window; limit = now.limit; proxies = now.proxies }
 
   module _ (state : State) (given : Given) (are : IsIn state given c.args.self.now) where
@@ -111,9 +111,9 @@ returns-in_err-answer-clause-arena_full g c = λ is state given are.
     StopsAsTheyLeave-left set.window state given (before g d) (g.O.Observer.has_seen c.args.observer.now)
     (g.O.Observer.has_seen c.loop-proxy.observer) (reached g d state given are) (leaver g d)
     c.next_for.new.self (leaves_next g d) set.map.limit new
-    (subst (λ w. StopsIn set.map.limit w s c.in-Some.proxy c.in-Some.batch given new) (goes_on g d).window
+    (subst (λ w. StopsIn set.map.limit w s c.in-Some.proxy c.in-Some.batch given new) (continues g d).window
     (subst (λ n. StopsIn n c.self.inside.set.window s c.in-Some.proxy c.in-Some.batch given new)
-    (goes_on g d).limit stops))
+    (continues g d).limit stops))
 
 pub loop-proxy-preserved : goal.loop-proxy-preserved
 loop-proxy-preserved g c =
@@ -126,12 +126,12 @@ loop-proxy-preserved g c =
           Reaches-left c.args.self.now.set.window state given (before g d) (g.O.Observer.has_seen c.args.observer.now)
           (g.O.Observer.has_seen c.loop-proxy.observer) (reached g d state given are) (leaver g d) c.next_for.new.self
           (leaves_next g d) new (g.O.Observer.has_seen c.answer.new.observer)
-          (subst (λ w. IsIn (admit w c.in-Some.proxy c.in-Some.batch s) given new) (goes_on g d).window
+          (subst (λ w. IsIn (admit w c.in-Some.proxy c.in-Some.batch s) given new) (continues g d).window
           (c.in_ok-answer.ensures.ok s given at))
           (subst (λ w. g.O.Observer.has_seen c.loop-proxy.observer s.processed
           → g.O.Observer.has_seen c.answer.new.observer (admit w c.in-Some.proxy c.in-Some.batch s).processed)
-          (goes_on g d).window (c.in_ok-answer.ensures.seen s given at));
-      goes_on = GoesOn-then c.args.self.now (without g d) new (goes_on g d) c.answer.ensures.goes_on;
+          (continues g d).window (c.in_ok-answer.ensures.seen s given at));
+      continues = Continues-then c.args.self.now (without g d) new (continues g d) c.answer.ensures.continues;
       still = c.in_ok-answer.ensures.«open»;
       setting = c.answer.ensures.setting ∙ c.loop-proxy.invariant.setting;
     }

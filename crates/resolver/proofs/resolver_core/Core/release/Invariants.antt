@@ -1,6 +1,6 @@
 use Rattle.std.proofs.Common.{◌≡◌, None, length}
 use Rattle.keyspace.specs.Run.{State}
-use Rattle.resolver.specs.Core.{Given, IsIn, GoesOn}
+use Rattle.resolver.specs.Core.{Given, IsIn, Continues}
 use Rattle.resolver.proofs.Releasing.{Reaches}
 use Rattle.resolver.proofs.resolver_core.Core.release.Given as goal
 
@@ -9,7 +9,7 @@ invariant-loop-proxy g l = record {
   reaches : (state : State) (given : Given) → IsIn state given l.initial.self
       → Reaches l.initial.self.set.window state given l.self (g.O.Observer.has_seen l.initial.observer)
       (g.O.Observer.has_seen l.observer);
-  goes_on : GoesOn l.initial.self l.self;
+  continues : Continues l.initial.self l.self;
   still : l.self.stop ≡ None;
   setting : g.O.Observer.setting l.observer ≡ g.O.Observer.setting l.initial.observer;
 }

@@ -5,13 +5,13 @@ use Rattle.std.proofs.lemmas.Result.{on_ok_weaker, on_err_weaker}
 use Rattle.keyspace.specs.Run.{State, Take, admit, leave_all}
 use Rattle.chain.specs.declared.gate.TheConstants.{MAX_HELD}
 use Rattle.resolver.specs.declared.stop.Stop.TheVariants.{ArenaFull}
-use Rattle.resolver.specs.Core.{Given, IsIn, GoesOn, MadeBetween, StopsAsTheyLeave}
+use Rattle.resolver.specs.Core.{Given, IsIn, Continues, MadeBetween, StopsAsTheyLeave}
 use Rattle.resolver.specs.Observed.{HasSeenBetween}
 use Rattle.resolver.proofs.Admitting.{admit-ahead, less_from_test, at_most_from_test}
 use Rattle.resolver.proofs.Stops.{OnErr-always, same_stop}
 use Rattle.resolver.proofs.Growing.{grows_admit, MadeBetween-step, MadeBetween-earlier}
 use Rattle.resolver.proofs.Observing.{seen_none, seen_earlier}
-use Rattle.resolver.proofs.Releasing.{GoesOn-then}
+use Rattle.resolver.proofs.Releasing.{Continues-then}
 use Rattle.resolver.proofs.resolver_core.Core.take.Given.{Over}
 use Rattle.resolver.proofs.resolver_core.Core.take.Goals as goal
 use Rattle.resolver.proofs.resolver_core.Core.take.Goals.{
@@ -51,13 +51,13 @@ module _ (g : Over) (c : After-release g) where
             subst (IsIn next given) (sym w.self-is) (w.in_ok-answer.ensures.ok state given are)
       ]
 
-  goes_on : GoesOn c.args.self.now c.if-batch-self.self
-  goes_on =
+  continues : Continues c.args.self.now c.if-batch-self.self
+  continues =
       elim c.if-batch-self.branch [
         | then-batch-self+in_ok-hold w ↦
-            subst (GoesOn c.args.self.now) (sym w.self-is) w.hold.ensures.goes_on
+            subst (Continues c.args.self.now) (sym w.self-is) w.hold.ensures.continues
         | else-batch-self+in_ok-answer w ↦
-            subst (GoesOn c.args.self.now) (sym w.self-is) w.answer.ensures.goes_on
+            subst (Continues c.args.self.now) (sym w.self-is) w.answer.ensures.continues
       ]
 
   -- and the observer has seen what is processed by then
@@ -100,7 +100,7 @@ returns-clause-ok g c =
     let d = (goal.at.returns-clause-ok g c).After-release in
     on_ok_weaker c.release.result (λ ok state given are.
     let next = admit c.args.self.now.set.window c.args.proxy c.args.batch state in
-    subst (λ w. IsIn (leave_all w next) given c.release.new.self) (goes_on g d).window
+    subst (λ w. IsIn (leave_all w next) given c.release.new.self) (continues g d).window
     (ok next given (admitted g d state given are))) c.release.ensures.ok
 
 pub returns-clause-err : goal.returns-clause-err
@@ -111,7 +111,7 @@ returns-clause-err g c =
     let next = admit window c.args.proxy c.args.batch state in
     MadeBetween-earlier state next (leave_all window next) given c.release.new.self
     (grows_admit window c.args.proxy c.args.batch state)
-    (subst (λ w. MadeBetween next (leave_all w next) given c.release.new.self) (goes_on g d).window
+    (subst (λ w. MadeBetween next (leave_all w next) given c.release.new.self) (continues g d).window
     (err next given (admitted g d state given are)))) c.release.ensures.err
 
 pub returns-clause-seen : goal.returns-clause-seen
@@ -119,7 +119,7 @@ returns-clause-seen g c =
     let d = (goal.at.returns-clause-seen g c).After-release in
     on_ok_weaker c.release.result (λ sees state given are seen.
     let next = admit c.args.self.now.set.window c.args.proxy c.args.batch state in
-    subst (λ w. g.O.Observer.has_seen c.release.new.observer (leave_all w next).processed) (goes_on g d).window
+    subst (λ w. g.O.Observer.has_seen c.release.new.observer (leave_all w next).processed) (continues g d).window
     (sees next given (admitted g d state given are) (seen_admitted g d state given are seen))) c.release.ensures.seen
 
 pub returns-clause-seen_between : goal.returns-clause-seen_between
@@ -130,7 +130,7 @@ returns-clause-seen_between g c =
     let next = admit window c.args.proxy c.args.batch state in
     let has_seen = g.O.Observer.has_seen c.release.new.observer in
     seen_earlier has_seen state next (leave_all window next) (grows_admit window c.args.proxy c.args.batch state)
-    (subst (λ w. HasSeenBetween has_seen next.processed (leave_all w next).processed) (goes_on g d).window
+    (subst (λ w. HasSeenBetween has_seen next.processed (leave_all w next).processed) (continues g d).window
     (sees next given (admitted g d state given are) (seen_admitted g d state given are seen))))
     c.release.ensures.seen_between
 
@@ -141,14 +141,14 @@ returns-clause-arena_full g c = λ is state given are.
     let limit = c.if-batch-self.self.set.map.limit in
     let next = admit set.window c.args.proxy c.args.batch state in
     let new = c.release.new.self in
-    inr (subst (λ n. StopsAsTheyLeave n set.window next given new) (goes_on g d).limit
-    (subst (λ w. StopsAsTheyLeave limit w next given new) (goes_on g d).window
+    inr (subst (λ n. StopsAsTheyLeave n set.window next given new) (continues g d).limit
+    (subst (λ w. StopsAsTheyLeave limit w next given new) (continues g d).window
     (c.release.ensures.arena_full is next given (admitted g d state given are))))
 
-pub returns-clause-goes_on : goal.returns-clause-goes_on
-returns-clause-goes_on g c =
-    let d = (goal.at.returns-clause-goes_on g c).After-release in
-    GoesOn-then c.args.self.now c.if-batch-self.self c.release.new.self (goes_on g d) c.release.ensures.goes_on
+pub returns-clause-continues : goal.returns-clause-continues
+returns-clause-continues g c =
+    let d = (goal.at.returns-clause-continues g c).After-release in
+    Continues-then c.args.self.now c.if-batch-self.self c.release.new.self (continues g d) c.release.ensures.continues
 
 -- the batch isn't ahead, or the gate had room for it
 not_full : (g : Over) (c : After-release g) → c.args.self.now.version <ℤ c.args.batch.previous

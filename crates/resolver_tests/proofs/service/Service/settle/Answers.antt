@@ -1,12 +1,12 @@
 use Rattle.std.proofs.Common.{List, sym, subst}
 use Rattle.resolver.specs.declared.client.Client.{Client}
-use Rattle.resolver.specs.Lanes.{Lanes, Each, LanesGoOn, AreSameLists}
+use Rattle.resolver.specs.Lanes.{Lanes, Each, LanesContinue, AreSameLists}
 use Rattle.resolver.specs.Resolver.{AreClients, SameClients}
 use Rattle.resolver.proofs.callers.Lists.{written_back}
-use Rattle.resolver.proofs.callers.Later.{ClientsGoOn, AreClients-later}
+use Rattle.resolver.proofs.callers.Later.{ClientsContinue, AreClients-later}
 use Rattle.resolver_tests.proofs.service.Service.settle.Goals as goal
 
-clients_settle : (old new : List Client) → SameClients old new → ClientsGoOn old new
+clients_settle : (old new : List Client) → SameClients old new → ClientsContinue old new
 clients_settle old new same = record {
   count = same.count;
   each = λ proxy c d c_at d_at.
@@ -14,11 +14,11 @@ clients_settle old new same = record {
       record { requests = both.requests; replies = both.replies };
 }
 
-lanes_settle : (lanes later : List Lanes) → Each (λ _ l m. LanesGoOn l m × AreSameLists l m) lanes later
-    → Each (λ _ l m. LanesGoOn l m) lanes later
-lanes_settle lanes later go_on = record {
-  count = go_on.count;
-  each = λ proxy l m l_at m_at. (go_on.each proxy l m l_at m_at).0;
+lanes_settle : (lanes later : List Lanes) → Each (λ _ l m. LanesContinue l m × AreSameLists l m) lanes later
+    → Each (λ _ l m. LanesContinue l m) lanes later
+lanes_settle lanes later continue_with = record {
+  count = continue_with.count;
+  each = λ proxy l m l_at m_at. (continue_with.each proxy l m l_at m_at).0;
 }
 
 pub invariant_of-self : goal.invariant_of-self

@@ -3,9 +3,9 @@ use Rattle.shards.proofs.shard_tables.Bounds.clip.Goals as goal
 
 pub returns : goal.returns
 returns c = record {
-  clip = λ shard m buffer range has within told is.
+  clip = λ shard m buffer range has within reported is.
       let lies = cut_lies shard m range c.args.cut c.args.self.now c.args.span.now buffer c.pick-begin.result c.pick-end.result has within
-      told is c.pick-begin.ensures.picked c.pick-end.ensures.picked in (
+      reported is c.pick-begin.ensures.picked c.pick-end.ensures.picked in (
         record { begin = lies.0.within; end = lies.1.within },
         λ i. record { begin = lies.0.bytes i; end = lies.1.bytes i },
       );

@@ -5,8 +5,8 @@ use Rattle.keyspace.specs.declared.span.Span.{Span}
 use Rattle.keyspace.specs.declared.txn.Txn.{Txn}
 use Rattle.keyspace.specs.Fields.{TxnFields, range_fields, txn_fields}
 use Rattle.keyspace.specs.Putting.{ArePut}
-use Rattle.keyspace.specs.Tables.{range_told, txn_told, LiesWithin}
-use Rattle.keyspace.proofs.callers.Putting.{All-slice_range, length-put, few_spans, length-told}
+use Rattle.keyspace.specs.Tables.{range_of_span, txn_of_row, LiesWithin}
+use Rattle.keyspace.proofs.callers.Putting.{All-slice_range, length-put, few_spans, length-reported}
 use Rattle.shards.specs.Built.{IsBuilt, HasBounds, clips_of, clip_txn}
 use Rattle.shards.specs.Clips.{read_indices}
 use Rattle.shards.specs.Cut.{shard_of_ends}
@@ -21,9 +21,9 @@ part_lies : (buffer : List ℕ) (spans : List Span) (from to : ℕ) → All (Lie
 part_lies buffer spans from to lie = All-slice_range (LiesWithin (length buffer)) spans from to lie
 
 -- the transaction has as many read ranges as there are spans of them
-few_of : (buffer : List ℕ) (part : List Span) (t : Txn) → map (range_told buffer) part ≡ map range_fields t.reads → length part ≤ 1024
-few_of buffer part t told =
-    omega (arith, ap length told, length-map part (range_told buffer), length-map t.reads range_fields, t.few_reads)
+few_of : (buffer : List ℕ) (part : List Span) (t : Txn) → map (range_of_span buffer) part ≡ map range_fields t.reads → length part ≤ 1024
+few_of buffer part t reported =
+    omega (arith, ap length reported, length-map part (range_of_span buffer), length-map t.reads range_fields, t.few_reads)
 
 pub keep_reads-requires : goal.keep_reads-requires
 keep_reads-requires c =
@@ -57,8 +57,8 @@ record IsPut (c : In_ok-keep_writes) (t : Txn) : Type 0 where
 
 is_put : (c : In_ok-keep_writes) (m : ℕ) (t : Txn)
     → HasBounds (shard_of_ends c.args.shard.now) m c.args.self.now.buffer.items c.args.self.now.bounds
-    → txn_told c.args.self.now.buffer.items c.args.spans.now c.args.from c.args.row.now ≡ txn_fields t → IsPut c t
-is_put c m t bounds told =
+    → txn_of_row c.args.self.now.buffer.items c.args.spans.now c.args.from c.args.row.now ≡ txn_fields t → IsPut c t
+is_put c m t bounds reported =
     let shard = shard_of_ends c.args.shard.now in
     let old = c.args.self.now in
     let spans = c.args.spans.now in
@@ -68,10 +68,10 @@ is_put c m t bounds told =
     let two = c.deref-2.ensures.value in
     let bounds_one = subst (λ (buffer : List ℕ). HasBounds shard m buffer old.bounds) (sym one) bounds in
     let bounds_two = subst (λ (buffer : List ℕ). HasBounds shard m buffer old.bounds) (sym two) bounds in
-    let reads = subst (λ (buffer : List ℕ). map (range_told buffer) (slice_range spans c.args.from middle) ≡ map range_fields t.reads) (sym one)
-    (ap (λ (f : TxnFields). f.reads) told) in
-    let writes = subst (λ (buffer : List ℕ). map (range_told buffer) (slice_range spans middle row.end) ≡ map range_fields t.writes) (sym two)
-    (ap (λ (f : TxnFields). f.writes) told) in
+    let reads = subst (λ (buffer : List ℕ). map (range_of_span buffer) (slice_range spans c.args.from middle) ≡ map range_fields t.reads) (sym one)
+    (ap (λ (f : TxnFields). f.reads) reported) in
+    let writes = subst (λ (buffer : List ℕ). map (range_of_span buffer) (slice_range spans middle row.end) ≡ map range_fields t.writes) (sym two)
+    (ap (λ (f : TxnFields). f.writes) reported) in
     let first = subst (λ (buffer : List ℕ). ArePut buffer old.spans.items (clips_of shard t.reads) buffer c.keep_reads.new.kept.items) one
     (c.in_ok-keep_reads.ensures.kept m t.reads bounds_one reads) in
     let second = subst (λ (buffer : List ℕ). ArePut buffer c.keep_reads.new.kept.items (clips_of shard t.writes) buffer
@@ -93,8 +93,8 @@ few_spans_of c m txns built few =
       arith,
       few,
       few_spans tables.buffer.items tables.spans.items tables.rows.items built.fit,
-      length-told tables.buffer.items tables.spans.items 0 tables.rows.items,
-      ap length built.told,
+      length-reported tables.buffer.items tables.spans.items 0 tables.rows.items,
+      ap length built.reported,
       length-map txns (clip_txn (shard_of_ends c.args.shard.now)),
     )
 
@@ -124,15 +124,15 @@ overflow_cast-len-2 c =
     search rules
 
 pub returns-clause-built : goal.returns-clause-built
-returns-clause-built c = λ m txns t built few told.
+returns-clause-built c = λ m txns t built few reported.
     let at = goal.at.returns-clause-built c in
     let shard = shard_of_ends c.args.shard.now in
     let old = c.args.self.now in
     let row = c.args.row.now in
     let fits : FitsSigned w64 row.snapshot = search rules in
-    let put = is_put at.In_ok-keep_writes m t built.bounds told in
+    let put = is_put at.In_ok-keep_writes m t built.bounds reported in
     built_put shard m txns t old _ old.buffer.items c.keep_reads.new.kept.items _ built put.reads put.writes built.bounds
-    (to_z-of_z w64 row.snapshot fits ∙ ap (λ (f : TxnFields). f.snapshot) told) (ap (λ (f : TxnFields). f.marked) told)
+    (to_z-of_z w64 row.snapshot fits ∙ ap (λ (f : TxnFields). f.snapshot) reported) (ap (λ (f : TxnFields). f.marked) reported)
     (omega (arith, put.more_writes, c.len-count.ensures, c.len-3.ensures, c.keep_reads.new.kept.ok.0, c.keep_writes.new.kept.ok.0))
     (c.len-2.ensures ∙ c.keep_writes.new.kept.ok.0) c.in_ok-push-2.ensures.items put.indices
     (c.in_ok-push.ensures.items

@@ -5,8 +5,8 @@ use Rattle.std.proofs.lemmas.Option.{slice_get-get_or, slice_get_within}
 use Rattle.keyspace.specs.declared.row.Row.{Row}
 use Rattle.keyspace.specs.declared.txn.Txn.{Txn}
 use Rattle.keyspace.specs.Fields.{txn_fields}
-use Rattle.keyspace.specs.Tables.{txn_told, LiesWithin}
-use Rattle.keyspace.proofs.callers.Putting.{length-told}
+use Rattle.keyspace.specs.Tables.{txn_of_row, LiesWithin}
+use Rattle.keyspace.proofs.callers.Putting.{length-reported}
 use Rattle.shards.specs.Built.{IsBuilt}
 use Rattle.shards.specs.Cut.{shard_of_ends}
 use Rattle.shards.proofs.Kept.{next_row}
@@ -42,7 +42,7 @@ keep-requires c =
         next.0,
         before.0,
         omega (arith, length-take i it.1, inside, it.3),
-        subst (λ (buffer : Vec ℕ Global). txn_told buffer.items spans l.from row ≡ txn_fields next.0) (sym l.invariant.buffer) next.2,
+        subst (λ (buffer : Vec ℕ Global). txn_of_row buffer.items spans l.from row ≡ txn_fields next.0) (sym l.invariant.buffer) next.2,
       );
     }
 
@@ -63,7 +63,7 @@ loop-row-preserved c = record {
         subst (λ (front : List Txn). IsBuilt (shard_of_ends c.args.shard.now) m front c.keep.new.self)
             (sym (take_next txns i next.0 next.1))
             (c.in_ok-keep.ensures.built m (take i txns) next.0 before.0 (omega (arith, length-take i txns, inside, few))
-            (subst (λ (buffer : Vec ℕ Global). txn_told buffer.items spans l.from row ≡ txn_fields next.0)
+            (subst (λ (buffer : Vec ℕ Global). txn_of_row buffer.items spans l.from row ≡ txn_fields next.0)
             (sym l.invariant.buffer) next.2)),
         next.3,
       );
@@ -79,9 +79,9 @@ returns c = record {
       omega (
         arith,
         c.loop-row-test.false,
-        ap length left.told,
+        ap length left.reported,
         length-map txns txn_fields,
-        length-told old.buffer.items c.args.spans.now 0 rows,
+        length-reported old.buffer.items c.args.spans.now 0 rows,
       ) in
       subst (λ (front : List Txn). IsBuilt (shard_of_ends c.args.shard.now) m front l.self) (take_all l.row-index txns count)
       (l.invariant.each m txns built few left).0;

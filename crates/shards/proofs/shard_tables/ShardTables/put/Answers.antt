@@ -6,12 +6,12 @@ use Rattle.std.proofs.lemmas.Slice.Zip.{AllZip-long}
 use Rattle.keyspace.specs.declared.txn.Txn.{Txn}
 use Rattle.keyspace.specs.Judge.{places_from}
 use Rattle.keyspace.specs.Putting.{ArePut}
-use Rattle.keyspace.proofs.callers.Putting.{length-put, few_spans, length-told}
+use Rattle.keyspace.proofs.callers.Putting.{length-put, few_spans, length-reported}
 use Rattle.serial.specs.Shards.{Shard}
 use Rattle.shards.specs.declared.reach.Reach.{Reach}
 use Rattle.shards.specs.Built.{IsBuilt, HasBounds, clips_of, clip_txn}
 use Rattle.shards.specs.Clips.{goes_to, read_indices}
-use Rattle.shards.specs.Reach.{IsTold}
+use Rattle.shards.specs.Reach.{IsReported}
 use Rattle.shards.proofs.Appended.{bounds_kept}
 use Rattle.shards.proofs.BuiltTables.{zip_split, built_put}
 use Rattle.shards.proofs.ClipLists.{few_clips}
@@ -20,23 +20,23 @@ use Rattle.shards.proofs.shard_tables.ShardTables.put.Goals as goal
 
 -- the reaches of the transaction, as it is opened
 opened : (c : After-len) (shard : Shard) (m : ℕ)
-    → AllZip (IsTold shard m) (c.args.txn.now.reads ++ c.args.txn.now.writes) c.args.reaches.now
-    → AllZip (IsTold shard m) (c.txn.inside.reads ++ c.txn.inside.writes) c.args.reaches.now
+    → AllZip (IsReported shard m) (c.args.txn.now.reads ++ c.args.txn.now.writes) c.args.reaches.now
+    → AllZip (IsReported shard m) (c.txn.inside.reads ++ c.txn.inside.writes) c.args.reaches.now
 opened c shard m zipped =
-    subst (λ (t : Txn). AllZip (IsTold shard m) (t.reads ++ t.writes) c.args.reaches.now) (sym c.txn.view_is) zipped
+    subst (λ (t : Txn). AllZip (IsReported shard m) (t.reads ++ t.writes) c.args.reaches.now) (sym c.txn.view_is) zipped
 
 pub split_at-requires : goal.split_at-requires
 split_at-requires c =
     let zipped = opened c c.requires.built.0 c.requires.built.1 c.requires.built.5 in
-    let long = AllZip-long (IsTold c.requires.built.0 c.requires.built.1) (c.txn.inside.reads ++ c.txn.inside.writes) c.args.reaches.now zipped in
+    let long = AllZip-long (IsReported c.requires.built.0 c.requires.built.1) (c.txn.inside.reads ++ c.txn.inside.writes) c.args.reaches.now zipped in
     omega (arith, long, c.len.ensures.count, length-append c.txn.inside.reads c.txn.inside.writes)
 
 -- those of its read ranges, and those of its write ranges
 split : (c : After-split_at) (shard : Shard) (m : ℕ)
-    → AllZip (IsTold shard m) (c.txn.inside.reads ++ c.txn.inside.writes) c.args.reaches.now
-    → AllZip (IsTold shard m) c.txn.inside.reads c.split_at.result.0.now × AllZip (IsTold shard m) c.txn.inside.writes c.split_at.result.1.now
+    → AllZip (IsReported shard m) (c.txn.inside.reads ++ c.txn.inside.writes) c.args.reaches.now
+    → AllZip (IsReported shard m) c.txn.inside.reads c.split_at.result.0.now × AllZip (IsReported shard m) c.txn.inside.writes c.split_at.result.1.now
 split c shard m zipped =
-    let R = IsTold shard m in
+    let R = IsReported shard m in
     let both = zip_split R c.txn.inside.reads c.txn.inside.writes c.args.reaches.now zipped in (
       subst (λ (reaches : List Reach). AllZip R c.txn.inside.reads reaches)
           (ap (λ n. take n c.args.reaches.now) (sym c.len.ensures.count) ∙ sym c.split_at.ensures.front) both.0,
@@ -49,7 +49,7 @@ put_clips-requires-2 c =
     let at = goal.at.put_clips-requires-2 c in
     let zipped = opened at.After-len c.requires.built.0 c.requires.built.1 c.requires.built.5 in
     let both = split at.After-split_at c.requires.built.0 c.requires.built.1 zipped in
-    record { count = AllZip-long (IsTold c.requires.built.0 c.requires.built.1) c.txn.inside.writes c.split_at.result.1.now both.1 }
+    record { count = AllZip-long (IsReported c.requires.built.0 c.requires.built.1) c.txn.inside.writes c.split_at.result.1.now both.1 }
 
 -- all that is put of the ranges of a transaction
 record IsPut (c : In_ok-put_clips-2) (shard : Shard) (m : ℕ) : Type 0 where
@@ -63,7 +63,7 @@ record IsPut (c : In_ok-put_clips-2) (shard : Shard) (m : ℕ) : Type 0 where
   few_writes : length (clips_of shard c.txn.inside.writes) ≤ 1024
 
 is_put : (c : In_ok-put_clips-2) (shard : Shard) (m : ℕ) → HasBounds shard m c.args.self.now.buffer.items c.args.self.now.bounds
-    → AllZip (IsTold shard m) c.txn.inside.reads c.split_at.result.0.now × AllZip (IsTold shard m) c.txn.inside.writes c.split_at.result.1.now
+    → AllZip (IsReported shard m) c.txn.inside.reads c.split_at.result.0.now × AllZip (IsReported shard m) c.txn.inside.writes c.split_at.result.1.now
     → IsPut c shard m
 is_put c shard m bounds zips =
     let first = c.in_ok-put_clips.ensures.put shard m bounds zips.0 in
@@ -88,8 +88,8 @@ few_spans_of c shard m txns built few =
       arith,
       few,
       few_spans tables.buffer.items tables.spans.items tables.rows.items built.fit,
-      length-told tables.buffer.items tables.spans.items 0 tables.rows.items,
-      ap length built.told,
+      length-reported tables.buffer.items tables.spans.items 0 tables.rows.items,
+      ap length built.reported,
       length-map txns (clip_txn shard),
     )
 
@@ -138,8 +138,8 @@ returns c =
           let put = is_put at.In_ok-put_clips-2 shard m built.bounds zips in
           let reads : clips_of shard inside.reads ≡ clips_of shard t.reads = ap (λ (u : Txn). clips_of shard u.reads) c.txn.view_is in
           let writes : clips_of shard inside.writes ≡ clips_of shard t.writes = ap (λ (u : Txn). clips_of shard u.writes) c.txn.view_is in
-          let own : AllZip (IsTold shard old.bounds.shard) inside.reads c.split_at.result.0.now =
-          subst (λ (n : ℕ). AllZip (IsTold shard n) inside.reads c.split_at.result.0.now) (sym built.bounds.number) zips.0 in
+          let own : AllZip (IsReported shard old.bounds.shard) inside.reads c.split_at.result.0.now =
+          subst (λ (n : ℕ). AllZip (IsReported shard n) inside.reads c.split_at.result.0.now) (sym built.bounds.number) zips.0 in
           let indices : c.put_indices.new.indices.items ≡ old.indices.items ++ read_indices shard t =
           c.in_ok-put_indices.ensures.put shard inside.reads own
           ∙ ap (λ (u : Txn). old.indices.items ++ places_from 0 (goes_to shard) u.reads) c.txn.view_is in

@@ -10,7 +10,7 @@ use Rattle.tree.specs.Tree.{CanSearchItems}
 use Rattle.stepmap.specs.Asking.{Exceeds}
 use Rattle.stepmap.specs.Boundary.{Boundary, AreBoundaries}
 use Rattle.stepmap.specs.Stored.{Stored, boundaries_of}
-use Rattle.stepmap.proofs.Asking.{BoundQuestion, Asks, Told, is_below, can_search_at, some_pass, told_above, query_gives, from_query}
+use Rattle.stepmap.proofs.Asking.{BoundQuestion, Asks, Answered, is_below, can_search_at, some_pass, answered_above, query_gives, from_query}
 use Rattle.stepmap.proofs.InTurn.{AllZip-second, AllZip-through}
 use Rattle.stepmap.proofs.boundaries.Boundaries.are_above.Goals as goal
 
@@ -54,14 +54,14 @@ returns g c =
     let are : AreBoundaries bs = subst (λ (v : Stored). AreBoundaries v.boundaries) (sym c.self.view_is) c.requires.boundaries in
     let Above = λ (bs : List Boundary) (place : ℕ) (above : Bool).
     IsSomeAnd (slice_get queries place) (λ q. IsTrue above ↔ Exceeds bs q) in
-    let told : AllZip (Told b.tree) questions c.exceeds_each.result.items =
-    c.exceeds_each.ensures.told in
+    let answered : AllZip (Answered b.tree) questions c.exceeds_each.result.items =
+    c.exceeds_each.ensures.answered in
     let above : AllZip (Above bs) places c.exceeds_each.result.items =
-    AllZip-through (λ (place : ℕ) (q : BoundQuestion). IsSomeAnd (slice_get queries place) (λ a. Asks b.keys a q)) (Told b.tree)
+    AllZip-through (λ (place : ℕ) (q : BoundQuestion). IsSomeAnd (slice_get queries place) (λ a. Asks b.keys a q)) (Answered b.tree)
     (Above bs)
-    (λ place q above some told. query_gives (slice_get queries place) (λ a. Asks b.keys a q)
-    (λ a. IsTrue above ↔ Exceeds bs a) (λ a asks. told_above b.keys b.tree c.self.invariant are a q above asks told) some)
-    places questions c.exceeds_each.result.items c.put_questions.ensures.asks told in
+    (λ place q above some answered. query_gives (slice_get queries place) (λ a. Asks b.keys a q)
+    (λ a. IsTrue above ↔ Exceeds bs a) (λ a asks. answered_above b.keys b.tree c.self.invariant are a q above asks answered) some)
+    places questions c.exceeds_each.result.items c.put_questions.ensures.asks answered in
     record {
       above = subst (λ (v : Stored). AllZip (Above v.boundaries) places c.exceeds_each.result.items) c.self.view_is above;
     }

@@ -6,10 +6,10 @@ use Rattle.stepmap.specs.Sweeping.{left_from, passed_to, swept}
 use Rattle.stepmap.proofs.SweepingOn.{none_swept, more_swept, all_swept, count_swept, swept_keys, first_there}
 use Rattle.stepmap.proofs.boundaries.Boundaries.sweep.Given as given
 use Rattle.stepmap.proofs.boundaries.Boundaries.sweep.Goals as goal
-use Rattle.stepmap.proofs.boundaries.Boundaries.sweep.Goals.{After-go_on-before}
+use Rattle.stepmap.proofs.boundaries.Boundaries.sweep.Goals.{After-resume-before}
 
 -- the boundaries are in order, as the invariant says
-in_order : (g : given.Over) (c : After-go_on-before g) → AreInOrder c.args.self.now.boundaries
+in_order : (g : given.Over) (c : After-resume-before g) → AreInOrder c.args.self.now.boundaries
 in_order g c = c.requires.boundaries.in_order
 
 -- a vector with some bytes
@@ -28,19 +28,19 @@ is_none v e =
 
 pub loop-left-init : goal.loop-left-init
 loop-left-init g c =
-    let fits : SFits w64 c.go_on-before.result = search rules in
+    let fits : SFits w64 c.resume-before.result = search rules in
     record {
       swept =
           none_swept _ c.args.cursor.now.items c.args.self.now.boundaries (in_order g c) c.args.count _ _
-          (to_z-of_z w64 c.go_on-before.result fits ∙ c.go_on-before.ensures.version) c.go_on-before.ensures.cursor;
-      capacity = c.go_on-before.ensures.capacity;
+          (to_z-of_z w64 c.resume-before.result fits ∙ c.resume-before.ensures.version) c.resume-before.ensures.cursor;
+      capacity = c.resume-before.ensures.capacity;
       spare = λ size. omega arith;
       room = refl;
     }
 
 pub remove_expired-looked-requires : goal.remove_expired-looked-requires
 remove_expired-looked-requires g c =
-    let order = in_order g (goal.at.remove_expired-looked-requires g c).After-go_on-before in
+    let order = in_order g (goal.at.remove_expired-looked-requires g c).After-resume-before in
     let h = c.loop-left.invariant in
     let later = not_empty c.loop-left.cursor (sym c.is_empty.ensures ∙ c.if-not-is_empty.true) in (
       omega arith,
@@ -61,7 +61,7 @@ remove_expired-looked-requires g c =
 
 pub loop-left-preserved : goal.loop-left-preserved
 loop-left-preserved g c =
-    let order = in_order g (goal.at.loop-left-preserved g c).After-go_on-before in
+    let order = in_order g (goal.at.loop-left-preserved g c).After-resume-before in
     let h = c.loop-left.invariant in
     let later = not_empty c.loop-left.cursor (sym c.is_empty.ensures ∙ c.if-not-is_empty.true) in
     let e = c.remove_expired-looked.ensures in
@@ -78,7 +78,7 @@ loop-left-preserved g c =
 
 pub returns-else-not-is_empty-clause-boundaries : goal.returns-else-not-is_empty-clause-boundaries
 returns-else-not-is_empty-clause-boundaries g c =
-    let order = in_order g (goal.at.returns-else-not-is_empty-clause-boundaries g c).After-go_on-before in
+    let order = in_order g (goal.at.returns-else-not-is_empty-clause-boundaries g c).After-resume-before in
     let none = is_none c.loop-left.cursor (sym c.is_empty.ensures ∙ c.if-not-is_empty.false) in
     let edge = to_z-of_z w64 c.args.edge c.ranges.edge in
     (all_swept _ _ _ order _ _ _ _ _ c.loop-left.invariant.swept none).0
@@ -87,13 +87,13 @@ returns-else-not-is_empty-clause-boundaries g c =
 
 pub returns-else-not-is_empty-clause-cursor : goal.returns-else-not-is_empty-clause-cursor
 returns-else-not-is_empty-clause-cursor g c =
-    let order = in_order g (goal.at.returns-else-not-is_empty-clause-cursor g c).After-go_on-before in
+    let order = in_order g (goal.at.returns-else-not-is_empty-clause-cursor g c).After-resume-before in
     let none = is_none c.loop-left.cursor (sym c.is_empty.ensures ∙ c.if-not-is_empty.false) in
     (all_swept _ _ _ order _ _ _ _ _ c.loop-left.invariant.swept none).1
 
 pub returns-after-loop-left-clause-boundaries : goal.returns-after-loop-left-clause-boundaries
 returns-after-loop-left-clause-boundaries g c =
-    let order = in_order g (goal.at.returns-after-loop-left-clause-boundaries g c).After-go_on-before in
+    let order = in_order g (goal.at.returns-after-loop-left-clause-boundaries g c).After-resume-before in
     let edge = to_z-of_z w64 c.args.edge c.ranges.edge in
     (count_swept _ _ _ order _ _ _ _ _ c.loop-left.invariant.swept (omega arith)).0
     ∙ ap (λ e. swept e c.args.count (passed_to c.args.cursor.now.items c.args.self.now.boundaries)
@@ -101,5 +101,5 @@ returns-after-loop-left-clause-boundaries g c =
 
 pub returns-after-loop-left-clause-cursor : goal.returns-after-loop-left-clause-cursor
 returns-after-loop-left-clause-cursor g c =
-    let order = in_order g (goal.at.returns-after-loop-left-clause-cursor g c).After-go_on-before in
+    let order = in_order g (goal.at.returns-after-loop-left-clause-cursor g c).After-resume-before in
     (count_swept _ _ _ order _ _ _ _ _ c.loop-left.invariant.swept (omega arith)).1

@@ -6,8 +6,8 @@ use Rattle.std.proofs.lemmas.List.Elements.{All-head, All-tail}
 use Rattle.std.specs.List.{All, IsDistinct}
 use Rattle.std.specs.FinMap as finite
 use Rattle.tree.specs.Item.{Item, item_of}
-use Rattle.tree.specs.declared.overwrite.Written.{Written}
-use Rattle.tree.specs.declared.overwrite.Written.TheVariants.{Partly, Whole}
+use Rattle.tree.specs.declared.overwrite.OverwriteResult.{OverwriteResult}
+use Rattle.tree.specs.declared.overwrite.OverwriteResult.TheVariants.{Partly, Entirely}
 use Rattle.tree.specs.Overwrite.{Overwrites}
 use Rattle.tree.specs.Path.{IsPartitioned, items_below}
 use Rattle.arena.specs.Arena.{Arena, IsLive, record_at, key_at, spare_of, size_of, wanted_of}
@@ -20,7 +20,7 @@ use Rattle.stepmap.specs.Writing.{written_to}
 use Rattle.stepmap.proofs.Between.{nested, nested_around}
 use Rattle.stepmap.proofs.Exchanged.{partitioned_still}
 use Rattle.stepmap.proofs.Indexed.{headed_with}
-use Rattle.stepmap.proofs.Overwritten.{at_begin, at_end, both, used_at_most, unless_ended, some_before, run_was_live, run_live, run_distinct, whole_boundaries, whole_indexed, part_fewer, part_boundaries, part_written, part_indexed}
+use Rattle.stepmap.proofs.Overwritten.{at_begin, at_end, both, used_at_most, unless_ended, some_before, run_was_live, run_live, run_distinct, entire_boundaries, entire_indexed, part_fewer, part_boundaries, part_written, part_indexed}
 use Rattle.stepmap.proofs.PlacedKeys.{Placed, ArePlaced, none_placed, one_more_by, first_released, second_released, run_released, placed_live}
 use Rattle.stepmap.proofs.SpareKeys.{taken_by_place, spare_for_begin, spare_for_end}
 use Rattle.stepmap.proofs.Unlinked.{slots_of}
@@ -161,25 +161,25 @@ overwrite-written-requires g c =
     )
 
 -- what the tree tells
-told : (g : given.Over) (c : After-overwrite-written g)
+answered : (g : given.Over) (c : After-overwrite-written g)
     → Overwrites (slot_is_below c.place-2.new.self false c.args.range.now.begin)
     (slot_is_below c.place-2.new.self false c.args.range.now.end) (slot_is_below c.place-2.new.self true c.args.range.now.end)
     (record { key = c.unwrap-begin_key.result; version = c.args.version }) c.unwrap-end_key.result c.args.at_end
     c.overwrite-written.result (map item_of c.overwrite-written.new.taken.items) c.self.inside.tree.items
     c.overwrite-written.new.self.items
-told g c =
+answered g c =
     let range = c.args.range.now in
     let now = c.place-2.new.self in
-    let Told = λ (begin end : List ℕ) (first : Item).
+    let Answered = λ (begin end : List ℕ) (first : Item).
     Overwrites (slot_is_below now false begin) (slot_is_below now false end) (slot_is_below now true end) first
     c.unwrap-end_key.result c.args.at_end c.overwrite-written.result (map item_of c.overwrite-written.new.taken.items)
     c.self.inside.tree.items c.overwrite-written.new.self.items in
     let first_is : item_of c.item.result ≡ record { key = c.unwrap-begin_key.result; version = c.args.version } =
     c.item.ensures.item
     ∙ ap (λ v. record { key = c.unwrap-begin_key.result; version = v }) (to_z-of_z w64 c.args.version c.ranges.version) in
-    subst (Told range.begin range.end) first_is
-    (subst (λ k. Told range.begin k (item_of c.item.result)) c.end-to.ensures.bytes
-    (subst (λ k. Told k c.end-to.result.now (item_of c.item.result)) c.begin-2.ensures.bytes
+    subst (Answered range.begin range.end) first_is
+    (subst (λ k. Answered range.begin k (item_of c.item.result)) c.end-to.ensures.bytes
+    (subst (λ k. Answered k c.end-to.result.now (item_of c.item.result)) c.begin-2.ensures.bytes
     c.overwrite-written.ensures.items))
 
 -- where the keys are placed, with what the tree tells
@@ -189,8 +189,8 @@ IsReady g c =
     (both c.args.range.now c.args.version (unwrap_or c.args.at_end (value_at (boundaries_of c.self.inside.keys c.self.inside.tree.items) c.args.range.now.end))
     c.unwrap-begin_key.result (Some c.unwrap-end_key.result))
 
-abbrev IsTold : (g : given.Over) → After-release_run g → Written → Type 0
-IsTold g c written =
+abbrev IsAnswer : (g : given.Over) → After-release_run g → OverwriteResult → Type 0
+IsAnswer g c written =
     Overwrites (slot_is_below c.place-2.new.self false c.args.range.now.begin)
     (slot_is_below c.place-2.new.self false c.args.range.now.end) (slot_is_below c.place-2.new.self true c.args.range.now.end)
     (record { key = c.unwrap-begin_key.result; version = c.args.version }) c.unwrap-end_key.result c.args.at_end
@@ -201,10 +201,10 @@ IsTold g c written =
 abbrev IsLeft : (g : given.Over) → After-release_run g → Arena (Unit {0}) → List Placed → Type 0
 IsLeft g c final ps = ArePlaced c.self.inside.keys final (slots_of (map item_of c.overwrite-written.new.taken.items)) ps
 
-left_at : (g : given.Over) (c : After-release_run g) → IsReady g c → IsTold g c c.overwrite-written.result
+left_at : (g : given.Over) (c : After-release_run g) → IsReady g c → IsAnswer g c c.overwrite-written.result
     → IsLeft g c c.release_run.new.keys (both c.args.range.now c.args.version (unwrap_or c.args.at_end (value_at (boundaries_of c.self.inside.keys c.self.inside.tree.items) c.args.range.now.end))
     c.unwrap-begin_key.result (Some c.unwrap-end_key.result))
-left_at g c ready told =
+left_at g c ready answered =
     let e = c.release_run.ensures in
     run_released c.self.inside.keys c.place-2.new.self c.release_run.new.keys
     (both c.args.range.now c.args.version (unwrap_or c.args.at_end (value_at (boundaries_of c.self.inside.keys c.self.inside.tree.items) c.args.range.now.end))
@@ -214,7 +214,7 @@ left_at g c ready told =
     c.args.version (unwrap_or c.args.at_end (value_at (boundaries_of c.self.inside.keys c.self.inside.tree.items) c.args.range.now.end))
     c.unwrap-begin_key.result c.unwrap-end_key.result c.place-2.new.self ready
     (record { key = c.unwrap-begin_key.result; version = c.args.version }) c.args.at_end c.overwrite-written.result
-    (map item_of c.overwrite-written.new.taken.items) c.overwrite-written.new.self told)
+    (map item_of c.overwrite-written.new.taken.items) c.overwrite-written.new.self answered)
     e.others e.counted e.spare
 
 -- the range is written over
@@ -226,26 +226,26 @@ record IsWritten (g : given.Over) (c : After-release_run g) (final : Arena (Unit
   used : (size : ℕ) → spare_in c.args.self.now size
       ≤ spare_of final size + wanted_of (length c.args.range.now.begin ∷ length c.args.range.now.end ∷ []) size
 
-written_at : (g : given.Over) (c : After-release_run g) → IsReady g c → (ended : Bool) → IsTold g c (Whole ended)
+written_at : (g : given.Over) (c : After-release_run g) → IsReady g c → (ended : Bool) → IsAnswer g c (Entirely ended)
     → (final : Arena (Unit {0}))
     → IsLeft g c final (both c.args.range.now c.args.version
     (unwrap_or c.args.at_end (value_at (boundaries_of c.self.inside.keys c.self.inside.tree.items) c.args.range.now.end))
     c.unwrap-begin_key.result (unless_ended ended c.unwrap-end_key.result))
     → IsWritten g c final
-written_at g c ready ended told final left =
+written_at g c ready ended answered final left =
     let range = c.args.range.now in
     let e = c.overwrite-written.ensures in
     record {
-      indexed = whole_indexed c.self.inside.keys c.self.inside.tree c.self.invariant.stored c.args.range.now c.requires.filled
+      indexed = entire_indexed c.self.inside.keys c.self.inside.tree c.self.invariant.stored c.args.range.now c.requires.filled
           c.args.version (unwrap_or c.args.at_end (value_at (boundaries_of c.self.inside.keys c.self.inside.tree.items) c.args.range.now.end))
           c.unwrap-begin_key.result c.unwrap-end_key.result c.place-2.new.self ready
-          c.args.at_end refl ended (map item_of c.overwrite-written.new.taken.items) c.overwrite-written.new.self told
+          c.args.at_end refl ended (map item_of c.overwrite-written.new.taken.items) c.overwrite-written.new.self answered
           final left e.known e.headed;
       boundaries =
-          whole_boundaries c.self.inside.keys c.self.inside.tree c.self.invariant.stored c.args.range.now c.requires.filled
+          entire_boundaries c.self.inside.keys c.self.inside.tree c.self.invariant.stored c.args.range.now c.requires.filled
           c.args.version (unwrap_or c.args.at_end (value_at (boundaries_of c.self.inside.keys c.self.inside.tree.items) c.args.range.now.end))
           c.unwrap-begin_key.result c.unwrap-end_key.result c.place-2.new.self ready
-          c.args.at_end refl ended (map item_of c.overwrite-written.new.taken.items) c.overwrite-written.new.self told
+          c.args.at_end refl ended (map item_of c.overwrite-written.new.taken.items) c.overwrite-written.new.self answered
           final left
           ∙ ap (λ (v : Stored). written_to range c.args.version (unwrap_or c.args.at_end (value_at v.boundaries range.end))
           v.boundaries) c.self.view_is;
@@ -272,28 +272,28 @@ record IsCleared (g : given.Over) (c : After-release_run g) (last : ℤ) (final 
   fewer : length (boundaries_of final c.overwrite-written.new.self.items) < length c.args.self.now.boundaries
   none_used : (size : ℕ) → spare_in c.args.self.now size ≤ spare_of final size
 
-cleared_at : (g : given.Over) (c : After-release_run g) → IsReady g c → (last : ℤ) → IsTold g c (Partly last)
+cleared_at : (g : given.Over) (c : After-release_run g) → IsReady g c → (last : ℤ) → IsAnswer g c (Partly last)
     → (final : Arena (Unit {0})) → IsLeft g c final [] → IsCleared g c last final
-cleared_at g c ready last told final left =
+cleared_at g c ready last answered final left =
     let range = c.args.range.now in
     let e = c.overwrite-written.ensures in
     record {
       indexed = part_indexed c.self.inside.keys c.self.inside.tree c.self.invariant.stored c.args.range.now c.requires.filled
           c.args.version (unwrap_or c.args.at_end (value_at (boundaries_of c.self.inside.keys c.self.inside.tree.items) c.args.range.now.end))
           c.unwrap-begin_key.result c.unwrap-end_key.result c.place-2.new.self ready
-          last (map item_of c.overwrite-written.new.taken.items) c.overwrite-written.new.self told final left e.known e.headed;
+          last (map item_of c.overwrite-written.new.taken.items) c.overwrite-written.new.self answered final left e.known e.headed;
       cleared =
           part_written c.self.inside.keys c.self.inside.tree c.self.invariant.stored c.args.range.now c.requires.filled
           c.args.version (unwrap_or c.args.at_end (value_at (boundaries_of c.self.inside.keys c.self.inside.tree.items) c.args.range.now.end))
           c.unwrap-begin_key.result c.unwrap-end_key.result c.place-2.new.self ready
-          last (map item_of c.overwrite-written.new.taken.items) c.overwrite-written.new.self told final left c.args.at_end c.args.version
+          last (map item_of c.overwrite-written.new.taken.items) c.overwrite-written.new.self answered final left c.args.at_end c.args.version
           ∙ ap (λ (v : Stored). written_to range c.args.version (unwrap_or c.args.at_end (value_at v.boundaries range.end))
           v.boundaries) c.self.view_is;
       boundaries =
           part_boundaries c.self.inside.keys c.self.inside.tree c.self.invariant.stored c.args.range.now c.requires.filled
           c.args.version (unwrap_or c.args.at_end (value_at (boundaries_of c.self.inside.keys c.self.inside.tree.items) c.args.range.now.end))
           c.unwrap-begin_key.result c.unwrap-end_key.result c.place-2.new.self ready
-          last (map item_of c.overwrite-written.new.taken.items) c.overwrite-written.new.self told final left
+          last (map item_of c.overwrite-written.new.taken.items) c.overwrite-written.new.self answered final left
           (subst (λ (v : Stored). AreBoundaries v.boundaries) (sym c.self.view_is) c.requires.boundaries);
       fewer =
           subst (λ (v : Stored). length (boundaries_of final c.overwrite-written.new.self.items) < length v.boundaries)
@@ -301,7 +301,7 @@ cleared_at g c ready last told final left =
           (part_fewer c.self.inside.keys c.self.inside.tree c.self.invariant.stored c.args.range.now c.requires.filled
           c.args.version (unwrap_or c.args.at_end (value_at (boundaries_of c.self.inside.keys c.self.inside.tree.items) c.args.range.now.end))
           c.unwrap-begin_key.result c.unwrap-end_key.result c.place-2.new.self ready
-          last (map item_of c.overwrite-written.new.taken.items) c.overwrite-written.new.self told final left);
+          last (map item_of c.overwrite-written.new.taken.items) c.overwrite-written.new.self answered final left);
       none_used = λ size. subst (λ (v : Stored). spare_in v size ≤ spare_of final size) c.self.view_is
           (omega (arith, left.spare size));
     }
@@ -316,7 +316,7 @@ run_is_live g c ready =
     c.args.version (unwrap_or c.args.at_end (value_at (boundaries_of c.self.inside.keys c.self.inside.tree.items) c.args.range.now.end))
     c.unwrap-begin_key.result c.unwrap-end_key.result c.place-2.new.self ready
     (record { key = c.unwrap-begin_key.result; version = c.args.version }) c.args.at_end c.overwrite-written.result
-    (map item_of c.overwrite-written.new.taken.items) c.overwrite-written.new.self (told g c)
+    (map item_of c.overwrite-written.new.taken.items) c.overwrite-written.new.self (answered g c)
 
 run_is_distinct : (g : given.Over) (c : After-overwrite-written g)
     → ArePlaced c.self.inside.keys c.place-2.new.self []
@@ -328,7 +328,7 @@ run_is_distinct g c ready =
     c.args.version (unwrap_or c.args.at_end (value_at (boundaries_of c.self.inside.keys c.self.inside.tree.items) c.args.range.now.end))
     c.unwrap-begin_key.result c.unwrap-end_key.result c.place-2.new.self ready
     (record { key = c.unwrap-begin_key.result; version = c.args.version }) c.args.at_end c.overwrite-written.result
-    (map item_of c.overwrite-written.new.taken.items) c.overwrite-written.new.self (told g c)
+    (map item_of c.overwrite-written.new.taken.items) c.overwrite-written.new.self (answered g c)
 
 pub release_run-requires : goal.release_run-requires
 release_run-requires g c =
@@ -377,8 +377,8 @@ release-requires g c =
     let t = goal.at.release-requires g c in
     let run = t.After-release_run in
     let here = ready g t.After-item in
-    let tell = told g t.After-overwrite-written in
-    let left = left_at g run here tell in
+    let determine = answered g t.After-overwrite-written in
+    let left = left_at g run here determine in
     let first = at_begin c.args.range.now c.args.version (end_version g t.After-item) c.unwrap-begin_key.result in
     let end : Placed = record { slot = c.unwrap-end_key.result; key = c.args.range.now.end; version = end_version g t.After-item } in
     let Live = λ (p : Placed). IsLive c.release_run.new.keys p.slot in
@@ -389,83 +389,83 @@ invariant_of-self g c =
     let t = goal.at.invariant_of-self g c in
     let run = t.After-release_run in
     let here = ready g t.After-item in
-    let tell = told g t.After-overwrite-written in
-    let left = left_at g run here tell in
+    let determine = answered g t.After-overwrite-written in
+    let left = left_at g run here determine in
     let e = c.release.ensures in
-    let whole = written_at g run here c.in-Whole.ended (subst (IsTold g run) c.in-Whole.is tell) c.release.new.self
-    (end_released g run left c.in-Whole.ended c.if-ended.true c.release.new.self e.released e.others e.spare e.other_sizes) in
-    whole.indexed
+    let entire = written_at g run here c.in-Entirely.ended (subst (IsAnswer g run) c.in-Entirely.is determine) c.release.new.self
+    (end_released g run left c.in-Entirely.ended c.if-ended.true c.release.new.self e.released e.others e.spare e.other_sizes) in
+    entire.indexed
 
 pub invariant_of-self-else-ended : goal.invariant_of-self-else-ended
 invariant_of-self-else-ended g c =
     let t = goal.at.invariant_of-self-else-ended g c in
     let run = t.After-release_run in
     let here = ready g t.After-item in
-    let tell = told g t.After-overwrite-written in
-    let left = left_at g run here tell in
+    let determine = answered g t.After-overwrite-written in
+    let left = left_at g run here determine in
     let left_all = subst (λ b. IsLeft g run c.release_run.new.keys (both c.args.range.now c.args.version
     (end_version g t.After-item) c.unwrap-begin_key.result (unless_ended b c.unwrap-end_key.result))) (sym c.if-ended.false) left in
-    let whole = written_at g run here c.in-Whole.ended (subst (IsTold g run) c.in-Whole.is tell) c.release_run.new.keys
+    let entire = written_at g run here c.in-Entirely.ended (subst (IsAnswer g run) c.in-Entirely.is determine) c.release_run.new.keys
     left_all in
-    whole.indexed
+    entire.indexed
 
 pub returns-then-ended-clause-written : goal.returns-then-ended-clause-written
 returns-then-ended-clause-written g c =
     let t = goal.at.returns-then-ended-clause-written g c in
     let run = t.After-release_run in
     let here = ready g t.After-item in
-    let tell = told g t.After-overwrite-written in
-    let left = left_at g run here tell in
+    let determine = answered g t.After-overwrite-written in
+    let left = left_at g run here determine in
     let e = c.release.ensures in
-    let whole = written_at g run here c.in-Whole.ended (subst (IsTold g run) c.in-Whole.is tell) c.release.new.self
-    (end_released g run left c.in-Whole.ended c.if-ended.true c.release.new.self e.released e.others e.spare e.other_sizes) in
-    λ _. whole.boundaries
+    let entire = written_at g run here c.in-Entirely.ended (subst (IsAnswer g run) c.in-Entirely.is determine) c.release.new.self
+    (end_released g run left c.in-Entirely.ended c.if-ended.true c.release.new.self e.released e.others e.spare e.other_sizes) in
+    λ _. entire.boundaries
 
 pub returns-then-ended-clause-used : goal.returns-then-ended-clause-used
 returns-then-ended-clause-used g c =
     let t = goal.at.returns-then-ended-clause-used g c in
     let run = t.After-release_run in
     let here = ready g t.After-item in
-    let tell = told g t.After-overwrite-written in
-    let left = left_at g run here tell in
+    let determine = answered g t.After-overwrite-written in
+    let left = left_at g run here determine in
     let e = c.release.ensures in
-    let whole = written_at g run here c.in-Whole.ended (subst (IsTold g run) c.in-Whole.is tell) c.release.new.self
-    (end_released g run left c.in-Whole.ended c.if-ended.true c.release.new.self e.released e.others e.spare e.other_sizes) in
-    λ _. whole.used
+    let entire = written_at g run here c.in-Entirely.ended (subst (IsAnswer g run) c.in-Entirely.is determine) c.release.new.self
+    (end_released g run left c.in-Entirely.ended c.if-ended.true c.release.new.self e.released e.others e.spare e.other_sizes) in
+    λ _. entire.used
 
 pub returns-else-ended-clause-written : goal.returns-else-ended-clause-written
 returns-else-ended-clause-written g c =
     let t = goal.at.returns-else-ended-clause-written g c in
     let run = t.After-release_run in
     let here = ready g t.After-item in
-    let tell = told g t.After-overwrite-written in
-    let left = left_at g run here tell in
+    let determine = answered g t.After-overwrite-written in
+    let left = left_at g run here determine in
     let left_all = subst (λ b. IsLeft g run c.release_run.new.keys (both c.args.range.now c.args.version
     (end_version g t.After-item) c.unwrap-begin_key.result (unless_ended b c.unwrap-end_key.result))) (sym c.if-ended.false) left in
-    let whole = written_at g run here c.in-Whole.ended (subst (IsTold g run) c.in-Whole.is tell) c.release_run.new.keys
+    let entire = written_at g run here c.in-Entirely.ended (subst (IsAnswer g run) c.in-Entirely.is determine) c.release_run.new.keys
     left_all in
-    λ _. whole.boundaries
+    λ _. entire.boundaries
 
 pub returns-else-ended-clause-used : goal.returns-else-ended-clause-used
 returns-else-ended-clause-used g c =
     let t = goal.at.returns-else-ended-clause-used g c in
     let run = t.After-release_run in
     let here = ready g t.After-item in
-    let tell = told g t.After-overwrite-written in
-    let left = left_at g run here tell in
+    let determine = answered g t.After-overwrite-written in
+    let left = left_at g run here determine in
     let left_all = subst (λ b. IsLeft g run c.release_run.new.keys (both c.args.range.now c.args.version
     (end_version g t.After-item) c.unwrap-begin_key.result (unless_ended b c.unwrap-end_key.result))) (sym c.if-ended.false) left in
-    let whole = written_at g run here c.in-Whole.ended (subst (IsTold g run) c.in-Whole.is tell) c.release_run.new.keys
+    let entire = written_at g run here c.in-Entirely.ended (subst (IsAnswer g run) c.in-Entirely.is determine) c.release_run.new.keys
     left_all in
-    λ _. whole.used
+    λ _. entire.used
 
 pub release-requires-in-Partly : goal.release-requires-in-Partly
 release-requires-in-Partly g c =
     let t = goal.at.release-requires-in-Partly g c in
     let run = t.After-release_run in
     let here = ready g t.After-item in
-    let tell = told g t.After-overwrite-written in
-    let left = left_at g run here tell in
+    let determine = answered g t.After-overwrite-written in
+    let left = left_at g run here determine in
     let first = at_begin c.args.range.now c.args.version (end_version g t.After-item) c.unwrap-begin_key.result in
     let end : Placed = record { slot = c.unwrap-end_key.result; key = c.args.range.now.end; version = end_version g t.After-item } in
     let run_slots = slots_of (map item_of c.overwrite-written.new.taken.items) in
@@ -477,8 +477,8 @@ release-requires-in-Partly-2 g c =
     let t = goal.at.release-requires-in-Partly-2 g c in
     let run = t.After-release_run in
     let here = ready g t.After-item in
-    let tell = told g t.After-overwrite-written in
-    let left = left_at g run here tell in
+    let determine = answered g t.After-overwrite-written in
+    let left = left_at g run here determine in
     let first = at_begin c.args.range.now c.args.version (end_version g t.After-item) c.unwrap-begin_key.result in
     let end : Placed = record { slot = c.unwrap-end_key.result; key = c.args.range.now.end; version = end_version g t.After-item } in
     let run_slots = slots_of (map item_of c.overwrite-written.new.taken.items) in
@@ -494,8 +494,8 @@ invariant_of-self-in-Partly g c =
     let t = goal.at.invariant_of-self-in-Partly g c in
     let run = t.After-release_run in
     let here = ready g t.After-item in
-    let tell = told g t.After-overwrite-written in
-    let left = left_at g run here tell in
+    let determine = answered g t.After-overwrite-written in
+    let left = left_at g run here determine in
     let first = at_begin c.args.range.now c.args.version (end_version g t.After-item) c.unwrap-begin_key.result in
     let end : Placed = record { slot = c.unwrap-end_key.result; key = c.args.range.now.end; version = end_version g t.After-item } in
     let run_slots = slots_of (map item_of c.overwrite-written.new.taken.items) in
@@ -507,7 +507,7 @@ invariant_of-self-in-Partly g c =
     let final = c.release-in-Partly-2.new.self in
     let none_left = first_released c.self.inside.keys mid final run_slots end [] end_left f.released f.others f.spare
     f.other_sizes in
-    let part = cleared_at g run here c.in-Partly.last (subst (IsTold g run) c.in-Partly.is tell) final none_left in
+    let part = cleared_at g run here c.in-Partly.last (subst (IsAnswer g run) c.in-Partly.is determine) final none_left in
     part.indexed
 
 pub returns-in-Partly-clause-cleared : goal.returns-in-Partly-clause-cleared
@@ -515,8 +515,8 @@ returns-in-Partly-clause-cleared g c =
     let t = goal.at.returns-in-Partly-clause-cleared g c in
     let run = t.After-release_run in
     let here = ready g t.After-item in
-    let tell = told g t.After-overwrite-written in
-    let left = left_at g run here tell in
+    let determine = answered g t.After-overwrite-written in
+    let left = left_at g run here determine in
     let first = at_begin c.args.range.now c.args.version (end_version g t.After-item) c.unwrap-begin_key.result in
     let end : Placed = record { slot = c.unwrap-end_key.result; key = c.args.range.now.end; version = end_version g t.After-item } in
     let run_slots = slots_of (map item_of c.overwrite-written.new.taken.items) in
@@ -528,7 +528,7 @@ returns-in-Partly-clause-cleared g c =
     let final = c.release-in-Partly-2.new.self in
     let none_left = first_released c.self.inside.keys mid final run_slots end [] end_left f.released f.others f.spare
     f.other_sizes in
-    let part = cleared_at g run here c.in-Partly.last (subst (IsTold g run) c.in-Partly.is tell) final none_left in
+    let part = cleared_at g run here c.in-Partly.last (subst (IsAnswer g run) c.in-Partly.is determine) final none_left in
     let fits : SFits w64 c.unwrap_or.result = search rules in
     let last : SFits w64 c.in-Partly.last = search rules in
     let value : to_z w64 (of_z w64 c.unwrap_or.result) ≡ unwrap_or c.args.at_end c.in-Partly.last =
@@ -542,8 +542,8 @@ returns-in-Partly-clause-boundaries g c =
     let t = goal.at.returns-in-Partly-clause-boundaries g c in
     let run = t.After-release_run in
     let here = ready g t.After-item in
-    let tell = told g t.After-overwrite-written in
-    let left = left_at g run here tell in
+    let determine = answered g t.After-overwrite-written in
+    let left = left_at g run here determine in
     let first = at_begin c.args.range.now c.args.version (end_version g t.After-item) c.unwrap-begin_key.result in
     let end : Placed = record { slot = c.unwrap-end_key.result; key = c.args.range.now.end; version = end_version g t.After-item } in
     let run_slots = slots_of (map item_of c.overwrite-written.new.taken.items) in
@@ -555,7 +555,7 @@ returns-in-Partly-clause-boundaries g c =
     let final = c.release-in-Partly-2.new.self in
     let none_left = first_released c.self.inside.keys mid final run_slots end [] end_left f.released f.others f.spare
     f.other_sizes in
-    let part = cleared_at g run here c.in-Partly.last (subst (IsTold g run) c.in-Partly.is tell) final none_left in
+    let part = cleared_at g run here c.in-Partly.last (subst (IsAnswer g run) c.in-Partly.is determine) final none_left in
     part.boundaries
 
 pub returns-in-Partly-clause-fewer : goal.returns-in-Partly-clause-fewer
@@ -563,8 +563,8 @@ returns-in-Partly-clause-fewer g c =
     let t = goal.at.returns-in-Partly-clause-fewer g c in
     let run = t.After-release_run in
     let here = ready g t.After-item in
-    let tell = told g t.After-overwrite-written in
-    let left = left_at g run here tell in
+    let determine = answered g t.After-overwrite-written in
+    let left = left_at g run here determine in
     let first = at_begin c.args.range.now c.args.version (end_version g t.After-item) c.unwrap-begin_key.result in
     let end : Placed = record { slot = c.unwrap-end_key.result; key = c.args.range.now.end; version = end_version g t.After-item } in
     let run_slots = slots_of (map item_of c.overwrite-written.new.taken.items) in
@@ -576,7 +576,7 @@ returns-in-Partly-clause-fewer g c =
     let final = c.release-in-Partly-2.new.self in
     let none_left = first_released c.self.inside.keys mid final run_slots end [] end_left f.released f.others f.spare
     f.other_sizes in
-    let part = cleared_at g run here c.in-Partly.last (subst (IsTold g run) c.in-Partly.is tell) final none_left in
+    let part = cleared_at g run here c.in-Partly.last (subst (IsAnswer g run) c.in-Partly.is determine) final none_left in
     part.fewer
 
 pub returns-in-Partly-clause-none_used : goal.returns-in-Partly-clause-none_used
@@ -584,8 +584,8 @@ returns-in-Partly-clause-none_used g c =
     let t = goal.at.returns-in-Partly-clause-none_used g c in
     let run = t.After-release_run in
     let here = ready g t.After-item in
-    let tell = told g t.After-overwrite-written in
-    let left = left_at g run here tell in
+    let determine = answered g t.After-overwrite-written in
+    let left = left_at g run here determine in
     let first = at_begin c.args.range.now c.args.version (end_version g t.After-item) c.unwrap-begin_key.result in
     let end : Placed = record { slot = c.unwrap-end_key.result; key = c.args.range.now.end; version = end_version g t.After-item } in
     let run_slots = slots_of (map item_of c.overwrite-written.new.taken.items) in
@@ -597,5 +597,5 @@ returns-in-Partly-clause-none_used g c =
     let final = c.release-in-Partly-2.new.self in
     let none_left = first_released c.self.inside.keys mid final run_slots end [] end_left f.released f.others f.spare
     f.other_sizes in
-    let part = cleared_at g run here c.in-Partly.last (subst (IsTold g run) c.in-Partly.is tell) final none_left in
+    let part = cleared_at g run here c.in-Partly.last (subst (IsAnswer g run) c.in-Partly.is determine) final none_left in
     part.none_used

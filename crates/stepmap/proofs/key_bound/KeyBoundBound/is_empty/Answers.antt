@@ -7,9 +7,9 @@ pub returns : goal.returns
 returns c = record {
   empty = λ text is.
       let same : c.bytes_of.result.now ≡ text = c.bytes_of.ensures.bytes ∙ ap (λ o. unwrap_or o []) is in
-      let told : c.is_empty.result ≡ (length text == 0) =
+      let answered : c.is_empty.result ≡ (length text == 0) =
       c.is_empty.ensures ∙ ap (λ (t : List ℕ). length t == 0) same in (
-        λ empty. nil_from_length text (eqb-true (length text) 0 (sym told ∙ empty)),
-        λ none. told ∙ eq-eqb (length text) 0 (ap length none),
+        λ empty. nil_from_length text (eqb-true (length text) 0 (sym answered ∙ empty)),
+        λ none. answered ∙ eq-eqb (length text) 0 (ap length none),
       );
 }

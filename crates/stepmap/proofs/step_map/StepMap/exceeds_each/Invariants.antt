@@ -7,7 +7,7 @@ use Rattle.stepmap.proofs.step_map.StepMap.exceeds_each.Given as goal
 abbrev pub invariant-loop-answers : goal.invariant-loop-answers
 invariant-loop-answers g l = record {
   within : length l.answers.items ≤ length (g.L.QueryList.queries l.queries);
-  told : AllZip (λ q above. IsTrue above ↔ IsAbove l.self q.0 q.1)
+  answered : AllZip (λ q above. IsTrue above ↔ IsAbove l.self q.0 q.1)
       (take (length l.answers.items) (g.L.QueryList.queries l.queries)) l.answers.items;
 }
 

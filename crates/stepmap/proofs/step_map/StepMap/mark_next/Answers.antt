@@ -75,8 +75,8 @@ loop-bound-preserved g c =
       | then-is_open w ↦ record {
         count = count;
         places = omega (arith, ap (λ v. length v.items) w.places-is, w.push.ensures.len, c.loop-bound.invariant.places);
-        marked = λ old told is are.
-            let before = c.loop-bound.invariant.marked old told is are in
+        marked = λ old answered is are.
+            let before = c.loop-bound.invariant.marked old answered is are in
             let n = length before.0 in
             let place : c.len-place.result ≡ length old + n =
             omega (arith, c.len-place.ensures, c.loop-bound.marks.ok.0, ap length before.1, length-append old before.0) in
@@ -94,8 +94,8 @@ loop-bound-preserved g c =
       | else-is_open w ↦ record {
         count = count;
         places = omega (arith, ap (λ v. length v.items) w.places-is, c.loop-bound.invariant.places);
-        marked = λ old told is are.
-            let before = c.loop-bound.invariant.marked old told is are in
+        marked = λ old answered is are.
+            let before = c.loop-bound.invariant.marked old answered is are in
             let n = length before.0 in
             let place : c.len-place.result ≡ length old + n =
             omega (arith, c.len-place.ensures, c.loop-bound.marks.ok.0, ap length before.1, length-append old before.0) in

@@ -6,8 +6,8 @@ abbrev pub invariant-loop-bound : goal.invariant-loop-bound
 invariant-loop-bound g l = record {
   count : length l.marks.items ≡ length l.fn.marks.items + l.bound-index;
   places : length l.places.items ≤ length l.fn.places.items + l.bound-index;
-  marked : (old told : List Bool) → l.fn.marks.items ≡ old ++ told
-      → AreMarked l.self (g.L.QueryList.queries l.queries) (length old) told l.fn.places.items
+  marked : (old answered : List Bool) → l.fn.marks.items ≡ old ++ answered
+      → AreMarked l.self (g.L.QueryList.queries l.queries) (length old) answered l.fn.places.items
       → (more : List Bool) × (l.marks.items ≡ old ++ more)
       × AreMarked l.self (g.L.QueryList.queries l.queries) (length old) more l.places.items;
 }

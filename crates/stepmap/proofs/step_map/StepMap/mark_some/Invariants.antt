@@ -4,8 +4,8 @@ use Rattle.stepmap.proofs.step_map.StepMap.mark_some.Given as goal
 
 abbrev pub invariant-loop-places : goal.invariant-loop-places
 invariant-loop-places g l =
-    (told : List Bool) × (l.marks.items ≡ l.fn.marks.items ++ told)
-    × AreMarked l.self (g.L.QueryList.queries l.queries) (length l.fn.marks.items) told l.places.items
+    (answered : List Bool) × (l.marks.items ≡ l.fn.marks.items ++ answered)
+    × AreMarked l.self (g.L.QueryList.queries l.queries) (length l.fn.marks.items) answered l.places.items
 
 abbrev pub decreases-loop-places : goal.decreases-loop-places
 decreases-loop-places g l = l.count - length l.marks.items

@@ -27,7 +27,7 @@ use Rattle.stepmap.specs.Sweeping.{cursor_of, round_edge, rest, after_sweep, pas
 use Rattle.stepmap.specs.Stored.{first_key}
 use Rattle.stepmap.specs.Kept.{round_of, steps_of, IsKept}
 use Rattle.stepmap.proofs.Changes.{sweep_keeps}
-use Rattle.stepmap.proofs.FilterTelling.{tells_same}
+use Rattle.stepmap.proofs.FilterBounds.{determines_same}
 use Rattle.stepmap.proofs.Passing.{
   IsPass,
   ended_map,
@@ -108,7 +108,7 @@ stays c round at is =
     let keeps = sweep_keeps c.args.count (old c) c.self.invariant.steps _ is in
     record {
       steps = keeps.steps;
-      tells = tells_same c.self.inside.filter (old c) (new_map c round) c.self.invariant.tells refl keeps.same;
+      determines = determines_same c.self.inside.filter (old c) (new_map c round) c.self.invariant.determines refl keeps.same;
       boundaries = omega (arith, c.self.invariant.boundaries, keeps.no_more, c.sweep.ensures.room);
       keys = λ size lt. omega (arith, c.self.invariant.keys size lt, c.sweep.ensures.spare size);
       any_key = omega (arith, c.self.invariant.any_key, c.sweep.ensures.capacity);

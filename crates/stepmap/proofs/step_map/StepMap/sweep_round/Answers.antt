@@ -1,7 +1,7 @@
 use Rattle.std.proofs.Common.{◌≡◌, ℕ, length, ◌∙◌, ap, subst, arith}
 use Rattle.stepmap.specs.StepMap.{Steps, AreSteps}
 use Rattle.stepmap.specs.Sweeping.{at_front, after_sweep}
-use Rattle.stepmap.proofs.Rounds.{whole_round}
+use Rattle.stepmap.proofs.Rounds.{entire_round}
 use Rattle.stepmap.proofs.step_map.StepMap.sweep_round.Goals as goal
 
 pub returns : goal.returns
@@ -14,5 +14,5 @@ returns c =
     let swept = c.sweep.ensures.map ∙ ap (after_sweep c.len-count.result) c.end_round.ensures.map in
     record {
       map = swept ∙ ap (λ (n : ℕ). after_sweep n (at_front old)) count
-          ∙ whole_round (at_front old) (subst AreSteps front c.self.invariant.steps);
+          ∙ entire_round (at_front old) (subst AreSteps front c.self.invariant.steps);
     }

@@ -5,12 +5,12 @@ use mir.Syntax.{w64}
 use Rattle.stepmap.specs.Boundary.{Boundary}
 use Rattle.stepmap.specs.StepMap.{Steps, AreSteps, lengths}
 use Rattle.stepmap.specs.Writing.{written, after_write}
-use Rattle.stepmap.specs.Filtering.{FilterTells}
+use Rattle.stepmap.specs.Filtering.{BoundsSteps}
 use Rattle.stepmap.specs.Kept.{steps_of}
 use Rattle.stepmap.specs.Stored.{spare_in, each_length}
 use Rattle.arena.specs.Arena.{wanted_of}
 use Rattle.stepmap.proofs.Changes.{WriteKeeps, write_keeps}
-use Rattle.stepmap.proofs.FilterTelling.{tells_written}
+use Rattle.stepmap.proofs.FilterBounds.{determines_written}
 use Rattle.stepmap.proofs.NextReady.{some_ready, next_fits, others_fit}
 use Rattle.stepmap.proofs.step_map.StepMap.write.Goals as goal
 use Rattle.stepmap.proofs.step_map.StepMap.write.Goals.{After-pop_front, After-write}
@@ -79,8 +79,8 @@ invariant_of-self c =
     ) in
     record {
       steps = keeps.steps;
-      tells = tells_written c.self.inside.filter c.args.self.now (new_map at.After-write)
-          (subst (FilterTells c.self.inside.filter) c.self.view_is c.self.invariant.tells) c.note.new.filter c.args.range
+      determines = determines_written c.self.inside.filter c.args.self.now (new_map at.After-write)
+          (subst (BoundsSteps c.self.inside.filter) c.self.view_is c.self.invariant.determines) c.note.new.filter c.args.range
           c.args.version (ap (λ (m : Steps). m.edge) c.self.view_is) keeps.on_range keeps.elsewhere
           (λ key holds. omega (arith, ints, c.note.ensures.on_range key holds)) c.note.ensures.raised;
       boundaries =

@@ -1,6 +1,6 @@
 use Rattle.std.proofs.Common.{rules, Bool, false, IsTrue, ◌∷◌, ℕ, ◌≡◌, ◌≢◌, ◌≤◌, ◌<◌, ◌+◌, ◌-◌, ◌∙◌, ◌++◌, ap, sym, refl, List, [], length, filter, take, drop, map, arith, w64}
 use Rattle.std.proofs.lemmas.Int.{to_z-of_z}
-use Rattle.tree.proofs.Words.{with_header, Entry, Item, item_of, entries_of, entries_at, GivesUnexpired, unexpired, expired}
+use Rattle.tree.proofs.Words.{with_header, NodeEntry, Item, item_of, entries_of, entries_at, GivesUnexpired, unexpired, expired}
 use Rattle.tree.proofs.ChangedLeaf.{leaf_can_step, leaf_changed, unchanged}
 use Rattle.tree.proofs.Headed.{headed_at}
 use Rattle.tree.proofs.LastRun.{leaf_unexpired, untouched}
@@ -28,9 +28,9 @@ returns-then-below-eq0-clause-items g c =
     )
 
 -- Where it isn't told that some item goes, none does.
-none_goes : (out : List Item) (told : Bool) → (out ≢ [] → IsTrue told) → told ≡ false → out ≡ []
-none_goes [] told some said = refl
-none_goes (x ∷ out) told some said = absurd (let t = some (λ e. absurd (cc)) in cc)
+none_goes : (out : List Item) (answered : Bool) → (out ≢ [] → IsTrue answered) → answered ≡ false → out ≡ []
+none_goes [] answered some said = refl
+none_goes (x ∷ out) answered some said = absurd (let t = some (λ e. absurd (cc)) in cc)
 
 -- where the run stands that is looked at
 module _ (g : given.Over) (c : After-has_expired g) where
@@ -38,7 +38,7 @@ module _ (g : given.Over) (c : After-has_expired g) where
   open c use {header_ref-leaf.{result.{now as leaf}, ensures.{header}}}
   open c use {lower_bound-below.{result as below, ensures.{count as counts}}}
 
-  abbrev es : List Entry
+  abbrev es : List NodeEntry
   es = entries_of leaf
 
   abbrev begin : ℕ
@@ -64,17 +64,17 @@ module _ (g : given.Over) (c : After-has_expired g) where
       → now ≡ map item_of (take begin es) ++ (unexpired edge before looked ++ map item_of (drop end es))
       → out ≡ expired edge before looked
       → GivesUnexpired (g.P.Bound.below bound.now) count edge before c.look_at-self.result out
-      place.behind (map item_of (entries_at nodes slot)) now
+      place.following (map item_of (entries_at nodes slot)) now
   swept now out now_is out_is =
       let p = g.P.Bound.below bound.now in
       let partitioned = (leaf_can_step c.requires.can_change header).can_find.partitioned in
-      let told = c.look_at-self.ensures in
-      let first_is : begin + 1 ≡ length (filter (λ (e : Entry). p e.key) es) = omega (arith, counts, c.if-below-eq0.false) in
+      let answered = c.look_at-self.ensures in
+      let first_is : begin + 1 ≡ length (filter (λ (e : NodeEntry). p e.key) es) = omega (arith, counts, c.if-below-eq0.false) in
       rw read (
         λ none. absurd (some_item p es below (omega (arith, c.if-below-eq0.false)) counts.count_is none),
         λ _. leaf_unexpired es begin end some_looked within p partitioned first_is _ edge before c.look_at-self.result out
-            place.behind now (omega (arith, min.ensures)) told.looked_at (rw c.entries.ensures.entries at told.last) now_is
-            out_is (rw c.entries.ensures.entries at told.next),
+            place.following now (omega (arith, min.ensures)) answered.looked_at (rw c.entries.ensures.entries at answered.last) now_is
+            out_is (rw c.entries.ensures.entries at answered.next),
       )
 
 pub returns-then-not-has_expired-clause-changed : goal.returns-then-not-has_expired-clause-changed

@@ -32,10 +32,10 @@ returns-clause-headed g c =
     let size = keys_count node.entries node.len (omega (arith, inv.len, ap length inv.entries)) in
     let end : c.loop-index.index ≡ node.len = omega (arith, inv.len) in
     record {
-      beginning = begin.0;
+      prefix = begin.0;
       prefix_len = begin.1 ∙ sym inv.prefix_len;
       begins = rw (← inv.len, ← inv.entries) at begin.2;
       heads = cc (take_all c.loop-index.index (keys_of (entries_of node)) (omega (arith, size, end)), inv.heads);
     }
   where
-    open c use {loop-index.{self as node, invariant as inv}, beginning-self.{ensures.{begin}}}
+    open c use {loop-index.{self as node, invariant as inv}, prefix-self.{ensures.{begin}}}

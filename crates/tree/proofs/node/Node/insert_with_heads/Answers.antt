@@ -1,6 +1,6 @@
 use Rattle.std.proofs.Common.{rules, ◌≡◌, ◌∙◌, ℕ, List, Some, slice_get, sym, eqb-true}
 use Rattle.std.proofs.lemmas.Option.{slice_get_within, get_or_from_slice_get}
-use Rattle.tree.proofs.Words.{Entry, HasPrefix, entries_of, key_heads_of, keys_of}
+use Rattle.tree.proofs.Words.{NodeEntry, HasPrefix, entries_of, key_heads_of, keys_of}
 use Rattle.tree.proofs.HeadChanges.{headed_joined, keys_there, known_spliced, map_spliced}
 use Rattle.tree.proofs.Headed.{all_known}
 use Rattle.tree.proofs.node.Node.insert_with_heads.Goals as goal
@@ -10,7 +10,7 @@ compute_heads-requires g c =
     let known = known_spliced _ (key_heads_of one) both.left (keys_of (entries_of other)) _ at at
     (all_known _ (key_heads_of other) both.right) in (
       search rules,
-      known (map_spliced (λ (e : Entry). e.key) (entries_of one) (entries_of other) _ at at
+      known (map_spliced (λ (e : NodeEntry). e.key) (entries_of one) (entries_of other) _ at at
           (rw c.entries-2.ensures.entries at c.splice.ensures.entries)),
     )
   where
@@ -28,7 +28,7 @@ lengthen_prefix-requires g c =
       | goal.else-self-other w ↦
           absurd (w.if-self-other.false (eqb-true one.prefix_len other.prefix_len (sym w.have_prefix-is ∙ c.if-not-have_prefix.false)))
     ] in
-    let keys = map_spliced (λ (e : Entry). e.key) (entries_of one) (entries_of other) _ at at
+    let keys = map_spliced (λ (e : NodeEntry). e.key) (entries_of one) (entries_of other) _ at at
     (rw c.entries-2.ensures.entries at c.splice.ensures.entries) in
     let joined = headed_joined bytes (key_heads_of one) (key_heads_of other) c.requires.headed.left c.requires.headed.right first.key
     have_prefix.0 (rw c.entries.ensures.entries at there) have_prefix.1 _ at keys heads.prefix_len

@@ -8,9 +8,9 @@ lower_bound_by_keys-requires g c = (search rules, (c.requires.can_find, c.requir
 pub lower_bound_from-requires : goal.lower_bound_from-requires
 lower_bound_from-requires g c =
     let is = rw c.in-Some.is at c.requires.head in
-    let within = filled_within _ node can.headed (omega arith) c.heads_below-below.result tells.within tells.filled in
+    let within = filled_within _ node can.headed (omega arith) c.heads_below-below.result describes.within describes.filled in
     let least = few_below _ node can.headed _ _ (g.met.P.Bound.order c.args.bound.now) c.in-Some.head is can.partitioned
-    c.heads_below-below.result within tells.below in
+    c.heads_below-below.result within describes.below in
     (search rules, (can, (is, least)))
   where
-    open c use {args.{self.{now as node}}, requires.{can_find as can}, heads_below-below.{ensures as tells}}
+    open c use {args.{self.{now as node}}, requires.{can_find as can}, heads_below-below.{ensures as describes}}

@@ -1,5 +1,5 @@
 use Rattle.std.proofs.Common.{◌≡◌, ◌≤◌, ℕ, Bool, ◌+◌, ◌-◌, List, ap, sym, subst, filter, length, take, drop, arith}
-use Rattle.tree.proofs.Words.{Entry, IsLowerBound, entries_of}
+use Rattle.tree.proofs.Words.{NodeEntry, IsLowerBound, entries_of}
 use Rattle.tree.proofs.callers.Partitions.{IsPartitioned-range, length-items_below}
 use Rattle.tree.proofs.HeadAt.{few_pass, many_pass}
 use Rattle.tree.proofs.HeadCounts.{count_range}
@@ -14,10 +14,10 @@ lower_bound-requires g c =
     record { partitioned = IsPartitioned-range _ c.entries.result.now range.0 (range.1 - range.0) partitioned }
 
 module _ (g : given.Over) (c : Joined-head g) where
-  abbrev es : List Entry
+  abbrev es : List NodeEntry
   es = entries_of c.args.self.now
 
-  abbrev passes : Entry → Bool
+  abbrev passes : NodeEntry → Bool
   passes e = g.P.Bound.below c.args.bound.now e.key
 
   -- A part lies within the entries. Those that pass are the first ones and those of this part.

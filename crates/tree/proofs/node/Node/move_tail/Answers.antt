@@ -8,16 +8,16 @@ use Rattle.tree.proofs.node.Node.move_tail.Goals.{After-move_within-2}
 
 -- the first elements of a list after what was moved to there
 same : {X : Type 0} (g : Over) (c : After-move_within-2 g) (xs ys : List X) → length xs ≡ g.row.N
-    → ys ≡ copy_within xs c.args.from (c.args.from + c.whole_turns-moved.result) c.args.to
+    → ys ≡ copy_within xs c.args.from (c.args.from + c.multiple_of_four-moved.result) c.args.to
     → take (c.args.to + (c.args.self.now.len - c.args.from)) ys
     ≡ take (c.args.to + (c.args.self.now.len - c.args.from)) (copy_within xs c.args.from c.args.self.now.len c.args.to)
 same g c xs ys size moved =
     let node = c.args.self.now in
     let len = length-take-le node.len node.entries (omega arith) in
     let within : c.args.from ≤ node.len = omega (arith, c.requires.within, len) in
-    let turns = c.whole_turns-moved.ensures in
+    let turns = c.multiple_of_four-moved.ensures in
     ap (take (c.args.to + (node.len - c.args.from))) moved
-    ∙ more_moved xs c.args.from node.len c.whole_turns-moved.result c.args.to within turns.least
+    ∙ more_moved xs c.args.from node.len c.multiple_of_four-moved.result c.args.to within turns.least
     (omega (arith, within, turns.most, turns.least, size, c.max.ensures, c.requires.room, len))
     (omega (arith, within, turns.most, turns.least, size, c.max.ensures, c.requires.room, len))
 

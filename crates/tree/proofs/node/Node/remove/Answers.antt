@@ -1,6 +1,6 @@
 use Rattle.std.proofs.Common.{arith, refl, ◌≡◌, ◌∙◌, ◌≤◌, ◌-◌, [], length-take-le}
 use Rattle.std.specs.List.{copy_within}
-use Rattle.tree.proofs.Words.{entries_of, key_heads_of, Entry}
+use Rattle.tree.proofs.Words.{entries_of, key_heads_of, NodeEntry}
 use Rattle.tree.proofs.Entries.{take-removed}
 use Rattle.tree.proofs.HeadChanges.{headed_removed, map_spliced}
 use Rattle.tree.proofs.node.Node.remove.Goals as goal
@@ -17,7 +17,7 @@ returns g c =
     record {
       entries = entries_are;
       headed = λ bytes h. headed_removed bytes (key_heads_of node) h _ from to
-          (map_spliced (λ (e : Entry). e.key) (entries_of node) [] _ from to entries_are) move.prefix_len (cc (move.heads));
+          (map_spliced (λ (e : NodeEntry). e.key) (entries_of node) [] _ from to entries_are) move.prefix_len (cc (move.heads));
     }
   where
     open c use {args.{self.{now as node}, from, to}, move_tail.{ensures as move}}

@@ -1,6 +1,6 @@
 use Rattle.std.proofs.Common.{rules, ◌≡◌, ◌≤◌, ◌++◌, ◌∙◌, true, length, take, drop, refl, sym, arith, All}
 use Rattle.std.proofs.lemmas.List.{length-map, map-append}
-use Rattle.tree.proofs.Words.{Entry, AreHeads, IsKnown, KeyBytes, KeyHeads, entries_of, key_heads_of, keys_of}
+use Rattle.tree.proofs.Words.{NodeEntry, AreHeads, IsKnown, KeyBytes, KeyHeads, entries_of, key_heads_of, keys_of}
 use Rattle.tree.proofs.HeadChanges.{headed_apart, headed_spliced, heads_count, known_spliced, map_spliced}
 use Rattle.tree.proofs.callers.Partitions.{All-front, All-back}
 use Rattle.tree.proofs.Splicing.{apart_spliced, apart_prepended}
@@ -49,7 +49,7 @@ module _ (g : given.Over) (c : After-redistribute g) where
   -- the keys of both halves
   keys : left.keys ++ right.keys ≡ take c.args.from node.keys ++ (keys_of c.args.new.now ++ drop c.args.to node.keys)
   keys = sym (map-append _ (entries_of c.redistribute.new.self) (entries_of c.redistribute.new.right))
-      ∙ map_spliced (λ (e : Entry). e.key) (entries_of c.args.self.now) c.args.new.now _ c.args.from c.args.to both.entries
+      ∙ map_spliced (λ (e : NodeEntry). e.key) (entries_of c.args.self.now) c.args.new.now _ c.args.from c.args.to both.entries
 
   -- the heads of both are right where the new keys begin as all others do
   both_headed : c.args.have_prefix ≡ true → AreHeads bytes left × AreHeads bytes right
@@ -59,7 +59,7 @@ module _ (g : given.Over) (c : After-redistribute g) where
       record { keys = left.keys ++ right.keys; prefix_len = node.prefix_len; heads = left.heads ++ right.heads } in
       let headed = headed_spliced bytes node can.headed all (keys_of c.args.new.now) c.args.heads.now c.args.from c.args.to
       can.known (can.beside have_prefix) keys refl both.heads in
-      let size = length-map (entries_of c.redistribute.new.self) (λ (e : Entry). e.key) in
+      let size = length-map (entries_of c.redistribute.new.self) (λ (e : NodeEntry). e.key) in
       let count = c.redistribute.ensures.heads.count ∙ sym size in
       headed_apart bytes all left right headed refl refl count both.prefix_len both.right_prefix_len
 

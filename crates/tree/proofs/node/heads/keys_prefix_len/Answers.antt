@@ -1,7 +1,7 @@
 use Rattle.std.proofs.Common.{◌≡◌, ◌<◌, ℕ, length, get_or, arith}
 use Rattle.std.proofs.Math.Nat.{min-le_left}
 use Rattle.std.proofs.lemmas.List.{get_or-map, length-map, take_all}
-use Rattle.tree.proofs.Words.{Entry, keys_of}
+use Rattle.tree.proofs.Words.{NodeEntry, keys_of}
 use Rattle.tree.proofs.HeadChanges.{begin_of_first, first_empty, first_more}
 use Rattle.tree.proofs.node.heads.keys_prefix_len.Goals as goal
 
@@ -12,7 +12,7 @@ pub loop-entry-preserved : goal.loop-entry-preserved
 loop-entry-preserved g c =
     let bytes = g.P.Bound.bytes c.args.bound.now in
     let keys = keys_of xs in
-    let key : Entry → ℕ = λ x. x.key in
+    let key : NodeEntry → ℕ = λ x. x.key in
     let inside : i < length keys = omega (arith, c.loop-entry-test.true, length-map xs key) in
     let here : e.key ≡ get_or keys i e.key = cc (get_or-map key xs i e e.key c.loop-entry-test.true, c.entry-item.is) in
     elim c.if-not-is_empty.branch [
@@ -37,9 +37,9 @@ returns g c =
     let bytes = g.P.Bound.bytes c.args.bound.now in
     let keys = keys_of c.args.entries.now in
     let count = c.loop-entry.count in
-    let size = length-map c.args.entries.now (λ (x : Entry). x.key) in
-    let whole = take_all c.loop-entry.entry-index keys (omega (arith, size, c.loop-entry-test.false)) in
-    let common = rw whole at c.loop-entry.invariant.common in
+    let size = length-map c.args.entries.now (λ (x : NodeEntry). x.key) in
+    let entire = take_all c.loop-entry.entry-index keys (omega (arith, size, c.loop-entry-test.false)) in
+    let common = rw entire at c.loop-entry.invariant.common in
     record {
       begin = λ text is. begin_of_first bytes c.args.key count keys c.requires.there c.requires.known common text is
           (c.requires.filled text is);

@@ -3,15 +3,15 @@ use Rattle.std.proofs.Common.{map, unwrap_or, ℤ, w64, to_z, of_z, inl, inr, �
 use Rattle.std.proofs.lemmas.Bool.{leb-true, not-false}
 use Rattle.std.proofs.lemmas.Int.{to_z-of_z}
 use Rattle.std.proofs.lemmas.Option.{IfSome_then}
-use Rattle.tree.specs.declared.entry.Entry.{Entry}
+use Rattle.tree.specs.declared.entry.NodeEntry.{NodeEntry}
 use Rattle.tree.specs.declared.walk.RaisedLeaf.{RaisedLeaf}
-use Rattle.tree.specs.declared.walk.Outcome.TheVariants.{Raised, Split}
+use Rattle.tree.specs.declared.walk.LeafOutcome.TheVariants.{Raised, Split}
 use Rattle.tree.specs.Finding.{CanFind}
 use Rattle.tree.specs.Heads.{HasPrefix}
 use Rattle.tree.specs.Item.{Item, item_of}
 use Rattle.tree.specs.Node.{entries_of, key_heads_of}
-use Rattle.tree.specs.Overwrite.{GivesWhole, first_is_below}
-use Rattle.tree.specs.Path.{items_below, behind, first_key}
+use Rattle.tree.specs.Overwrite.{GivesEntire, first_is_below}
+use Rattle.tree.specs.Path.{items_below, following, first_key}
 use Rattle.tree.specs.Subtree.{entries_at}
 use Rattle.tree.specs.Tree.{IsLast, ended_by}
 use Rattle.tree.specs.Walk.{IsRaisedAt}
@@ -19,10 +19,10 @@ use Rattle.tree.proofs.callers.Partitions.{not_both, not_true}
 use Rattle.tree.proofs.ChangedLeaf.{leaf_can_find, leaf_can_step, leaf_changed, leaf_stored}
 use Rattle.tree.proofs.Headed.{headed_at, key_heads_kept}
 use Rattle.tree.proofs.LeafChange.{parted}
-use Rattle.tree.proofs.NearBounds.{common_prefix_near, has_prefix_too, no_more, fewer_alike, same_head}
+use Rattle.tree.proofs.NearBounds.{common_prefix_near, has_prefix_too, no_more, fewer_equal, same_head}
 use Rattle.tree.proofs.Placing.{entries_from_header, put_entries}
-use Rattle.tree.proofs.RunWritten.{taken_out, whole_run}
-use Rattle.tree.proofs.WrittenLeaf.{none_if, some_item, part_partitioned, items_parted, last_version, raised, ended_in_leaf, ended_behind}
+use Rattle.tree.proofs.RunWritten.{taken_out, entire_run}
+use Rattle.tree.proofs.WrittenLeaf.{none_if, some_item, part_partitioned, items_parted, last_version, raised, ended_in_leaf, ended_after}
 use Rattle.tree.proofs.overwrite.OverwritingLeafChange.change.Goals.{After-header_ref-leaf, After-map_or-last, Joined-is_some, Joined-end-len, then-is_some, else-is_some}
 use Rattle.tree.proofs.overwrite.OverwritingLeafChange.change.Goals.{then-end-len, else-end-len, else-begin-eq0-via-then-begin-eq0+else-not-place, then-end-eq0, else-end-eq0, else-begin-eq0-via-else-begin-eq0}
 use Rattle.tree.proofs.overwrite.OverwritingLeafChange.change.Given as given
@@ -51,10 +51,10 @@ lower_bound_with-end-requires g c =
     (omega (arith, c.requires.can_change.changeable.few), record { can_step = known; head = own })
 
 -- The target of the first bound begins as all keys do, where that is told.
-told_alike : (g : given.Over) (c : Joined-is_some g) → c.if-is_some.from_has_prefix ≡ true
+answered_equal : (g : given.Over) (c : Joined-is_some g) → c.if-is_some.from_has_prefix ≡ true
     → HasPrefix (g.P.Bound.bytes c.args.self.now.new.now.from.now) (key_heads_of c.header_ref-leaf.result.now)
     (g.P.Bound.target c.args.self.now.new.now.from.now)
-told_alike g c said =
+answered_equal g c said =
     let new = c.args.self.now.new.now in
     elim c.if-is_some.branch [
       | then-is_some w ↦
@@ -70,10 +70,10 @@ head_given-head-requires g c =
     let from = from_known g at.After-header_ref-leaf in
     let known = leaf_can_step c.requires.can_change c.header_ref-leaf.ensures.header in
     let new = c.args.self.now.new.now in
-    let alike = fewer_alike c.min.result new.targets_prefix_len _ _ (omega (arith, c.min.ensures)) new.common_prefix in
+    let equal = fewer_equal c.min.result new.targets_prefix_len _ _ (omega (arith, c.min.ensures)) new.common_prefix in
     let begins = common_prefix_near _ _ _ _ _ _ c.args.place.common_prefix_len c.min.result known.known
-    (omega (arith, c.min.ensures, c.unwrap_or-common_prefix_len.ensures)) alike new.bytes in
-    (omega (arith, c.requires.can_change.changeable.few), (from.headed, (from.some, (told_alike g at.Joined-is_some, begins))))
+    (omega (arith, c.min.ensures, c.unwrap_or-common_prefix_len.ensures)) equal new.bytes in
+    (omega (arith, c.requires.can_change.changeable.few), (from.headed, (from.some, (answered_equal g at.Joined-is_some, begins))))
 
 pub lower_bound_back-begin-requires : goal.lower_bound_back-begin-requires
 lower_bound_back-begin-requires g c =
@@ -127,7 +127,7 @@ module _ (g : given.Over) (c : Joined-end-len g) where
   abbrev q : ℕ → Bool
   q = g.Q.Bound.below new.to.now
 
-  abbrev es : List Entry
+  abbrev es : List NodeEntry
   es = entries_of leaf
 
   in_order : begin ≤ end
@@ -146,29 +146,29 @@ module _ (g : given.Over) (c : Joined-end-len g) where
   ]
 
   -- whether an item of the leaf, or behind it, has the second key
-  told : ended ≡ first_is_below (g.R.Bound.below new.past.now) (first_key place.behind (behind q (map item_of es)))
-  told =
+  answered : ended ≡ first_is_below (g.R.Bound.below new.past.now) (first_key place.following (following q (map item_of es)))
+  answered =
       let others = (parted q es end (leaf_can_step can_change header).can_find.partitioned ends).1 in
       elim c.if-end-len.branch [
         | then-end-len w ↦
-            w.ended-is ∙ ended_in_leaf q _ es end others place.behind w.is_below_at-ended.result
+            w.ended-is ∙ ended_in_leaf q _ es end others place.following w.is_below_at-ended.result
             (omega (arith, w.if-end-len.true, c.len.ensures.len)) w.is_below_at-ended.ensures.is_below
         | else-end-len w ↦
-            w.ended-is ∙ ended_behind q _ es end others place.behind w.is_some_and-ended.result
+            w.ended-is ∙ ended_after q _ es end others place.following w.is_some_and-ended.result
             (omega (arith, w.if-end-len.false, c.len.ensures.len)) _ w.is_some_and-ended.ensures (λ k h. search rules)
       ]
 
   -- the items of the leaf once the run is written over
-  whole : (last : ℤ) → ((x : Item) → IsLast x (items_below q (map item_of es)) → last ≡ x.version) → (now : List Item)
+  entire : (last : ℤ) → ((x : Item) → IsLast x (items_below q (map item_of es)) → last ≡ x.version) → (now : List Item)
       → now ≡ map item_of (take begin (entries_at nodes slot)) ++ (item_of new.first
       ∷ ended_by ended (record { key = new.second; version = unwrap_or new.last last }) ++ map item_of (drop end (entries_at nodes slot)))
-      → GivesWhole p q (g.R.Bound.below new.past.now) (item_of new.first) new.second new.last ended
-      (map item_of c.put_taken.new.taken.items) place.is_first place.behind (map item_of (entries_at nodes slot)) now
-  whole last ends_so now = rw (entries_from_header nodes slot leaf header) (whole_run p q _ new.nested es begin end
+      → GivesEntire p q (g.R.Bound.below new.past.now) (item_of new.first) new.second new.last ended
+      (map item_of c.put_taken.new.taken.items) place.is_first place.following (map item_of (entries_at nodes slot)) now
+  entire last ends_so now = rw (entries_from_header nodes slot leaf header) (entire_run p q _ new.nested es begin end
       (leaf_can_find nodes slot (leaf_can_step can_change header).can_find _ p new.bytes header can_change.wanted).partitioned
       (leaf_can_step can_change header).can_find.partitioned (omega (arith, in_order, within)) begins ends (item_of new.first)
-      new.second new.last ended place.is_first place.behind _ now entered.0 entered.1 last ends_so
-      (taken_out _ es begin end c.put_taken.ensures.taken can_change.none_taken c.entries.ensures.entries in_order) told)
+      new.second new.last ended place.is_first place.following _ now entered.0 entered.1 last ends_so
+      (taken_out _ es begin end c.put_taken.ensures.taken can_change.none_taken c.entries.ensures.entries in_order) answered)
 
 pub write_run-requires : goal.write_run-requires
 write_run-requires g c =
@@ -229,17 +229,17 @@ returns-in-Some-clause-changed g c =
 pub returns-in-Some-clause-items : goal.returns-in-Some-clause-items
 returns-in-Some-clause-items g c =
     let t = goal.at.returns-in-Some-clause-items g c in
-    whole g t.Joined-end-len _ (last_is g t.After-map_or-last) _ c.in-Some.ensures.written
+    entire g t.Joined-end-len _ (last_is g t.After-map_or-last) _ c.in-Some.ensures.written
 
 pub returns-then-begin-eq0-2-clause-items : goal.returns-then-begin-eq0-2-clause-items
 returns-then-begin-eq0-2-clause-items g c =
     let t = goal.at.returns-then-begin-eq0-2-clause-items g c in
-    whole g t.Joined-end-len _ (last_is g t.After-map_or-last) _ c.in_default.ensures.written
+    entire g t.Joined-end-len _ (last_is g t.After-map_or-last) _ c.in_default.ensures.written
 
 pub returns-clause-items : goal.returns-clause-items
 returns-clause-items g c =
     let t = goal.at.returns-clause-items g c in
-    whole g t.Joined-end-len _ (last_is g t.After-map_or-last) _ c.in_default.ensures.written
+    entire g t.Joined-end-len _ (last_is g t.After-map_or-last) _ c.in_default.ensures.written
 
 same_leaf : (a b : RaisedLeaf) → Raised a ≡ Raised b → a ≡ b
 same_leaf a b e = cc

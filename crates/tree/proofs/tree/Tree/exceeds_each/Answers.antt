@@ -40,4 +40,4 @@ answer_each-requires g c =
     (search rules, (c.requires.few, (a, rw c.as_slice-2.ensures.value (approach, looks.looked))))
 
 pub returns : goal.returns
-returns g c = record { told = rw (← c.self.view_is) c.answer_each.ensures.told }
+returns g c = record { answered = rw (← c.self.view_is) c.answer_each.ensures.answered }

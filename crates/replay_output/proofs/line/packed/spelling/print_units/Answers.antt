@@ -6,13 +6,13 @@ use Rattle.replay_output.proofs.Packing.{begins_run, run_printed}
 use Rattle.replay_output.proofs.Results.{on_err}
 use Rattle.replay_output.proofs.line.packed.spelling.print_units.Goals as goal
 
-pub returns-in_err-write_all-clause-beginning : goal.returns-in_err-write_all-clause-beginning
-returns-in_err-write_all-clause-beginning g c =
+pub returns-in_err-write_all-clause-prefix : goal.returns-in_err-write_all-clause-prefix
+returns-in_err-write_all-clause-prefix g c =
     let given = g.W.Sink.given in
     on_err c.from_residual.result (begins_run c.args.units.now c.loop-printed.printed c.min-end.result (omega arith)
-    (given c.args.out.now) (given c.loop-printed.out) (given c.write_all.new.writer) c.loop-printed.invariant.whole
+    (given c.args.out.now) (given c.loop-printed.out) (given c.write_all.new.writer) c.loop-printed.invariant.entire
     (subst (Begins (given c.loop-printed.out) (given c.write_all.new.writer)) (c.as_slice.ensures.value ∙ c.spell.ensures.text)
-    c.in_err-write_all.ensures.beginning))
+    c.in_err-write_all.ensures.prefix))
 
 pub loop-printed-preserved : goal.loop-printed-preserved
 loop-printed-preserved g c =
@@ -20,10 +20,10 @@ loop-printed-preserved g c =
     let units = c.args.units.now in
     record {
       inside = search rules;
-      whole = subst (Appends (given c.args.out.now) (given c.write_all.new.writer))
+      entire = subst (Appends (given c.args.out.now) (given c.write_all.new.writer))
           (run_printed units c.loop-printed.printed c.min-end.result (omega arith))
-          (appends_then _ _ _ _ _ c.loop-printed.invariant.whole
+          (appends_then _ _ _ _ _ c.loop-printed.invariant.entire
           (subst (Appends (given c.loop-printed.out) (given c.write_all.new.writer))
-          (c.as_slice.ensures.value ∙ c.spell.ensures.text) c.in_ok-write_all.ensures.whole));
+          (c.as_slice.ensures.value ∙ c.spell.ensures.text) c.in_ok-write_all.ensures.entire));
       ok = c.in_ok-write_all.ensures.ok ∙ c.loop-printed.invariant.ok;
     }

@@ -6,7 +6,7 @@ use Rattle.replay_output.proofs.line.packed.spelling.print_units.Given as goal
 abbrev pub invariant-loop-printed : goal.invariant-loop-printed
 invariant-loop-printed g l = record {
   inside : l.printed ≤ length l.units;
-  whole : Appends (g.W.Sink.given l.initial.out) (g.W.Sink.given l.out) (spelled_all (take l.printed l.units));
+  entire : Appends (g.W.Sink.given l.initial.out) (g.W.Sink.given l.out) (spelled_all (take l.printed l.units));
   ok : g.W.Sink.failures l.out ≡ g.W.Sink.failures l.initial.out;
 }
 

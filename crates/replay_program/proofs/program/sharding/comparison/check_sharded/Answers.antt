@@ -26,7 +26,7 @@ returns-in-Err-clause-failed g c = λ bytes files is.
       cause = c.in-Err.cause;
       why = c.in-Err.ensures.refused;
       nothing_printed = refl;
-      told = c.fail_to_read_replies.ensures.line;
+      reported = c.fail_to_read_replies.ensures.line;
     })
 
 pub returns-in-Err-clause-met : goal.returns-in-Err-clause-met

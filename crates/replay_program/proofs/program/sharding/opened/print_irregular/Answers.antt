@@ -4,4 +4,4 @@ use Rattle.replay_program.proofs.program.sharding.opened.print_irregular.Goals a
 
 pub returns-clause-text : goal.returns-clause-text
 returns-clause-text g c =
-    on_ok_weaker c.write_all.result (λ end. appends_then _ _ _ _ _ c.in_ok-begin_line.ensures.text end) c.write_all.ensures.whole
+    on_ok_weaker c.write_all.result (λ end. appends_then _ _ _ _ _ c.in_ok-begin_line.ensures.text end) c.write_all.ensures.entire

@@ -1,0 +1,8 @@
+use Rattle.std.proofs.Common.{arith}
+use Rattle.std.proofs.lemmas.Int.{ints}
+use Rattle.structure_tests.proofs.written.WrittenModel.write.Goals as goal
+
+pub write-requires-clause-newest : goal.write-requires-clause-newest
+write-requires-clause-newest g c = λ k d lt.
+    let below = c.prepare_at_last.new.self.newest k d lt in
+    omega (arith, ints, c.prepare_at_last.ensures.version)

@@ -1,0 +1,71 @@
+//! The way of the last walk, from the root towards a leaf: a guess for the next one.
+
+ghost use Rattle.tree.specs.Finding.{CanStep, IsStep};
+
+use crate::bound::Bound;
+use crate::entry::NodeEntry;
+use crate::node::{Node, Step};
+use arena::Arena;
+
+// How many heights are remembered. No leaf has more than 62 nodes above it.
+const HEIGHTS: usize = 64;
+
+/// Through which entry the last walk went at each height.
+///
+/// The changes of a batch come in the order of keys, so that the next walk often goes through the
+/// same entries of upper nodes. No contract says anything of these indices: they may be any.
+#[derive(Clone, Copy, Debug)]
+pub struct PathCache {
+    indices: [usize; HEIGHTS],
+    // What was read ahead of leaves. It says nothing, and is kept so that the compiler doesn't omit
+    // the read.
+    read: usize,
+}
+
+impl PathCache {
+    /// Returns a way through the first entries.
+    pub fn new() -> Self {
+        PathCache {
+            indices: [0; HEIGHTS],
+            read: 0,
+        }
+    }
+
+    /// Finds the last entry of a node below the bound, or else the first one, as `Node::step` does.
+    /// It tries the entry that the last walk went through at this height first, unless the node
+    /// stands right above the leaves: there it is seldom the same.
+    #[inline(always)]
+    pub fn step<P: Bound, const N: usize>(
+        &mut self,
+        node: &Node<N>,
+        height: usize,
+        bound: &P,
+        common_prefix_len: Option<usize>,
+    ) -> Step
+        requires can_step { CanStep (P.bytes bound.now) (P.below bound.now) (P.target bound.now)
+            node.now common_prefix_len }
+        ensures step { IsStep (P.bytes bound.now) (P.below bound.now) (P.target bound.now) node.now
+            result }
+    {
+        if height < 2 || height >= HEIGHTS {
+            return node.step(bound, common_prefix_len);
+        }
+        let step = node.step_by_guess(bound, common_prefix_len, self.indices[height]);
+        self.indices[height] = step.index;
+        step
+    }
+
+    /// Reads the first memory of the leaf of an entry, if there is one, so that it needn't be
+    /// waited for when a walk comes there.
+    pub fn read_ahead<const N: usize>(
+        &mut self,
+        nodes: &Arena<Node<N>>,
+        entry: Option<&NodeEntry>,
+    ) {
+        if let Some(entry) = entry
+            && nodes.is_live(entry.child)
+        {
+            self.read ^= nodes.header_ref(entry.child).len();
+        }
+    }
+}
