@@ -8,9 +8,9 @@ ghost use Rattle.keyspace.specs.declared.batch.TheConstants.{MAX_TXNS};
 ghost use Rattle.keyspace.specs.declared.txn.TheConstants.{MAX_RANGES};
 ghost use Rattle.archcaraway_c.specs.BatchObject.{txn_given, IsWithin, IsRangeOf, span_after};
 
+use crate::appended_tables::{push_rows, push_spans};
 use crate::given_range::place_after;
 use crate::key_span::KeySpan;
-use crate::moving::{push_rows, push_spans};
 use keyspace::{Row, Span};
 use std::alloc::{AllocError, Global};
 

@@ -14,14 +14,14 @@ ghost use Rattle.archcaraway_c.specs.CoreObject.{Admits, IsGateFull, StopsAt, Co
 ghost use Rattle.archcaraway_c.specs.CoreObject.{GiveRefuses, still_owed, next_owed};
 ghost use Rattle.archcaraway_c.specs.CoreObject.{still_owed_count};
 
-mod admitting;
+mod admission;
 mod start;
 
 use crate::batch_frame::decode_frame;
 use crate::given::Given;
 use crate::numbers::are_set_numbers;
 use crate::refusal::Refusal;
-use crate::waiting::{count_waiting, nothing_waits, write_answer};
+use crate::waiting_answers::{count_waiting, nothing_waits, write_answer};
 use keyspace::{Answer, Batch};
 use resolver::{Core, MAX_PROXIES, Stop};
 use std::alloc::Global;

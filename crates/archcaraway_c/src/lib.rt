@@ -13,6 +13,7 @@
 //! sees.
 #![tactic(auto)]
 
+mod appended_tables;
 mod batch_exports;
 mod batch_frame;
 mod batch_handle;
@@ -30,7 +31,6 @@ mod given_keys;
 mod given_range;
 mod judge_exports;
 mod key_span;
-mod moving;
 mod numbers;
 mod points_handle;
 mod points_object;
@@ -44,7 +44,7 @@ mod shard_exports;
 mod start_exports;
 mod stats_exports;
 mod trim_exports;
-mod waiting;
+mod waiting_answers;
 
 pub use batch_handle::BatchHandle;
 pub use batch_object::BatchObject;

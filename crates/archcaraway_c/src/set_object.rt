@@ -11,9 +11,9 @@ ghost use Rattle.archcaraway_c.specs.Bound.{most_reply_length};
 ghost use Rattle.archcaraway_c.specs.Numbers.{AreSetNumbers};
 ghost use Rattle.archcaraway_c.specs.SetObject.{Replies, Resolves, StopsAt, SetRefuses, Stops};
 
-mod judging;
+mod batch_judgement;
+mod memory_release;
 mod start;
-mod trimming;
 
 use crate::batch_frame::decode_frame;
 use crate::bound::most_reply_length;

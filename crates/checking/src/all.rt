@@ -6,7 +6,7 @@ ghost use Rattle.checking.specs.Check.{TakesMemory, check_text, count_difference
 ghost use Rattle.checking.specs.Difference.{differences};
 ghost use Rattle.checking.specs.Text.{difference_lines};
 
-use crate::matching::compare;
+use crate::reply_match::compare;
 use crate::text::write_differences;
 use keyspace::Reply;
 use std::alloc::Global;

@@ -14,12 +14,12 @@ mod all;
 mod difference;
 mod entries;
 pub mod laws;
-mod matching;
 mod order;
+mod reply_match;
 mod text;
 
 pub use all::{Checked, check_all};
 pub use difference::{Difference, DifferenceKind};
-pub use matching::compare;
 pub use order::{Versioned, sort_by_version};
+pub use reply_match::compare;
 pub use text::write_differences;

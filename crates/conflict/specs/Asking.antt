@@ -6,7 +6,7 @@ use Rattle.keyspace.specs.declared.txn.Txn.{Txn}
 use Rattle.keyspace.specs.BatchRanges.{ranges_in}
 use Rattle.keyspace.specs.Writes.{Write}
 use Rattle.keyspace.specs.Judge.{is_hit, is_too_old}
-use Rattle.conflict.specs.declared.asking.AnswerCounts.{AnswerCounts}
+use Rattle.conflict.specs.declared.history_queries.AnswerCounts.{AnswerCounts}
 use Rattle.conflict.specs.declared.read_name.ReadName.{ReadName}
 use Rattle.stepmap.specs.StepMap.{Steps}
 use Rattle.stepmap.specs.Covers.{IsAbove}

@@ -10,7 +10,7 @@ ghost use Rattle.conflict.specs.ConflictSet.{IsSet, new_set, Remembers};
 ghost use Rattle.conflict.specs.Unknown.{unknown_until};
 
 mod one_batch;
-mod resolving;
+mod resolution;
 
 use crate::error::SetStop;
 use crate::scratch::Scratch;

@@ -14,21 +14,21 @@
 //! greatest version resolved, its step map and its stop, and the laws of [`laws`].
 #![tactic(auto)]
 
-mod asking;
+mod batch_writes;
 mod conflict_set;
 mod error;
 mod gaps;
 mod history;
+mod history_queries;
 mod in_batch;
-mod judging;
+mod judgement;
 pub mod laws;
-mod marking;
 mod read_name;
 mod scratch;
 mod union;
 mod unknown;
 mod when_full;
-mod writing;
+mod written_marks;
 
 pub use conflict_set::{ConflictSet, MAX_WINDOW};
 pub use error::SetStop;

@@ -2,8 +2,8 @@
 
 ghost use Rattle.std.specs.Prelude.{◌≡◌, []};
 
-use crate::asking::Asking;
 use crate::gaps::Gaps;
+use crate::history_queries::Asking;
 use crate::union::Union;
 use std::alloc::Global;
 use stepmap::KeyLengths;

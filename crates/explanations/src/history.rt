@@ -13,7 +13,7 @@ ghost use Rattle.explanations.specs.History.{DropsUpTo, Keeps};
 use crate::explanation::Explanation;
 use crate::processed::ProcessedBatch;
 use crate::question::ReadQuestion;
-use crate::searching::search;
+use crate::write_search::search;
 use keys::HashedRange;
 use keyspace::Batch;
 use std::alloc::{AllocError, Global};

@@ -15,7 +15,7 @@ mod history;
 pub mod laws;
 mod processed;
 mod question;
-mod searching;
+mod write_search;
 mod writer_index;
 
 pub use explanation::{Explanation, WrittenRef};

@@ -7,7 +7,7 @@ use Rattle.std.proofs.lemmas.List.Elements.{All-drop}
 use Rattle.keys.specs.Head.{head_of}
 use Rattle.keys.specs.Key.{IsBytes, is_before, IsBefore, IsAtMost}
 use Rattle.keys.specs.declared.range.Range.{Range}
-use Rattle.keys.specs.declared.gap_runs.sorting.HeadedIndex.{HeadedIndex}
+use Rattle.keys.specs.declared.gap_runs.begin_sort.HeadedIndex.{HeadedIndex}
 use Rattle.keys.specs.Sorting.{begin_at, AreHeadedAfter}
 use Rattle.keys.specs.Numbering.{begins_below_end, HeadsDetermine, IsEndHead}
 use Rattle.keys.proofs.callers.KeyHeads.{before_by_first, after_by_first, before_after_first, after_common, head_below, head_less}

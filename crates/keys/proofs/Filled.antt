@@ -9,7 +9,7 @@ use Rattle.std.proofs.lemmas.List.Sorted.{All-permutation, length_permutation}
 use Rattle.std.proofs.lemmas.Option.{slice_get_within, get_or_from_slice_get}
 use Rattle.keys.specs.Range.{IsEmpty, is_filled}
 use Rattle.keys.specs.declared.range.Range.{Range}
-use Rattle.keys.specs.declared.gap_runs.sorting.HeadedIndex.{HeadedIndex}
+use Rattle.keys.specs.declared.gap_runs.begin_sort.HeadedIndex.{HeadedIndex}
 use Rattle.keys.specs.GapRuns.{filled_from}
 use Rattle.keys.specs.Sorting.{indices_of}
 use Rattle.keys.specs.Numbering.{IsFilledAt}

@@ -47,7 +47,7 @@ use Rattle.std.proofs.lemmas.List.Sorted.{ranks_by, sorted_far}
 use Rattle.keys.specs.Key.{is_before, IsBefore, IsAtMost}
 use Rattle.keys.proofs.callers.KeyOrder.{before_at_most, before_or_same, not_before_itself}
 use Rattle.keys.specs.declared.range.Range.{Range}
-use Rattle.keys.specs.declared.gap_runs.sorting.HeadedIndex.{HeadedIndex}
+use Rattle.keys.specs.declared.gap_runs.begin_sort.HeadedIndex.{HeadedIndex}
 use Rattle.keys.specs.GapRuns.{rank, AreRising}
 use Rattle.keys.specs.Sorting.{begin_at, begins_of, AreInBeginOrder}
 use Rattle.keys.proofs.Ranking.{rank_after, rank_push, rank_kept}

@@ -5,7 +5,7 @@ use Rattle.std.proofs.lemmas.Bool.{cases_eq}
 use Rattle.std.proofs.lemmas.List.{get_or-set_other, get_or-set_same, length_push, map_push, take_more}
 use Rattle.std.proofs.lemmas.List.Elements.{All-contains, All-nil, All-push, Contains-append_left, Contains-get_or, Contains-push}
 use Rattle.keys.specs.declared.range.Range.{Range}
-use Rattle.keys.specs.declared.gap_runs.sorting.HeadedIndex.{HeadedIndex}
+use Rattle.keys.specs.declared.gap_runs.begin_sort.HeadedIndex.{HeadedIndex}
 use Rattle.keys.specs.GapRuns.{rank}
 use Rattle.keys.specs.Sorting.{begin_at, begins_of, indices_of, AreInBeginOrder}
 use Rattle.keys.specs.Numbering.{AreNumbered, IsNumbered, OthersStay}

@@ -10,7 +10,7 @@ use Rattle.std.proofs.lemmas.Option.{get_or_from_slice_get, same_Some, slice_get
 use Rattle.keys.specs.Key.{IsAtMost}
 use Rattle.keys.specs.Range.{is_filled}
 use Rattle.keys.specs.declared.range.Range.{Range}
-use Rattle.keys.specs.declared.gap_runs.sorting.HeadedIndex.{HeadedIndex}
+use Rattle.keys.specs.declared.gap_runs.begin_sort.HeadedIndex.{HeadedIndex}
 use Rattle.keys.specs.GapRuns.{rank, run_or_none, runs_of, filled_from, AreBegins, AreInOrder, BeginsFirst, HaveBegin, IsBeginIn}
 use Rattle.keys.specs.Sorting.{begin_at, begin_of, indices_of, AreInBeginOrder}
 use Rattle.keys.specs.Numbering.{end_at, end_of, run_at, AreEachOnce, HasRun, IsFilledAt, OthersStay}

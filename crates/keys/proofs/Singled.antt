@@ -18,7 +18,7 @@ use Rattle.keys.specs.Sorting.{begin_at, begin_of, indices_of, AreInBeginOrder}
 use Rattle.keys.specs.Numbering.{run_at, IsFilledAt, IsNumbered, OthersStay}
 use Rattle.keys.specs.Singles.{counts_at, is_in_cells, is_marked, picked, AreInCells, AreNumberedAmong, AreRankedFor, HaveInOrder, IsRankedAs, IsSingleAt}
 use Rattle.keys.specs.declared.range.Range.{Range}
-use Rattle.keys.specs.declared.gap_runs.sorting.HeadedIndex.{HeadedIndex}
+use Rattle.keys.specs.declared.gap_runs.begin_sort.HeadedIndex.{HeadedIndex}
 use Rattle.keys.proofs.callers.KeyOrder.{at_most_antisym, at_most_itself}
 use Rattle.keys.proofs.callers.Lists.{AllZip-at}
 use Rattle.keys.proofs.callers.Meeting.{meets_by_ends}

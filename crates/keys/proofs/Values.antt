@@ -4,7 +4,7 @@ use Rattle.std.specs.Prelude.{Contains}
 use Rattle.std.proofs.lemmas.List.{get_or-map, length-map}
 use Rattle.std.proofs.lemmas.List.Elements.{Contains-get_or}
 use Rattle.keys.specs.declared.range.Range.{Range}
-use Rattle.keys.specs.declared.gap_runs.sorting.HeadedIndex.{HeadedIndex}
+use Rattle.keys.specs.declared.gap_runs.begin_sort.HeadedIndex.{HeadedIndex}
 use Rattle.keys.specs.Sorting.{begin_at, begins_of, indices_of}
 
 pub contains_value : {X Y : Type 0} (f : X → Y) (xs : List X) (x : X) → Contains xs x → Contains (map f xs) (f x)

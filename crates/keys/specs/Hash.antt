@@ -3,7 +3,7 @@ use Rattle.std.specs.Prelude.{◌≡◌, ◌⊎◌, ℕ, MatchOption, Option, �
 use Rattle.std.specs.List.{AllZip}
 use Rattle.keys.specs.Head.{head_of}
 use Rattle.keys.specs.Range.{IsSingle}
-use Rattle.keys.specs.declared.hashing.TheConstants.{FACTOR}
+use Rattle.keys.specs.declared.key_hashes.TheConstants.{FACTOR}
 use Rattle.keys.specs.declared.range.Range.{Range}
 
 -- a word of eight bytes is mixed in

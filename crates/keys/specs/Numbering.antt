@@ -6,7 +6,7 @@ use Rattle.keys.specs.Range.{is_filled}
 use Rattle.keys.specs.GapRuns.{rank, AreRising}
 use Rattle.keys.specs.Sorting.{begin_at, begins_of, indices_of}
 use Rattle.keys.specs.declared.range.Range.{Range}
-use Rattle.keys.specs.declared.gap_runs.sorting.HeadedIndex.{HeadedIndex}
+use Rattle.keys.specs.declared.gap_runs.begin_sort.HeadedIndex.{HeadedIndex}
 
 -- the end of the range, or the empty key where there is none
 abbrev pub end_of : Option Range → List ℕ

@@ -6,7 +6,7 @@ use Rattle.keys.specs.GapRuns.{runs_of, AreChosenInOrder, AreRising, HaveBegin, 
 use Rattle.keys.specs.Sorting.{begin_at, begins_of, indices_of}
 use Rattle.keys.specs.Numbering.{IsNumbered}
 use Rattle.keys.specs.declared.range.Range.{Range}
-use Rattle.keys.specs.declared.gap_runs.sorting.HeadedIndex.{HeadedIndex}
+use Rattle.keys.specs.declared.gap_runs.begin_sort.HeadedIndex.{HeadedIndex}
 
 -- the mark at the index is set
 abbrev pub is_marked : List Bool → ℕ → Bool

@@ -6,8 +6,8 @@ ghost use Rattle.keys.specs.Range.{IsEmpty, IsSingle};
 ghost use Rattle.keys.specs.Key.{IsKey, IsAtMost};
 ghost use Rattle.keys.specs.declared.key.TheConstants.{MAX_KEY_LENGTH};
 
-use crate::hashing::key_hash;
 use crate::key::Key;
+use crate::key_hashes::key_hash;
 use crate::range::Range;
 use std::alloc::{AllocError, Global};
 use std::marker::Model;

@@ -8,7 +8,7 @@ ghost use Rattle.lane.specs.Lane.{new_intake};
 use crate::error::LaneError;
 use crate::intake::Intake;
 use crate::port::Port;
-use crate::ring::meeting::{join, part};
+use crate::ring::joined_tokens::{join, part};
 use crate::ring::ring;
 use crate::{intake, port};
 use std::alloc::Global;

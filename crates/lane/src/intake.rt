@@ -16,7 +16,7 @@ ghost use Rattle.lane.specs.Taken.{items_of, next_of, IfEmpty, IfEnd};
 ghost use Rattle.lane.specs.declared.intake.Taken.TheVariants.{Item, Empty, End};
 
 use crate::port::Port;
-use crate::ring::meeting::{join, part};
+use crate::ring::joined_tokens::{join, part};
 use crate::ring::plays::{Finds, LooksAtTail, Takes};
 use crate::ring::{CLOSING_BIT, HEAD, Part, Ring, TAIL, Token};
 use crossbeam_utils::CachePadded;

@@ -14,10 +14,10 @@ use std::alloc::{AllocError, Global};
 use std::collections::LinkedList;
 use std::sync::Arc;
 
-pub(crate) mod meeting;
+pub(crate) mod joined_tokens;
 pub(crate) mod plays;
 
-use meeting::part;
+use joined_tokens::part;
 
 // Between the two words stand fifteen that nothing uses, so that they share no cache line.
 pub(crate) const HEAD: usize = 0;

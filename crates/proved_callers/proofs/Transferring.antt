@@ -14,7 +14,7 @@ use Rattle.keyspace.specs.Run.{Step, run}
 use Rattle.serial.specs.Commits.{IsCommitted}
 use Rattle.serial.specs.Stores.{in_ranges, Store, KeepsToWrites, stores_after}
 use Rattle.serial.specs.Serial.{ReadsOnlyDeclared}
-use Rattle.proved_callers.specs.declared.serving.Served.{Served}
+use Rattle.proved_callers.specs.declared.served_proxies.Served.{Served}
 use Rattle.proved_callers.specs.Served.{IsOneOf, AreServed}
 use Rattle.proved_callers.specs.Transfers.{
   Accounts,

@@ -12,7 +12,7 @@ use Rattle.keyspace.specs.Run.{Step, run, answers, part}
 use Rattle.serial.specs.Replies.{IsSent, IsCommittedAt, ReportsCommitted}
 use Rattle.lane.specs.Lane.{PortContinues, IntakeContinues}
 use Rattle.resolver.specs.declared.client.Client.{Client}
-use Rattle.proved_callers.specs.declared.serving.Served.{Served}
+use Rattle.proved_callers.specs.declared.served_proxies.Served.{Served}
 use Rattle.resolver.specs.Core.{Continues, IsPrefix}
 use Rattle.resolver.specs.declared.turn.Account.{Account}
 use Rattle.resolver.specs.Lanes.{Each, LanesContinue, has_ended, sent_to}

@@ -8,7 +8,7 @@ use Rattle.keyspace.specs.Run.{Step, run, answers, part}
 use Rattle.serial.specs.Serial.{IsSerializable}
 use Rattle.serial.specs.Replies.{IsCommittedAt, ReportsCommitted}
 use Rattle.resolver.specs.declared.client.Client.{Client}
-use Rattle.proved_callers.specs.declared.serving.Served.{Served}
+use Rattle.proved_callers.specs.declared.served_proxies.Served.{Served}
 use Rattle.resolver.specs.Core.{IsPrefix}
 use Rattle.resolver.specs.Resolver.{ResolverState, IsResolving, AreClients, TakesOnlyFrom, FinishesLast}
 

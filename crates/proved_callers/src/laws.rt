@@ -3,7 +3,7 @@
 ghost use Rattle.std.specs.Prelude.{◌≡◌, ◌≤◌, ℕ, ℤ, List, []};
 ghost use Rattle.keyspace.specs.declared.batch.Batch.{Batch};
 ghost use Rattle.keyspace.specs.Run.{Step, part};
-ghost use Rattle.proved_callers.specs.declared.serving.Served.{Served};
+ghost use Rattle.proved_callers.specs.declared.served_proxies.Served.{Served};
 ghost use Rattle.proved_callers.specs.Served.{AreServed};
 
 /// The log of two proxies that are served holds no batch of a third.

@@ -10,11 +10,11 @@ mod arena_use;
 mod conflict_use;
 mod lane_use;
 pub mod laws;
-mod serving;
+mod served_proxies;
 mod wire_use;
 
 pub use arena_use::keep_two;
 pub use conflict_use::judge_two;
 pub use lane_use::through;
-pub use serving::{Served, serve_two, transfer_two};
+pub use served_proxies::{Served, serve_two, transfer_two};
 pub use wire_use::there_and_back;

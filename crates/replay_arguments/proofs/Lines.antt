@@ -11,7 +11,7 @@ use Rattle.replay_output.specs.declared.options.style.Style.{Style}
 use Rattle.replay_summary.specs.declared.text.SummaryForm.{SummaryForm}
 use Rattle.replay_arguments.specs.declared.arguments.CommandLine.{CommandLine}
 use Rattle.replay_arguments.specs.declared.arguments.asked.Asked.{Asked}
-use Rattle.replay_arguments.specs.declared.arguments.sharding.Sharding.{Sharding}
+use Rattle.replay_arguments.specs.declared.arguments.shard_options.Sharding.{Sharding}
 use Rattle.replay_arguments.specs.declared.arguments.summary_file.SummaryFile.{SummaryFile}
 use Rattle.replay_arguments.specs.declared.arguments.task.Task.{Task}
 use Rattle.replay_arguments.specs.declared.arguments.task.Task.TheVariants.{Print, Explain, Summarize, Stream, Check}

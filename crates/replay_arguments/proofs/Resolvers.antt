@@ -6,7 +6,7 @@ use Rattle.std.proofs.lemmas.Bool.{false≢true}
 use Rattle.clap.specs.Words.{Row, all_of, first_of}
 use Rattle.replay_output.specs.declared.options.reports.Reports.{Reports}
 use Rattle.replay_output.specs.declared.options.reports.Reports.TheVariants.{All, Asked}
-use Rattle.replay_arguments.specs.declared.arguments.sharding.Sharding.{Sharding}
+use Rattle.replay_arguments.specs.declared.arguments.shard_options.Sharding.{Sharding}
 use Rattle.replay_arguments.specs.Arguments.{HasSharding, HoldsExplain, HoldsReports, HoldsResolvers, HoldsSharding, HoldsStream, HoldsTop, IsShared, IsTop, inputs_of, reports_all}
 use Rattle.replay_arguments.proofs.Getters.{bool_text_same}
 use Rattle.replay_arguments.proofs.Numbers.{Some-injective}

@@ -14,7 +14,7 @@ use Rattle.resolver.specs.declared.resolver_core.TheConstants.{MAX_PROXIES}
 use Rattle.keyspace.specs.declared.reply.Verdict.{Verdict}
 use Rattle.replay_output.specs.LineFilter.{least_version}
 use Rattle.replay_output.specs.Lines.{verdict_word}
-use Rattle.replay_output.specs.declared.options.filtering.LineFilter.{LineFilter}
+use Rattle.replay_output.specs.declared.options.line_filter.LineFilter.{LineFilter}
 use Rattle.replay_output.specs.declared.options.form.Form.{Form}
 use Rattle.replay_output.specs.declared.options.form.Form.TheVariants.{Words, Frames, Json, Kept}
 use Rattle.replay_output.specs.declared.options.Options.{Options}
@@ -25,8 +25,8 @@ use Rattle.replay_summary.specs.declared.text.SummaryForm.TheVariants as summari
 use Rattle.replay_arguments.specs.Command.{replay_app}
 pub use Rattle.replay_arguments.specs.KeptInputs.{KeepsInputs, named, standard_input}
 use Rattle.replay_arguments.specs.declared.arguments.details.TheConstants.{MAX_TOP}
-use Rattle.replay_arguments.specs.declared.arguments.sharding.Sharding.{Sharding}
-use Rattle.replay_arguments.specs.declared.arguments.sharding.TheConstants.{MAX_RESOLVERS}
+use Rattle.replay_arguments.specs.declared.arguments.shard_options.Sharding.{Sharding}
+use Rattle.replay_arguments.specs.declared.arguments.shard_options.TheConstants.{MAX_RESOLVERS}
 use Rattle.replay_arguments.specs.declared.arguments.summary_file.SummaryFile.{SummaryFile}
 use Rattle.replay_arguments.specs.declared.arguments.refusal.ArgumentsRefusal.{ArgumentsRefusal}
 use Rattle.replay_arguments.specs.declared.arguments.refusal.ArgumentsRefusal.TheVariants.{Memory, Refused, Shown}

@@ -8,7 +8,7 @@ use Rattle.lane.specs.declared.ends.TheConstants.{MAX_CAPACITY}
 use Rattle.conflict.specs.declared.conflict_set.TheConstants.{MAX_WINDOW}
 use Rattle.stepmap.specs.declared.step_map.TheConstants.{MAX_LIMIT}
 use Rattle.replay_arguments.specs.declared.arguments.details.TheConstants.{MAX_TOP}
-use Rattle.replay_arguments.specs.declared.arguments.sharding.TheConstants.{MAX_RESOLVERS}
+use Rattle.replay_arguments.specs.declared.arguments.shard_options.TheConstants.{MAX_RESOLVERS}
 
 -- an option `--name N` with this default
 abbrev pub number_rule : List ℕ → List ℕ → ValueParser → Rule

@@ -6,7 +6,7 @@ use Rattle.resolver.specs.declared.resolver_core.TheConstants.{MAX_PROXIES}
 use Rattle.replay_output.specs.declared.options.form.Form.TheVariants.{Kept}
 use Rattle.replay_arguments.specs.Arguments.{HasInputOnce, HoldsSummaryFile, IsBeside, KeepsInputs, named}
 use Rattle.replay_arguments.specs.declared.arguments.names.Names.{Names}
-use Rattle.replay_arguments.specs.declared.arguments.printing.Printing.{Printing}
+use Rattle.replay_arguments.specs.declared.arguments.print_options.Printing.{Printing}
 
 -- the texts of names
 abbrev pub texts : Bor (List (Bor (List ℕ))) → List (List ℕ)

@@ -2,12 +2,12 @@
 use Rattle.std.specs.Prelude.{ℕ, ◌<◌, List, ◌++◌, codes, map, length, take, Option, IfSome, slice_get}
 use Rattle.std.specs.List.{All}
 use Rattle.std.specs.Fmt.{decimal}
-use Rattle.replay_arguments.specs.declared.opening.OpeningError.{OpeningError}
-use Rattle.replay_arguments.specs.declared.opening.OpeningError.TheVariants as opening
-use Rattle.replay_arguments.specs.declared.opening.files.FileError.{FileError}
-use Rattle.replay_arguments.specs.declared.opening.files.FileError.TheVariants as file_error
-use Rattle.replay_arguments.specs.declared.opening.written.WrittenFile.{WrittenFile}
-use Rattle.replay_arguments.specs.declared.opening.written.WrittenFile.TheVariants.{Output, Summary}
+use Rattle.replay_arguments.specs.declared.opened_files.OpeningError.{OpeningError}
+use Rattle.replay_arguments.specs.declared.opened_files.OpeningError.TheVariants as opening
+use Rattle.replay_arguments.specs.declared.opened_files.files.FileError.{FileError}
+use Rattle.replay_arguments.specs.declared.opened_files.files.FileError.TheVariants as file_error
+use Rattle.replay_arguments.specs.declared.opened_files.written.WrittenFile.{WrittenFile}
+use Rattle.replay_arguments.specs.declared.opened_files.written.WrittenFile.TheVariants.{Output, Summary}
 use Rattle.replay_output.specs.declared.start.StartError.TheVariants as start
 use Rattle.replay_output.specs.Start.{start_line}
 

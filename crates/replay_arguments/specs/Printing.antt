@@ -3,7 +3,7 @@ use Rattle.std.specs.Prelude.{◌≡◌, ◌≢◌, List, true, is_some}
 use Rattle.clap.specs.Words.{Row}
 use Rattle.replay_output.specs.declared.options.form.Form.TheVariants.{Kept}
 use Rattle.replay_arguments.specs.Arguments.{AsksForAll, HoldsExplain, HoldsFilter, HoldsForm, HoldsStream, HoldsSummary, IsAlone, IsPlain}
-use Rattle.replay_arguments.specs.declared.arguments.printing.Printing.{Printing}
+use Rattle.replay_arguments.specs.declared.arguments.print_options.Printing.{Printing}
 
 -- it is what these rows ask for, and no option contradicts another
 pub record HoldsPrinting (rows : List Row) (printing : Printing) : Type 0 where

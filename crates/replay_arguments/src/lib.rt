@@ -9,12 +9,12 @@
 #![tactic(auto)]
 
 mod arguments;
-mod opening;
+mod opened_files;
 
 pub use arguments::{
     ArgumentsRefusal, CommandLine, MAX_RESOLVERS, MAX_TOP, Sharding, SummaryFile, Task, read_words,
 };
-pub use opening::{
+pub use opened_files::{
     Extent, FileError, Files, OpeningError, STANDARD_INPUT, WrittenFile, create_files,
     fail_to_create, fail_to_create_file, fail_to_open, first_irregular, open_files,
 };

@@ -6,7 +6,7 @@ use Rattle.wire.specs.FrameLength.{frame_length}
 use Rattle.wire.specs.Spelling.{SpellsReply}
 use Rattle.wire.specs.Reading.{batch_fault, reply_fault}
 use Rattle.replay_diagnosis.specs.declared.position.Position.{Position}
-use Rattle.replay_diagnosis.specs.declared.finding.Finding.TheVariants as found
+use Rattle.replay_diagnosis.specs.declared.run_findings.Finding.TheVariants as found
 use Rattle.replay_diagnosis.specs.Content.{IsFindingAt, IsNoJson}
 
 not_empty : (front : List ℕ) → 0 < length front → front ≢ []

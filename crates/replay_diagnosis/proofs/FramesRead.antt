@@ -9,7 +9,7 @@ use Rattle.wire.specs.Upgrade.{AreFrames}
 use Rattle.wire.proofs.callers.Known.{consumes_none, consumes_then}
 use Rattle.replay_diagnosis.specs.declared.position.Position.{Position}
 use Rattle.replay_diagnosis.specs.declared.batches.FileBatches.{FileBatches}
-use Rattle.replay_diagnosis.specs.declared.finding.Finding.{Finding}
+use Rattle.replay_diagnosis.specs.declared.run_findings.Finding.{Finding}
 use Rattle.replay_diagnosis.specs.Following.{HasLeast}
 use Rattle.replay_diagnosis.specs.Content.{ContainsBatches, FoundIn, IsFindingAt, position_after}
 

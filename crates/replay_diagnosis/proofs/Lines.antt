@@ -8,10 +8,10 @@ use Rattle.std.proofs.lemmas.Fmt.{decimal_by_steps}
 use Rattle.std.proofs.lemmas.Bool.{cases_eq, cases_lt, eq-eqb, le-ltb, lt-ltb, ne_eqb}
 use Rattle.std.proofs.lemmas.List.Folds.{list_any-append}
 use Rattle.replay_diagnosis.specs.declared.position.Position.{Position}
-use Rattle.replay_diagnosis.specs.declared.finding.Finding.{Finding}
-use Rattle.replay_diagnosis.specs.declared.finding.Finding.TheVariants as found
-use Rattle.replay_diagnosis.specs.declared.finding.RunFinding.{RunFinding}
-use Rattle.replay_diagnosis.specs.declared.finding.RunFinding.TheVariants as run
+use Rattle.replay_diagnosis.specs.declared.run_findings.Finding.{Finding}
+use Rattle.replay_diagnosis.specs.declared.run_findings.Finding.TheVariants as found
+use Rattle.replay_diagnosis.specs.declared.run_findings.RunFinding.{RunFinding}
+use Rattle.replay_diagnosis.specs.declared.run_findings.RunFinding.TheVariants as run
 use Rattle.replay_diagnosis.specs.Remedy.{advice, finding_text, position_text, remedy_line, run_finding_text, run_remedy_line, shown, shown_byte, unreadable_text}
 use Rattle.replay_diagnosis.specs.Laws.{FindingFits, IsIndentedLine, PositionFits, RunFindingFits, has_line_feed}
 

@@ -7,8 +7,8 @@ use Rattle.wire.specs.declared.error.WireError.{WireError}
 use Rattle.wire.specs.FrameLength.{frame_length}
 use Rattle.wire.proofs.callers.Frames.{at_least_four, is_fault, is_reply_fault}
 use Rattle.replay_diagnosis.specs.declared.position.Position.{Position}
-use Rattle.replay_diagnosis.specs.declared.finding.Finding.{Finding}
-use Rattle.replay_diagnosis.specs.declared.finding.Finding.TheVariants as found
+use Rattle.replay_diagnosis.specs.declared.run_findings.Finding.{Finding}
+use Rattle.replay_diagnosis.specs.declared.run_findings.Finding.TheVariants as found
 use Rattle.replay_diagnosis.specs.Content.{BeginsAsJson, BeginsWithReply, EndsInFrame, HasNoBatch, IsFindingAt, IsNoFrame, IsNoJson}
 use Rattle.replay_diagnosis.proofs.FrontLengths.{same_frame_length}
 

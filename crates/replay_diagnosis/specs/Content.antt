@@ -12,8 +12,8 @@ use Rattle.wire.specs.NextReply.{IsReplyFaultOf}
 use Rattle.wire.specs.Upgrade.{AreFrames}
 use Rattle.replay_diagnosis.specs.declared.position.Position.{Position}
 use Rattle.replay_diagnosis.specs.declared.batches.FileBatches.{FileBatches}
-use Rattle.replay_diagnosis.specs.declared.finding.Finding.{Finding}
-use Rattle.replay_diagnosis.specs.declared.finding.Finding.TheVariants as found
+use Rattle.replay_diagnosis.specs.declared.run_findings.Finding.{Finding}
+use Rattle.replay_diagnosis.specs.declared.run_findings.Finding.TheVariants as found
 use Rattle.replay_diagnosis.specs.Following.{HasLeast}
 
 -- the position after the frames of these batches

@@ -5,10 +5,10 @@ use Rattle.std.specs.Int.{w64}
 use Rattle.std.specs.Int.RustNames.{FitsSigned}
 use Rattle.keyspace.specs.Run.{Step, part, run}
 use Rattle.replay_diagnosis.specs.declared.position.Position.{Position}
-use Rattle.replay_diagnosis.specs.declared.finding.Finding.{Finding}
-use Rattle.replay_diagnosis.specs.declared.finding.Finding.TheVariants as found
-use Rattle.replay_diagnosis.specs.declared.finding.RunFinding.{RunFinding}
-use Rattle.replay_diagnosis.specs.declared.finding.RunFinding.TheVariants as run
+use Rattle.replay_diagnosis.specs.declared.run_findings.Finding.{Finding}
+use Rattle.replay_diagnosis.specs.declared.run_findings.Finding.TheVariants as found
+use Rattle.replay_diagnosis.specs.declared.run_findings.RunFinding.{RunFinding}
+use Rattle.replay_diagnosis.specs.declared.run_findings.RunFinding.TheVariants as run
 use Rattle.replay_diagnosis.specs.Following.{NoneBegins}
 use Rattle.replay_diagnosis.specs.Remedy.{remedy_line, run_remedy_line}
 

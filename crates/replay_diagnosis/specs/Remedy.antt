@@ -2,10 +2,10 @@
 use Rattle.std.specs.Prelude.{ℕ, ◌==◌, ◌||◌, nat_lt, if◌then◌else◌, Bool, List, ◌++◌, codes, map}
 use Rattle.std.specs.Fmt.{decimal, signed_decimal}
 use Rattle.replay_diagnosis.specs.declared.position.Position.{Position}
-use Rattle.replay_diagnosis.specs.declared.finding.Finding.{Finding}
-use Rattle.replay_diagnosis.specs.declared.finding.Finding.TheVariants as found
-use Rattle.replay_diagnosis.specs.declared.finding.RunFinding.{RunFinding}
-use Rattle.replay_diagnosis.specs.declared.finding.RunFinding.TheVariants as run
+use Rattle.replay_diagnosis.specs.declared.run_findings.Finding.{Finding}
+use Rattle.replay_diagnosis.specs.declared.run_findings.Finding.TheVariants as found
+use Rattle.replay_diagnosis.specs.declared.run_findings.RunFinding.{RunFinding}
+use Rattle.replay_diagnosis.specs.declared.run_findings.RunFinding.TheVariants as run
 
 -- a control character of ASCII
 abbrev pub is_control : ℕ → Bool

@@ -13,20 +13,20 @@
 #![tactic(auto)]
 
 mod batches;
-mod classifying;
-mod examining;
-mod finding;
+mod classification;
+mod examination;
 pub mod laws;
 mod name;
 mod position;
 mod remedy;
+mod run_findings;
 mod run_remedy;
 mod unbegun;
 
 pub use batches::FileBatches;
-pub use examining::examine;
-pub use finding::{Finding, RunFinding};
+pub use examination::examine;
 pub use position::Position;
 pub use remedy::write_remedy;
+pub use run_findings::{Finding, RunFinding};
 pub use run_remedy::write_run_remedy;
 pub use unbegun::examine_unbegun;

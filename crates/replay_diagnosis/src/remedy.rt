@@ -6,9 +6,9 @@ ghost use Rattle.std.specs.Io.KnownBytes.{Appends};
 ghost use Rattle.replay_diagnosis.specs.Remedy.{advice, finding_text, position_text, remedy_line};
 ghost use Rattle.replay_diagnosis.specs.Remedy.{unreadable_text};
 
-use crate::finding::Finding;
 use crate::name::put_name;
 use crate::position::Position;
+use crate::run_findings::Finding;
 use std::alloc::Global;
 use std::io;
 use std::io::Write;

@@ -6,7 +6,7 @@ ghost use Rattle.std.specs.Fmt.{signed_decimal};
 ghost use Rattle.std.specs.Io.KnownBytes.{Appends};
 ghost use Rattle.replay_diagnosis.specs.Remedy.{run_finding_text, run_remedy_line};
 
-use crate::finding::RunFinding;
+use crate::run_findings::RunFinding;
 use std::alloc::Global;
 use std::io;
 use std::io::Write;

@@ -4,7 +4,7 @@ ghost use Rattle.std.specs.Prelude.{IfSome};
 ghost use Rattle.replay_diagnosis.specs.Content.{ContainsBatches};
 
 use crate::batches::{CHAIN_START, FileBatches};
-use crate::examining::next_batch;
+use crate::examination::next_batch;
 use crate::position::Position;
 use std::alloc::Global;
 use wire::Source;

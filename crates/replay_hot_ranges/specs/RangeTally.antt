@@ -1,7 +1,7 @@
 -- What is kept of counted transactions.
 use Rattle.std.specs.Prelude.{◌≡◌, ℕ, ◌+◌, ◌<◌, Bool, false, ◌==◌, if◌then◌else◌, List, map, Option, Some, None}
 use Rattle.std.specs.BTreeMap as tree
-use Rattle.replay_hot_ranges.specs.declared.counting.Tallies.{Tallies}
+use Rattle.replay_hot_ranges.specs.declared.conflict_counts.Tallies.{Tallies}
 use Rattle.replay_hot_ranges.specs.declared.tally.Count.{Count}
 use Rattle.replay_hot_ranges.specs.declared.tally.RangeTally.{RangeTally}
 use Rattle.replay_hot_ranges.specs.Conflicts.{InConflict}

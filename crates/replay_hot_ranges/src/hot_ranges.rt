@@ -4,7 +4,7 @@ ghost use Rattle.std.specs.Prelude.{◌≡◌, ◌≤ℤ◌, [], ℤ, List, pos,
 ghost use Rattle.keyspace.specs.Chain.{IsChain};
 ghost use Rattle.keyspace.specs.Processed.{Processed};
 
-use crate::counting::Tallies;
+use crate::conflict_counts::Tallies;
 use crate::hot_range::Top;
 use crate::top::top_of;
 use explanations::{History, ProcessedBatch};

@@ -10,7 +10,7 @@
 //! `RangeTally` and `HotRanges` say what is kept.
 #![tactic(auto)]
 
-mod counting;
+mod conflict_counts;
 mod hot_range;
 mod hot_ranges;
 pub mod laws;

@@ -7,7 +7,7 @@ use Rattle.keyspace.specs.Answer.{version_of_answer}
 use Rattle.keyspace.specs.declared.reply.Entry.{Entry}
 use Rattle.keyspace.specs.declared.reply.Verdict.{Verdict}
 use Rattle.keyspace.specs.declared.reply.Verdict.TheVariants.{Conflict, TooOld, Committed}
-use Rattle.replay_output.specs.declared.options.filtering.LineFilter.{LineFilter}
+use Rattle.replay_output.specs.declared.options.line_filter.LineFilter.{LineFilter}
 
 -- the least number of 64 bits
 abbrev pub least_version : ℤ

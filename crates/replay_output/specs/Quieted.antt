@@ -1,6 +1,6 @@
 -- Options with which no line is shown. This project's own.
 use Rattle.std.specs.Prelude.{true}
-use Rattle.replay_output.specs.declared.options.filtering.LineFilter.{LineFilter}
+use Rattle.replay_output.specs.declared.options.line_filter.LineFilter.{LineFilter}
 use Rattle.replay_output.specs.declared.options.style.Style.{Style}
 use Rattle.replay_output.specs.declared.options.Options.{Options}
 

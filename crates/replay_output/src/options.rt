@@ -14,14 +14,14 @@ use keyspace::WINDOW;
 use lane::MAX_CAPACITY;
 use stepmap::MAX_LIMIT;
 
-mod filtering;
 mod form;
-mod quieting;
+mod line_filter;
+mod quiet_options;
 mod reports;
 mod style;
 
-pub use filtering::LineFilter;
 pub use form::Form;
+pub use line_filter::LineFilter;
 pub use reports::Reports;
 pub use style::Style;
 

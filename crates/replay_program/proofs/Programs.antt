@@ -10,11 +10,11 @@ use Rattle.replay_arguments.specs.declared.arguments.refusal.ArgumentsRefusal.Th
 use Rattle.replay_arguments.specs.declared.arguments.summary_file.SummaryFile.{SummaryFile}
 use Rattle.replay_arguments.specs.declared.arguments.task.Task.{Task}
 use Rattle.replay_arguments.specs.declared.arguments.task.Task.TheVariants as task
-use Rattle.replay_arguments.specs.declared.opening.OpeningError.{OpeningError}
-use Rattle.replay_arguments.specs.declared.opening.OpeningError.TheVariants as opening
-use Rattle.replay_arguments.specs.declared.opening.files.FileError.{FileError}
-use Rattle.replay_arguments.specs.declared.opening.files.FileError.TheVariants as file_error
-use Rattle.replay_arguments.specs.declared.opening.written.WrittenFile.TheVariants.{Output, Summary}
+use Rattle.replay_arguments.specs.declared.opened_files.OpeningError.{OpeningError}
+use Rattle.replay_arguments.specs.declared.opened_files.OpeningError.TheVariants as opening
+use Rattle.replay_arguments.specs.declared.opened_files.files.FileError.{FileError}
+use Rattle.replay_arguments.specs.declared.opened_files.files.FileError.TheVariants as file_error
+use Rattle.replay_arguments.specs.declared.opened_files.written.WrittenFile.TheVariants.{Output, Summary}
 use Rattle.replay_arguments.specs.Asks.{Asks}
 use Rattle.replay_arguments.specs.Opening.{IsFirstRefused, opening_line, written_line}
 use Rattle.replay_arguments.specs.Arguments.{AsksForText, IsMistaken}

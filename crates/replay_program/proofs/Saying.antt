@@ -6,10 +6,10 @@ use Rattle.keyspace.specs.declared.batch.Batch.{Batch}
 use Rattle.resolver.specs.declared.stop.Stop.TheVariants as stop
 use Rattle.wire.specs.declared.error.WireError.{WireError}
 use Rattle.wire.specs.declared.error.WireError.TheVariants.{Memory, Write}
-use Rattle.replay_diagnosis.specs.declared.finding.Finding.{Finding}
-use Rattle.replay_diagnosis.specs.declared.finding.Finding.TheVariants as found
-use Rattle.replay_diagnosis.specs.declared.finding.RunFinding.{RunFinding}
-use Rattle.replay_diagnosis.specs.declared.finding.RunFinding.TheVariants as run
+use Rattle.replay_diagnosis.specs.declared.run_findings.Finding.{Finding}
+use Rattle.replay_diagnosis.specs.declared.run_findings.Finding.TheVariants as found
+use Rattle.replay_diagnosis.specs.declared.run_findings.RunFinding.{RunFinding}
+use Rattle.replay_diagnosis.specs.declared.run_findings.RunFinding.TheVariants as run
 use Rattle.replay_diagnosis.specs.Content.{FoundIn}
 use Rattle.replay_diagnosis.specs.Following.{Follows, HasLeast, NoneBegins, NoneFollowsBelow}
 use Rattle.replay_diagnosis.specs.Remedy.{run_remedy_line}

@@ -8,16 +8,16 @@ use Rattle.replay_arguments.specs.declared.arguments.CommandLine.{CommandLine}
 use Rattle.replay_arguments.specs.declared.arguments.summary_file.SummaryFile.{SummaryFile}
 use Rattle.replay_arguments.specs.declared.arguments.task.Task.{Task}
 use Rattle.replay_arguments.specs.declared.arguments.task.Task.TheVariants as task
-use Rattle.replay_arguments.specs.declared.opening.files.FileError.{FileError}
-use Rattle.replay_arguments.specs.declared.opening.files.FileError.TheVariants as file_error
-use Rattle.replay_arguments.specs.declared.opening.written.WrittenFile.TheVariants.{Output, Summary}
+use Rattle.replay_arguments.specs.declared.opened_files.files.FileError.{FileError}
+use Rattle.replay_arguments.specs.declared.opened_files.files.FileError.TheVariants as file_error
+use Rattle.replay_arguments.specs.declared.opened_files.written.WrittenFile.TheVariants.{Output, Summary}
 use Rattle.replay_arguments.specs.Opening.{written_line}
 use Rattle.replay_output.specs.declared.options.Options.{Options}
 use Rattle.replay_output.specs.declared.start.StartError.TheVariants as start
 use Rattle.replay_output.specs.Quieted.{quieted}
 use Rattle.replay_stream.specs.Sinks.{SinkState}
 use Rattle.replay_program.specs.declared.met.Met.{Met}
-use Rattle.replay_program.specs.declared.program.sharding.opened.ShardingError.TheVariants as why
+use Rattle.replay_program.specs.declared.program.several_resolvers.opened.ShardingError.TheVariants as why
 use Rattle.replay_program.specs.declared.report.RunReport.{RunReport}
 use Rattle.replay_program.specs.Ended.{EndsAs}
 use Rattle.replay_program.specs.Program.{DidNotCreateFile, NamedFiles, ReportsLine, texts}

@@ -6,7 +6,7 @@ use Rattle.resolver.specs.declared.stop.Stop.{Stop}
 use Rattle.replay_arguments.specs.declared.arguments.CommandLine.{CommandLine}
 use Rattle.replay_stream.specs.Sinks.{SinkState}
 use Rattle.replay_program.specs.declared.met.Met.{Met}
-use Rattle.replay_program.specs.declared.program.sharding.opened.ShardingError.{ShardingError}
+use Rattle.replay_program.specs.declared.program.several_resolvers.opened.ShardingError.{ShardingError}
 use Rattle.replay_program.specs.declared.report.RunReport.{RunReport}
 use Rattle.replay_program.specs.Program.{NamedFiles, SaysFurther, ReportsLine, bytes_of, texts}
 use Rattle.replay_program.specs.Replayed.{Written, written}

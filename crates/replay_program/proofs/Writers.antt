@@ -3,8 +3,8 @@ use Rattle.std.specs.Prelude.{◌≡◌, ◌⊎◌, ℕ, zero, suc, ◌+◌, ◌
 use Rattle.std.proofs.Common.{refl, sym, ap, ◌∙◌, append_assoc, inl, inr, arith}
 use Rattle.std.proofs.lemmas.List.{length-map}
 use Rattle.std.proofs.lemmas.Option.{none-some, same_Some, slice_get-map}
-use Rattle.replay_arguments.specs.declared.opening.OpeningError.{OpeningError}
-use Rattle.replay_arguments.specs.declared.opening.OpeningError.TheVariants as opening
+use Rattle.replay_arguments.specs.declared.opened_files.OpeningError.{OpeningError}
+use Rattle.replay_arguments.specs.declared.opened_files.OpeningError.TheVariants as opening
 use Rattle.replay_arguments.specs.Opening.{IsFirstRefused, contents_each, creating_line}
 use Rattle.replay_stream.specs.declared.recorder.Recorder.{Recorder}
 use Rattle.replay_stream.specs.Sinks.{SinkState}

@@ -8,10 +8,10 @@ use Rattle.replay_arguments.specs.declared.arguments.CommandLine.{CommandLine}
 use Rattle.replay_arguments.specs.declared.arguments.summary_file.SummaryFile.{SummaryFile}
 use Rattle.replay_arguments.specs.declared.arguments.task.Task.{Task}
 use Rattle.replay_arguments.specs.declared.arguments.task.Task.TheVariants as task
-use Rattle.replay_arguments.specs.declared.opening.OpeningError.TheVariants as opening
-use Rattle.replay_arguments.specs.declared.opening.files.FileError.TheVariants as file_error
-use Rattle.replay_arguments.specs.declared.opening.written.WrittenFile.{WrittenFile}
-use Rattle.replay_arguments.specs.declared.opening.written.WrittenFile.TheVariants.{Output, Summary}
+use Rattle.replay_arguments.specs.declared.opened_files.OpeningError.TheVariants as opening
+use Rattle.replay_arguments.specs.declared.opened_files.files.FileError.TheVariants as file_error
+use Rattle.replay_arguments.specs.declared.opened_files.written.WrittenFile.{WrittenFile}
+use Rattle.replay_arguments.specs.declared.opened_files.written.WrittenFile.TheVariants.{Output, Summary}
 use Rattle.replay_arguments.specs.Opening.{IsFirstRefused, contents_each, creating_line, opening_line, written_line}
 use Rattle.replay_output.specs.declared.options.Options.{Options}
 use Rattle.replay_output.specs.declared.start.StartError.TheVariants as start

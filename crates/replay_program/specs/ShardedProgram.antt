@@ -10,8 +10,8 @@ use Rattle.replay_arguments.specs.declared.arguments.CommandLine.{CommandLine}
 use Rattle.replay_arguments.specs.declared.arguments.summary_file.SummaryFile.{SummaryFile}
 use Rattle.replay_arguments.specs.declared.arguments.task.Task.{Task}
 use Rattle.replay_arguments.specs.declared.arguments.task.Task.TheVariants as task
-use Rattle.replay_arguments.specs.declared.opening.OpeningError.TheVariants as opening
-use Rattle.replay_arguments.specs.declared.opening.written.WrittenFile.TheVariants.{Summary}
+use Rattle.replay_arguments.specs.declared.opened_files.OpeningError.TheVariants as opening
+use Rattle.replay_arguments.specs.declared.opened_files.written.WrittenFile.TheVariants.{Summary}
 use Rattle.replay_arguments.specs.Opening.{IsFirstRefused, contents_each, opening_line}
 use Rattle.replay_output.specs.declared.options.Options.{Options}
 use Rattle.replay_output.specs.declared.start.StartError.TheVariants as start
@@ -20,8 +20,8 @@ use Rattle.replay_output.specs.Start.{start_line}
 use Rattle.replay_shards.specs.Points.{ArePointLines}
 use Rattle.replay_shards.specs.Sampling.{AreFirstOf}
 use Rattle.replay_stream.specs.Sinks.{SinkState}
-use Rattle.replay_program.specs.declared.program.sharding.opened.ShardingError.{ShardingError}
-use Rattle.replay_program.specs.declared.program.sharding.opened.ShardingError.TheVariants as why
+use Rattle.replay_program.specs.declared.program.several_resolvers.opened.ShardingError.{ShardingError}
+use Rattle.replay_program.specs.declared.program.several_resolvers.opened.ShardingError.TheVariants as why
 use Rattle.replay_program.specs.declared.report.RunReport.{RunReport}
 use Rattle.replay_program.specs.Program.{
   AreRecorded,

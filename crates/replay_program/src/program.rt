@@ -20,14 +20,14 @@ mod comparison;
 mod environment;
 mod line;
 mod opened;
-mod printing;
-mod sharding;
-mod streaming;
+mod printed_answers;
+mod several_resolvers;
+mod streamed_answers;
 mod task;
 
 pub use environment::run_in;
 use line::run_line;
-use sharding::run_line_sharded;
+use several_resolvers::run_line_sharded;
 
 /// Runs the program on the words of its command line, of which the first is the program's name.
 /// Help is printed to `out`, and why words are refused to `error`. Else the files of batches are

@@ -3,25 +3,25 @@
 //!
 //! [`run_sharded`] does so over [`ShardedReaders`]: the readers of all files once per shard, the
 //! split points and a gatekeeper per shard. Each shard has a thread that turns its resolver, and a
-//! thread per file that clips its batches. No shard waits for another. Once all runs have ended, the
-//! answers to each proxy are combined by version. [`Combined`] has their lines, what failed, and the
-//! stop of the first shard that met one.
+//! thread per file that clips its batches. No shard waits for another. Once all runs have ended,
+//! the answers to each proxy are combined by version. [`Combined`] has their lines, what failed,
+//! and the stop of the first shard that met one.
 //!
-//! In reading order: `running`, `readers`, `runs`, `shard_run`, `combined`, `room`. What became of all
-//! files is `IsResolvedByShards`, in `specs/Sharded.antt`. The run of one shard is `IsRunOfShard`, in
-//! `specs/Runs.antt`.
+//! In reading order: `running`, `readers`, `runs`, `shard_run`, `combined`, `room`. What became of
+//! all files is `IsResolvedByShards`, in `specs/Sharded.antt`. The run of one shard is
+//! `IsRunOfShard`, in `specs/Runs.antt`.
 #![tactic(auto)]
 
 mod combined;
 mod readers;
 mod room;
-mod running;
 mod runs;
 mod shard_run;
+mod sharded_run;
 
 pub use combined::{Combined, combine_runs};
 pub use readers::ShardedReaders;
 pub use room::Room;
-pub use running::run_sharded;
 pub use runs::run_shards;
 pub use shard_run::ShardRun;
+pub use sharded_run::run_sharded;

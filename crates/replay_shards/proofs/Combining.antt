@@ -6,7 +6,7 @@ use Rattle.std.proofs.lemmas.List.Elements.{All-head, All-tail}
 use Rattle.std.proofs.lemmas.Slice.Zip.{all_zipped_more}
 use Rattle.keyspace.specs.declared.answer.Answer.{Answer}
 use Rattle.replay_shards.specs.declared.note.Note.{Note}
-use Rattle.replay_shards.specs.declared.matching.Matched.{Matched}
+use Rattle.replay_shards.specs.declared.answer_match.Matched.{Matched}
 use Rattle.replay_shards.specs.Matching.{IsComplete, match_of}
 use Rattle.replay_shards.specs.Merging.{IsOfMatch, Match}
 

@@ -7,7 +7,7 @@ use Rattle.keyspace.specs.declared.answer.Answer.{Answer}
 use Rattle.keyspace.specs.Answer.{version_of_answer}
 use Rattle.checking.specs.InOrder.{Rise}
 use Rattle.replay_shards.specs.declared.note.Note.{Note}
-use Rattle.replay_shards.specs.declared.matching.Matched.{Matched}
+use Rattle.replay_shards.specs.declared.answer_match.Matched.{Matched}
 use Rattle.replay_shards.specs.Matching.{IsComplete, match_all, match_of}
 use Rattle.replay_shards.specs.Merging.{AreMatched, AreMerged, IsOfMatch, Match}
 use Rattle.replay_shards.proofs.Matches.{matched_all}

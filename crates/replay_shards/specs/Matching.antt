@@ -3,8 +3,8 @@ use Rattle.std.specs.Prelude.{◌≡◌, ℕ, ℤ, List, [], ◌∷◌, ◌++◌
 use Rattle.std.specs.Ordering.{int_eq}
 use Rattle.keyspace.specs.declared.answer.Answer.{Answer}
 use Rattle.keyspace.specs.Answer.{version_of_answer}
-use Rattle.replay_shards.specs.declared.matching.Cursor.{Cursor}
-use Rattle.replay_shards.specs.declared.matching.Matched.{Matched}
+use Rattle.replay_shards.specs.declared.answer_match.Cursor.{Cursor}
+use Rattle.replay_shards.specs.declared.answer_match.Matched.{Matched}
 use Rattle.replay_shards.specs.Merging.{Match}
 
 abbrev pub match_of : Matched → Match

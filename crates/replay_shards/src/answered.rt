@@ -8,7 +8,7 @@ ghost use Rattle.replay_shards.specs.Answered.{AreAnswersTogether, AreKept, IsKe
 ghost use Rattle.replay_shards.specs.Answered.{sorted_answers, sorted_notes};
 ghost use Rattle.replay_shards.specs.Notes.{version_of_note};
 
-use crate::merging::merge_answers;
+use crate::merged_answers::merge_answers;
 use crate::note::Note;
 use checking::sort_by_version;
 use keyspace::Answer;

@@ -14,22 +14,22 @@
 #![tactic(auto)]
 
 mod answer;
+mod answer_match;
 mod answered;
 mod clips;
 mod entries;
 mod failures;
 pub mod laws;
-mod matching;
-mod merging;
+mod merged_answers;
 mod note;
 mod noted_reply;
 mod own_shard;
 mod points;
-mod sampling;
+mod sampled_points;
 
 pub use answered::{Answered, combine_answered};
 pub use clips::{Clips, clips_each};
 pub use failures::{ShardStop, failure_together, first_stop};
 pub use note::Note;
 pub use points::{PointsError, fail_to_read_points, read_points};
-pub use sampling::{SAMPLE, points_of_sample};
+pub use sampled_points::{SAMPLE, points_of_sample};

@@ -14,11 +14,11 @@ mod outlet;
 mod progress;
 mod proxies;
 mod recorder;
-mod running;
 mod sender;
+mod stream_run;
 mod streamed;
 mod threads;
 
 pub use recorder::Recorder;
-pub use running::run_stream;
+pub use stream_run::run_stream;
 pub use streamed::Streamed;

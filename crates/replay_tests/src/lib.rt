@@ -17,13 +17,13 @@ mod answers;
 #[cfg(test)]
 mod batches;
 #[cfg(test)]
-mod counting;
+mod counting_gatekeeper;
 #[cfg(test)]
 mod files;
 #[cfg(test)]
 mod lines;
 #[cfg(test)]
-mod meeting;
+mod meeting_proxies;
 #[cfg(test)]
 mod memory;
 #[cfg(test)]
@@ -37,7 +37,7 @@ mod rows;
 #[cfg(test)]
 mod runs;
 #[cfg(test)]
-mod sorting;
+mod sort_memory;
 #[cfg(test)]
 mod verdicts;
 #[cfg(test)]

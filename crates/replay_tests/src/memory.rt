@@ -1,6 +1,6 @@
 //! Runs that are refused memory: whichever one growth is refused, a run prints what it promises.
 
-use crate::counting::Counting;
+use crate::counting_gatekeeper::Counting;
 use crate::rows::{
     FIRST_RUN_IN_FRAMES, HELD_OVERTAKEN, HELD_REPEAT_ANSWERED_TWICE, REPORT_HISTORY_HITS,
     SECOND_FILE_CONTINUES_CHAIN, SNAPSHOT_AT_WRITE, TestRow,

@@ -4,7 +4,7 @@ use Rattle.keyspace.specs.declared.row.Row.{Row}
 use Rattle.wire.specs.declared.error.WireError.{WireError}
 use Rattle.wire.specs.declared.error.WireError.TheVariants.{Memory}
 use Rattle.wire.specs.Frames.{frames_reader, refusal_of}
-use Rattle.replay_workers.specs.declared.asking.AskingFrames.{AskingFrames}
+use Rattle.replay_workers.specs.declared.reporting_batches.AskingFrames.{AskingFrames}
 
 -- the row of the same transaction, which asks for its report
 abbrev pub asking_row : Row → Row

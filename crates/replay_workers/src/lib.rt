@@ -17,24 +17,24 @@
 //! `specs/Reporting.antt`.
 #![tactic(auto)]
 
-mod asking;
 mod batches;
 mod ends;
 mod gatekeeper;
 mod inbox;
 mod outcome;
+mod reporting_batches;
 mod rest;
-mod running;
 mod threads;
 mod watch;
 mod worker;
+mod workers_run;
 
-pub use asking::{AskingFrames, read_asking};
 pub use batches::Batches;
 pub use ends::MostUnanswered;
 pub use gatekeeper::{AlwaysOpen, Gatekeeper, ShareKeeper, Unshared};
 pub use outcome::RunOutcome;
+pub use reporting_batches::{AskingFrames, read_asking};
 pub use rest::pause;
-pub use running::{admit, run, run_observed, run_over};
 pub use watch::Watch;
 pub use worker::{Assignment, FileEnd, Finished, Leftover, work, work_over};
+pub use workers_run::{admit, run, run_observed, run_over};

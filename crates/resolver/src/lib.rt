@@ -24,20 +24,20 @@
 mod all_lanes;
 mod client;
 pub mod laws;
-mod opening;
 mod owed;
 mod proxy_lanes;
 mod resolver;
 mod resolver_core;
-mod sharing;
+mod resolver_opening;
+mod shares;
 mod stop;
 mod turn;
 
 pub use client::Client;
 pub use observer::{Observer, Unobserved};
-pub use opening::{open, open_at};
 pub use resolver::Resolver;
 pub use resolver_core::{Core, MAX_PROXIES};
-pub use sharing::share;
+pub use resolver_opening::{open, open_at};
+pub use shares::share;
 pub use stop::{OpenError, Stop};
 pub use turn::{Account, Turn};

@@ -24,7 +24,7 @@ ghost use Rattle.resolver.specs.Share.{share_of, HasMoreUnanswered};
 ghost use Rattle.resolver.specs.Turns.{Turns};
 ghost use Rattle.resolver.specs.Settled.{SettledFrom, IsComplete};
 
-mod turning;
+mod turn_steps;
 
 use crate::all_lanes;
 use crate::client::Client;

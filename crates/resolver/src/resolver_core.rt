@@ -15,7 +15,7 @@ ghost use Rattle.resolver.specs.Admits.{Admits};
 ghost use Rattle.resolver.specs.Observed.{HasSeen};
 ghost use Rattle.resolver.specs.OpeningLog.{opening_log};
 
-mod answering;
+mod core_answers;
 mod opened;
 
 use crate::owed::Owed;

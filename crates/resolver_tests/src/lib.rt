@@ -30,9 +30,9 @@ mod rows;
 #[cfg(test)]
 mod rows_over_lanes;
 #[cfg(test)]
-mod service;
+mod served_proxies;
 #[cfg(test)]
-mod serving;
+mod service;
 #[cfg(test)]
 mod set;
 #[cfg(test)]

@@ -11,29 +11,29 @@
 //! that a shard gets (`Clips`), and the combined reply (`Combined`).
 #![tactic(auto)]
 
-mod balancing;
+mod balanced_points;
+mod clip_calls;
 mod clipped;
-mod clipping;
-mod combining;
+mod combined_replies;
 mod error;
 mod headed_key;
 mod in_place;
 pub mod laws;
-mod numbering;
 mod reach;
 mod read_indices;
+mod read_numbers;
 mod shard_ends;
 mod shard_reply;
 mod shard_tables;
 mod split_points;
 
-pub use balancing::balanced;
+pub use balanced_points::balanced;
+pub use clip_calls::{clip, clip_all};
 pub use clipped::Clipped;
-pub use clipping::{clip, clip_all};
-pub use combining::combine;
+pub use combined_replies::combine;
 pub use error::{BalanceError, CombineError, Misfit, SplitPointsError};
 pub use in_place::clip_in_place;
-pub use numbering::number_all;
 pub use read_indices::ReadIndices;
+pub use read_numbers::number_all;
 pub use shard_reply::ShardReply;
 pub use split_points::{MAX_SPLIT_POINTS, SplitPoints};

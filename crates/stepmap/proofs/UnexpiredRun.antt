@@ -10,7 +10,7 @@ use Rattle.arena.specs.Arena.{Arena, IsLive, key_at}
 use Rattle.keys.specs.Key.{is_before, IsBefore}
 use Rattle.keys.proofs.callers.Booleans.{and_right, false_unless, not_both_ways}
 use Rattle.keys.proofs.callers.KeyOrder.{not_before_if}
-use Rattle.tree.specs.declared.expiring.Removal.{Removal}
+use Rattle.tree.specs.declared.expiry.Removal.{Removal}
 use Rattle.tree.specs.Heads.{AllAreHeads}
 use Rattle.tree.specs.Item.{Item}
 use Rattle.tree.specs.Path.{IsPartitioned, items_below, following}

@@ -15,9 +15,10 @@
 #![tactic(auto)]
 
 mod boundaries;
-mod bounding;
-mod copying;
+mod boundary_copy;
+mod boundary_sweep;
 mod error;
+mod filter_bounds;
 mod key_bound;
 mod key_lengths;
 pub mod laws;
@@ -27,7 +28,6 @@ mod questions;
 mod release;
 mod single;
 mod step_map;
-mod sweeping;
 
 pub use error::StepError;
 pub use key_lengths::KeyLengths;

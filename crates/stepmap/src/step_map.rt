@@ -15,9 +15,9 @@ ghost use Rattle.stepmap.specs.Covers.{SameFrom, MapCovers, IsAbove};
 ghost use Rattle.stepmap.specs.Rooted.{Ends, Rooted};
 ghost use Rattle.stepmap.specs.Counting.{live_count};
 
-mod answering;
+mod query_answers;
 mod room;
-mod trimming;
+mod trimmed_memory;
 
 use crate::boundaries::Boundaries;
 use crate::error::StepError;

@@ -3,7 +3,7 @@ pub use Rattle.arena.specs.Arena.{Arena, Record, IsLive, record_at, key_at, spar
 pub use Rattle.tree.specs.declared.approach.Approach.{Approach}
 pub use Rattle.tree.specs.declared.approach.Approach.TheVariants.{Leaf, Clear, Open}
 pub use Rattle.tree.specs.declared.entry.NodeEntry.{NodeEntry}
-pub use Rattle.tree.specs.declared.expiring.Removal.{Removal}
+pub use Rattle.tree.specs.declared.expiry.Removal.{Removal}
 pub use Rattle.tree.specs.declared.node.Node.{Node}
 pub use Rattle.tree.specs.declared.node.TheConstants.{PADDING}
 pub use Rattle.tree.specs.declared.overwrite.OverwriteResult.{OverwriteResult}

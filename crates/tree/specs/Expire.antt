@@ -1,7 +1,7 @@
 -- What becomes of a run of items that is swept of expired items. This project's own.
 use Rattle.std.specs.Prelude.{◌≡◌, ◌≢◌, ◌≤◌, ◌≤ℤ◌, ◌++◌, ◌∷◌, ℕ, ℤ, Bool, List, [], length, map, Option}
 use Rattle.tree.specs.declared.entry.NodeEntry.{NodeEntry}
-use Rattle.tree.specs.declared.expiring.Removal.{Removal}
+use Rattle.tree.specs.declared.expiry.Removal.{Removal}
 use Rattle.tree.specs.Heads.{AllAreHeads, KeyBytes}
 use Rattle.tree.specs.Item.{Item}
 use Rattle.tree.specs.Path.{IsPartitioned, items_below, following, first_key}

@@ -11,7 +11,7 @@ mod bound;
 mod children;
 mod descent;
 mod entry;
-mod expiring;
+mod expiry;
 mod greatest_version;
 mod node;
 mod overwrite;
@@ -28,7 +28,7 @@ mod walk;
 
 pub use bound::Bound;
 pub use entry::NodeEntry;
-pub use expiring::Removal;
+pub use expiry::Removal;
 pub use overwrite::{Overwrite, OverwriteResult};
 pub use question::{Question, SIDE};
 pub use tree::{Tree, item};

@@ -14,7 +14,7 @@ ghost use Rattle.tree.specs.Tree.{CanSearchItems, IsLast, tree_heads, KnowItems,
 
 use crate::bound::Bound;
 use crate::entry::NodeEntry;
-use crate::expiring::{Expiring, Removal};
+use crate::expiry::{Expiring, Removal};
 use crate::greatest_version::greatest;
 use crate::node::Node;
 use crate::overwrite::{Overwrite, OverwriteResult};

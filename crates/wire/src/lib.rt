@@ -37,8 +37,8 @@ mod sink;
 mod source;
 mod tables;
 mod txn;
-mod upgrading;
 mod version;
+mod version_upgrade;
 
 pub use batch::decode_batch;
 pub use encode::{encode_batch, encode_batch_1, encode_reply};
@@ -51,5 +51,5 @@ pub use reply_frames::read_reply;
 pub use single::{MAX_SINGLE_KEY_LENGTH, is_single_key};
 pub use sink::{Sink, StdSink, write_all, write_and_flush};
 pub use source::{Failed, Source, StdSource};
-pub use upgrading::upgrade;
 pub use version::WireVersion;
+pub use version_upgrade::upgrade;

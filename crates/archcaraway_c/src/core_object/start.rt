@@ -11,7 +11,7 @@ ghost use Rattle.archcaraway_c.specs.Starts.{IsNextOwed};
 use super::CoreObject;
 use crate::numbers::are_set_numbers;
 use crate::refusal::Refusal;
-use crate::waiting::nothing_waits;
+use crate::waiting_answers::nothing_waits;
 use resolver::{Core, MAX_PROXIES, Stop};
 use std::alloc::Global;
 

@@ -15,11 +15,11 @@ ghost use Rattle.conflict.specs.ConflictSet.{raised, HasRoomToWrite, HasNoRoomTo
 ghost use Rattle.conflict.specs.Pace.{IsPaced};
 
 use super::{ConflictSet, edge_of};
+use crate::batch_writes::write_batch;
 use crate::error::SetStop;
-use crate::judging::judge_batch;
+use crate::judgement::judge_batch;
 use crate::scratch::Scratch;
 use crate::when_full::WhenFull;
-use crate::writing::write_batch;
 use keyspace::{Batch, Reply, Sequence};
 use std::alloc::Global;
 use stepmap::StepMap;

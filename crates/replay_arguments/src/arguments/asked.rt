@@ -8,9 +8,9 @@ ghost use Rattle.replay_arguments.specs.Arguments.{HasNumbers, HoldsNumbers, IsO
 use crate::arguments::details::{Details, details_of};
 use crate::arguments::mistake::Mistake;
 use crate::arguments::names::{Names, names_of};
-use crate::arguments::printing::{Printing, printing_of};
-use crate::arguments::reporting::reports_of;
-use crate::arguments::sharding::{Sharding, sharding_of};
+use crate::arguments::print_options::{Printing, printing_of};
+use crate::arguments::report_options::reports_of;
+use crate::arguments::shard_options::{Sharding, sharding_of};
 use clap::ArgMatches;
 use replay_output::{Options, Reports, Style};
 

@@ -13,7 +13,7 @@ ghost use Rattle.replay_arguments.specs.Command.{verbose_rule, versions_rule, wi
 ghost use Rattle.replay_arguments.specs.Command.{with_files, with_printing, with_resolving};
 
 use crate::arguments::details::MAX_TOP;
-use crate::arguments::sharding::MAX_RESOLVERS;
+use crate::arguments::shard_options::MAX_RESOLVERS;
 use clap::builder::ValueParser;
 use clap::{Arg, ArgAction, Command};
 use conflict::MAX_WINDOW;

@@ -8,7 +8,7 @@ ghost use Rattle.replay_arguments.specs.Arguments.{HoldsSummary};
 ghost use Rattle.replay_arguments.specs.Arguments.{HoldsTop, HoldsVerbose, IsSummarized, IsTopOf};
 
 use crate::arguments::mistake::Mistake;
-use crate::arguments::printing::Printing;
+use crate::arguments::print_options::Printing;
 use clap::ArgMatches;
 
 /// The greatest number that `--top` takes.

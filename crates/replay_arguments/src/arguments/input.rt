@@ -5,7 +5,7 @@ ghost use Rattle.clap.specs.Words.{found_of, rows_of};
 ghost use Rattle.replay_arguments.specs.Arguments.{HasInputOnce, count_inputs, inputs_in};
 ghost use Rattle.replay_arguments.specs.Arguments.{inputs_of};
 
-use crate::opening::STANDARD_INPUT;
+use crate::opened_files::STANDARD_INPUT;
 use clap::ArgMatches;
 
 /// Returns whether standard input is named at most once, among the files, the files of replies and

@@ -7,7 +7,7 @@ ghost use Rattle.replay_arguments.specs.KeptInputs.{has_written_input, is_among,
 ghost use Rattle.replay_arguments.specs.KeptInputs.{is_read_if_any, named};
 ghost use Rattle.replay_arguments.specs.Names.{texts};
 
-use crate::opening::STANDARD_INPUT;
+use crate::opened_files::STANDARD_INPUT;
 use clap::ArgMatches;
 
 /// Returns whether a file that is written is one of those that are read. Names are compared as

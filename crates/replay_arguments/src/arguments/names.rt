@@ -11,7 +11,7 @@ ghost use Rattle.replay_arguments.specs.Arguments.{NamesNothing, named};
 use crate::arguments::input::has_input_once;
 use crate::arguments::kept_inputs::writes_input;
 use crate::arguments::mistake::Mistake;
-use crate::arguments::printing::Printing;
+use crate::arguments::print_options::Printing;
 use crate::arguments::summary_file::{SummaryFile, summary_file};
 use clap::ArgMatches;
 use replay_output::Form;

@@ -5,7 +5,7 @@ ghost use Rattle.clap.specs.Words.{found_of, rows_of};
 ghost use Rattle.replay_arguments.specs.Arguments.{AsksForAll, HasSummary, HoldsForm, HoldsStream};
 ghost use Rattle.replay_arguments.specs.Arguments.{HoldsSummary, IsAlone, summary_form};
 
-use crate::arguments::filtering::is_filtered;
+use crate::arguments::filter_options::is_filtered;
 use clap::ArgMatches;
 use replay_output::Form;
 use replay_summary::SummaryForm;

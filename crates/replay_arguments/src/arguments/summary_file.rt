@@ -6,7 +6,7 @@ ghost use Rattle.replay_arguments.specs.Arguments.{HasSummaryFile, HoldsExplain,
 ghost use Rattle.replay_arguments.specs.Arguments.{HoldsStream, HoldsSummary, HoldsSummaryFile};
 ghost use Rattle.replay_arguments.specs.Arguments.{IsBeside};
 
-use crate::arguments::printing::Printing;
+use crate::arguments::print_options::Printing;
 use crate::arguments::summary::form_alone;
 use clap::ArgMatches;
 use replay_summary::SummaryForm;

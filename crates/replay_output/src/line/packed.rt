@@ -7,14 +7,14 @@ ghost use Rattle.std.specs.Io.{WritesAtMost};
 ghost use Rattle.std.specs.Io.KnownBytes.{Appends, Keeps, WriteAppends};
 ghost use Rattle.replay_output.specs.Packed.{word_text};
 
-use spelling::print_units;
 use std::alloc::{AllocError, Global};
 use std::io;
 use std::io::{Error, ErrorKind, Write};
 use std::marker::Model;
+use unit_text::print_units;
 use wire::{Failed, Sink};
 
-mod spelling;
+mod unit_text;
 mod word;
 
 pub use word::Word;

@@ -3,8 +3,8 @@
 ghost use Rattle.std.specs.Prelude.{◌≡◌};
 ghost use Rattle.replay_output.specs.LineFilter.{all_lines};
 
-use crate::options::filtering::LineFilter;
 use crate::options::form::Form;
+use crate::options::line_filter::LineFilter;
 
 /// How the answers of a run are printed.
 #[derive(Clone, Copy, Debug, PartialEq, Eq)]

@@ -1,6 +1,6 @@
 use Rattle.std.proofs.Common.{ℤ, SFits, w64, rules, subst, sym}
 use Rattle.std.proofs.lemmas.Int.{to_z-of_z}
-use Rattle.replay_diagnosis.specs.declared.finding.RunFinding.TheVariants.{AllHeld}
+use Rattle.replay_diagnosis.specs.declared.run_findings.RunFinding.TheVariants.{AllHeld}
 use Rattle.replay_program.specs.Verbose.{IsGateFinding}
 use Rattle.replay_program.proofs.verbose.gate_finding.Goals as goal
 

@@ -1,7 +1,7 @@
 use Rattle.std.proofs.Common.{◌∙◌, List, ℕ, Bor, Err, ap, arith, length, refl, subst}
 use Rattle.std.proofs.lemmas.List.{length-map}
 use Rattle.std.specs.List.{All}
-use Rattle.replay_arguments.specs.declared.opening.OpeningError.TheVariants as opening
+use Rattle.replay_arguments.specs.declared.opened_files.OpeningError.TheVariants as opening
 use Rattle.replay_arguments.specs.Opening.{IsFirstRefused, contents_each}
 use Rattle.replay_program.specs.Program.{texts}
 use Rattle.replay_program.proofs.Writers.{same_error}

@@ -6,7 +6,7 @@ use Rattle.wire.specs.Frames.{frames_reader}
 use Rattle.wire.specs.NextFrame.{TakesFrame}
 use Rattle.replay_output.specs.declared.options.reports.Reports.{Reports}
 use Rattle.replay_output.specs.declared.options.reports.Reports.TheVariants.{Asked, All}
-use Rattle.replay_workers.specs.declared.asking.AskingFrames.{AskingFrames}
+use Rattle.replay_workers.specs.declared.reporting_batches.AskingFrames.{AskingFrames}
 use Rattle.replay_workers.specs.Asking.{asking_reader}
 use Rattle.replay_workers.specs.Reporting.{SendsFrames, TakesResolved}
 use Rattle.replay_workers.specs.Worker.{IsFaultAt, fault_of, unsent_of}
