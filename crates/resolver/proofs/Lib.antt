@@ -32,5 +32,5 @@ pub mod Connected
 pub mod Settling
 pub mod Unchanged
 pub mod Accounts
-pub mod Shares
+pub mod HeldShares
 pub mod Windows

@@ -1,4 +1,4 @@
-use Rattle.resolver.proofs.Shares.{within_share}
+use Rattle.resolver.proofs.HeldShares.{within_share}
 use Rattle.resolver.proofs.laws.within_share.Goals as goal
 
 pub returns : goal.returns

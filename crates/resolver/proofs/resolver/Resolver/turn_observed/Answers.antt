@@ -10,7 +10,7 @@ use Rattle.resolver.specs.OpeningLog.{log_from}
 use Rattle.resolver.specs.Resolver.{TakesFrom, TakesNoStep, StepsBy, IsThrough, IfNotTaken}
 use Rattle.resolver.proofs.Turning.{TakesFrom-on, Finishes-on, TakesNoStep-on, looked_on, full_on, lanes_on, reported, StepsBy-reported, IfNotTaken-reported, took-reported, all_looked_on, stopped_on, stop_met_on, done_means, done_where, closed_by, answers_over, stops_on, same_set, sees_taken_on, sees_finish_on, sees_nothing_on}
 use Rattle.resolver.proofs.Resolving.{resolving_turned, resolving_stopped}
-use Rattle.resolver.proofs.Shares.{beyond_share}
+use Rattle.resolver.proofs.HeldShares.{beyond_share}
 use Rattle.resolver.proofs.Stops.{same_stop, OnErr-always}
 use Rattle.resolver.specs.declared.stop.Stop.TheVariants as stop
 use Rattle.resolver.proofs.resolver.Resolver.turn_observed.Given.{Over}
