@@ -10,7 +10,7 @@ put_down : {X : Type 0} (p : X → Bool) (xs ys : List X) (k i : ℕ) (x : X) �
 put_down p xs ys k i x was before = record {
   front = take-set ys k x ∙ was.front;
   rest = drop-set-lt i ys k x before ∙ was.rest;
-  after = was.after;
+  behind = was.behind;
   within = was.within;
   long = length-set ys k x ∙ was.long;
 }
@@ -22,7 +22,7 @@ chosen_more p xs ys k i more x was within is counted = elim (p x) as (λ b. p x 
     → FiltersInPlace p xs (set ys k x) (k + more) (i + 1)) [
       | true ↦ λ e one. rw one (FiltersInPlace-more_set was within e is)
       | false ↦ λ e none.
-          let next = put_down p xs ys k (i + 1) x (FiltersInPlace-more_no was within e is) (omega (arith, was.after)) in
+          let next = put_down p xs ys k (i + 1) x (FiltersInPlace-more_no was within e is) (omega (arith, was.behind)) in
           let same : k ≡ k + more = omega (arith, none) in
           subst (λ n. FiltersInPlace p xs (set ys k x) n (i + 1)) same next
     ] refl counted
