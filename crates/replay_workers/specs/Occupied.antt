@@ -38,7 +38,7 @@ pub record IsOccupancyOver (limit : ℕ) (window : ℤ) (log : List Step) (occup
   -- as many as there were at most, there were after this number of steps
   pub steps : ℕ
   pub most_boundaries : HasBoundaries limit window (take steps log) occupancy.most_boundaries
-  -- after no number of steps there were more
+  -- after each number of steps, some such set has at most that many
   pub none_more : (n : ℕ) → (count : ℕ) × HasBoundaries limit window (take n log) count × (count ≤ occupancy.most_boundaries)
   pub at_most : occupancy.boundaries ≤ occupancy.most_boundaries
   pub within : occupancy.most_boundaries ≤ limit
