@@ -31,7 +31,7 @@ less_further a b c within = grind (arith, ints, within)
 pub remembers_window : (core : CoreState) → IsCore core → IsSet core.set → RemembersWindow core
 remembers_window core are is none =
     let set = core.set in
-    let open = are.takes_more none in
+    let resolves = are.takes_more none in
     let rises = max_rises (set.resolved -ℤ set.window) (core.version -ℤ set.window)
-    (less_further set.resolved core.version set.window (are.resolved open)) in
-    subst (λ (edge : ℤ). edge ≤ℤ int_max (core.version -ℤ set.window) (pos 0)) (sym (is.edge open)) rises
+    (less_further set.resolved core.version set.window (are.resolved resolves)) in
+    subst (λ (edge : ℤ). edge ≤ℤ int_max (core.version -ℤ set.window) (pos 0)) (sym (is.edge resolves)) rises
