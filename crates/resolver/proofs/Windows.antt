@@ -24,7 +24,7 @@ max_rises c d h = go (int_lt (pos 0) c) (int_lt (pos 0) d) refl refl
     go false true e f = natural_above d f
     go false false e f = at_most_itself (pos 0)
 
-less_further : (a b c : ℤ) → a ≤ℤ b → a -ℤ c ≤ℤ b -ℤ c
+less_further : (a b c : ℤ) → a ≤ℤ b → (a -ℤ c) ≤ℤ (b -ℤ c)
 less_further a b c within = grind (arith, ints, within)
 
 -- its edge is no later than that of its version
