@@ -9,7 +9,7 @@ ghost use Rattle.std.specs.Prelude.{◌≡◌, ◌<◌, ◌⊎◌, ℕ, IsErr, L
 ghost use Rattle.std.specs.Io.KnownBytes.{Appends};
 ghost use Rattle.replay_output.specs.Start.{start_line};
 ghost use Rattle.replay_program.specs.Ended.{IsQuiet};
-ghost use Rattle.replay_program.specs.Replayed.{written};
+ghost use Rattle.replay_tasks.specs.Replayed.{written};
 
 mod disk;
 mod known_files;

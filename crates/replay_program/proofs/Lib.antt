@@ -1,7 +1,3 @@
-pub mod Reporting
-pub mod Replaying
-pub mod Meeting
-pub mod Measuring
 pub mod Saying
 pub mod Unopened
 pub mod Streaming
@@ -9,11 +5,3 @@ pub mod Writers
 pub mod Programs
 pub mod ShardingEnds
 pub mod ShardingFiles
-pub mod ReadingReplies
-pub mod KeptReplies
-pub mod Noting
-pub mod Ranges
-pub mod Beside
-pub mod Explaining
-pub mod Counting
-pub mod ShardedRuns

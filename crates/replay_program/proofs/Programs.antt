@@ -41,7 +41,7 @@ use Rattle.replay_program.specs.Program.{
   ReportsLine,
   texts,
 }
-use Rattle.replay_program.specs.Replayed.{HasFailed, Took, Written, written}
+use Rattle.replay_tasks.specs.Replayed.{HasFailed, Took, Written, written}
 use Rattle.replay_program.specs.ShardedProgram.{RegularFiles}
 use Rattle.replay_stream.specs.declared.recorder.Recorder.{Recorder}
 use Rattle.replay_stream.specs.Sinks.{SinkState}

@@ -13,9 +13,9 @@ use Rattle.replay_diagnosis.specs.declared.run_findings.RunFinding.TheVariants a
 use Rattle.replay_diagnosis.specs.Content.{FoundIn}
 use Rattle.replay_diagnosis.specs.Following.{Follows, HasLeast, NoneBegins, NoneFollowsBelow}
 use Rattle.replay_diagnosis.specs.Remedy.{run_remedy_line}
-use Rattle.replay_program.specs.Replayed.{HasFailed, Took, TookPrefix, Written}
-use Rattle.replay_program.specs.Summarized.{TookUnlessFailed}
-use Rattle.replay_program.specs.declared.met.Met.{Met}
+use Rattle.replay_tasks.specs.Replayed.{HasFailed, Took, TookPrefix, Written}
+use Rattle.replay_tasks.specs.Summarized.{TookUnlessFailed}
+use Rattle.replay_tasks.specs.declared.met.Met.{Met}
 use Rattle.replay_program.specs.Verbose.{AreBatches, AreExamined, HaveBatches, IsExplained, IsFoundIn, IsFoundOf, IsGateFinding, IsOfFile, IsOfRun, SaysHeld}
 
 -- one line was written, or a prefix of it, or nothing

@@ -16,13 +16,13 @@ use Rattle.replay_output.specs.declared.options.Options.{Options}
 use Rattle.replay_output.specs.declared.start.StartError.TheVariants as start
 use Rattle.replay_output.specs.Quieted.{quieted}
 use Rattle.replay_stream.specs.Sinks.{SinkState}
-use Rattle.replay_program.specs.declared.met.Met.{Met}
+use Rattle.replay_tasks.specs.declared.met.Met.{Met}
 use Rattle.replay_program.specs.declared.program.several_resolvers.opened.ShardingError.TheVariants as why
 use Rattle.replay_program.specs.declared.report.RunReport.{RunReport}
 use Rattle.replay_program.specs.Ended.{EndsAs}
 use Rattle.replay_program.specs.Program.{DidNotCreateFile, NamedFiles, ReportsLine, texts}
-use Rattle.replay_program.specs.Replayed.{Written}
-use Rattle.replay_program.specs.Sharded.{HasMetByShards, MetStopByShards}
+use Rattle.replay_tasks.specs.Replayed.{Written}
+use Rattle.replay_tasks.specs.Sharded.{HasMetByShards, MetStopByShards}
 use Rattle.replay_program.specs.ShardedProgram.{
   AreNotPrintedByShards,
   ArePrintedByShards,

@@ -29,10 +29,12 @@ use Rattle.replay_stream.specs.Sinks.{SinkState, Takes}
 use Rattle.replay_stream.specs.Streaming.{HasRecords, HaveRecords, IsStreamed, Recorded, recorded_each}
 use Rattle.replay_workers.specs.Reporting.{TakesFrames}
 use Rattle.replay_workers.proofs.callers.Lists.{all_at, found}
-use Rattle.replay_program.specs.Replayed.{HasFailed, Took, Written, ending_of}
+use Rattle.replay_tasks.specs.declared.met.Met.{Met}
+use Rattle.replay_tasks.specs.Met.{HasMet, MetStop, ReportsStop}
+use Rattle.replay_tasks.specs.Replayed.{HasFailed, Took, Written, ending_of}
 use Rattle.replay_program.specs.Streamed.{IsStreamDone, StreamedAndFailed, state_after, state_before, unwritten_each}
-use Rattle.replay_program.proofs.Replaying.{complete_from}
-use Rattle.replay_program.proofs.Reporting.{all_said, each_said, from_one, value_at}
+use Rattle.replay_tasks.proofs.callers.Replaying.{complete_from}
+use Rattle.replay_tasks.proofs.callers.Reporting.{all_said, each_said, from_one, value_at}
 
 not_write : (f : Option AnswerError) → is_unwritten f ≡ false → f ≢ Some Write
 not_write f none is = false≢true (sym none ∙ ap is_unwritten is)
@@ -217,3 +219,24 @@ module _ {W : Type 0} (state_of : W → SinkState) (options : Options) (files : 
       why_of : (reported : Result T E) → (IsErr reported → HasFailed error) → (IsOk reported → ⊥) → HasFailed error
       why_of (Ok u) failed not_ok = absurd (not_ok refl)
       why_of (Err e) failed not_ok = failed refl
+
+-- what a run met whose answers were printed as they came: its version isn't known
+pub stream_has_met : (options : Options) (files : List (Option (List ℕ))) (has_writer : List Bool) (before after : SinkState)
+    (failed : Bool) (failures : List ProxyFailure) (recorded : List (Option Recorded)) (complete : Bool) (stop : Option Stop)
+    (error : Written) → IsStreamed options files has_writer before after failed failures recorded complete stop
+    → ((s : Stop) → stop ≡ Some s → ReportsStop s error)
+    → HasMet options files (record { stop = stop; version = None; output_failed = failed }) error
+stream_has_met options files has_writer before after failed failures recorded complete None error streamed reported = tt
+stream_has_met options files has_writer before after failed failures recorded complete (Some s) error streamed reported =
+    let met : MetStop options files s None = record {
+      log = streamed.log;
+      proxies = streamed.proxies;
+      each_file = λ proxy bytes at.
+          let failure = found files failures proxy bytes streamed.failures_count at in
+          let r = found files recorded proxy bytes streamed.recorded_count at in
+          let one = streamed.each proxy bytes failure.0 r.0 at failure.1 r.1 in
+          (one.read, one.left, one.frames_read, one.batches);
+      met = streamed.met;
+      reached = tt;
+    } in
+    (met, reported s refl)

@@ -5,12 +5,12 @@ use Rattle.std.proofs.lemmas.Bool.{false≢true}
 use Rattle.resolver.specs.declared.stop.Stop.{Stop}
 use Rattle.replay_arguments.specs.declared.arguments.CommandLine.{CommandLine}
 use Rattle.replay_stream.specs.Sinks.{SinkState}
-use Rattle.replay_program.specs.declared.met.Met.{Met}
+use Rattle.replay_tasks.specs.declared.met.Met.{Met}
 use Rattle.replay_program.specs.declared.program.several_resolvers.opened.ShardingError.{ShardingError}
 use Rattle.replay_program.specs.declared.report.RunReport.{RunReport}
 use Rattle.replay_program.specs.Program.{NamedFiles, SaysFurther, ReportsLine, bytes_of, texts}
-use Rattle.replay_program.specs.Replayed.{Written, written}
-use Rattle.replay_program.specs.Sharded.{HasMetByShards, MetStopByShards}
+use Rattle.replay_tasks.specs.Replayed.{Written, written}
+use Rattle.replay_tasks.specs.Sharded.{HasMetByShards, MetStopByShards}
 use Rattle.replay_program.specs.ShardedProgram.{ArePointsOf, IsWhyNotSharded, LineFailsAndSaysByShards, RegularFiles, ReportsCause}
 
 -- nothing more is said

@@ -11,7 +11,7 @@ use Rattle.replay_stream.specs.Sinks.{SinkState}
 use Rattle.replay_output.specs.declared.options.Options.{Options}
 use Rattle.replay_output.specs.declared.start.StartError.TheVariants as start
 use Rattle.replay_program.specs.Program.{AreWriters, DidNotCreate, HaveWriters, StreamsAndFails, ReportsLine}
-use Rattle.replay_program.specs.Replayed.{DidNotStart, Written}
+use Rattle.replay_tasks.specs.Replayed.{DidNotStart, Written}
 use Rattle.replay_program.specs.Streamed.{FailsToStream}
 
 -- so many places, of which the first have these items

@@ -9,7 +9,7 @@ use Rattle.replay_output.specs.Start.{start_line}
 use Rattle.replay_stream.specs.Sinks.{SinkState}
 use Rattle.replay_program.specs.declared.report.RunReport.{RunReport}
 use Rattle.replay_program.specs.Program.{EndsQuietly, IsLineDone, LineFailsAndSays, LineFindsDifferences, NamedFiles, ReportsLine}
-use Rattle.replay_program.specs.Replayed.{HasFailed, Took, Written}
+use Rattle.replay_tasks.specs.Replayed.{HasFailed, Took, Written}
 use Rattle.replay_program.specs.ShardedProgram.{
   IsLineDoneByShards,
   LineFailsAndSaysByShards,

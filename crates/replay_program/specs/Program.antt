@@ -17,16 +17,16 @@ use Rattle.replay_output.specs.declared.options.Options.{Options}
 use Rattle.replay_output.specs.declared.start.StartError.TheVariants as start
 use Rattle.replay_output.specs.Quieted.{quieted}
 use Rattle.replay_output.specs.Start.{start_line}
-use Rattle.replay_program.specs.declared.check.replies.RepliesError.{RepliesError}
-use Rattle.replay_program.specs.declared.met.Met.{Met}
+use Rattle.replay_tasks.specs.declared.check.replies.RepliesError.{RepliesError}
+use Rattle.replay_tasks.specs.declared.met.Met.{Met}
 use Rattle.replay_program.specs.declared.report.RunReport.{RunReport}
-use Rattle.replay_program.specs.Checked.{TakesToCompare, check_lines}
-use Rattle.replay_program.specs.Explained.{FailsToExplain, IsReplayedWithExplanations}
-use Rattle.replay_program.specs.Met.{HasMet}
-use Rattle.replay_program.specs.Replayed.{DidNotStart, FailsToPrint, FailsToReplay, HasFailed, IsChecked, IsReplayed, Took, Written, written}
-use Rattle.replay_program.specs.Replies.{IsCauseOf, IsReplyFile, replies_line}
+use Rattle.replay_tasks.specs.Checked.{TakesToCompare, check_lines}
+use Rattle.replay_tasks.specs.Explained.{FailsToExplain, IsReplayedWithExplanations}
+use Rattle.replay_tasks.specs.Met.{HasMet}
+use Rattle.replay_tasks.specs.Replayed.{DidNotStart, FailsToPrint, FailsToReplay, HasFailed, IsChecked, IsReplayed, Took, Written, written}
+use Rattle.replay_tasks.specs.Replies.{IsCauseOf, IsReplyFile, replies_line}
 use Rattle.replay_program.specs.Streamed.{IsStreamDone, StreamedAndFailed}
-use Rattle.replay_program.specs.Summarized.{FailsToReplayAndSummarize, FailsToSummarize, IsReplayedAndSummarized, IsSummarized}
+use Rattle.replay_tasks.specs.Summarized.{FailsToReplayAndSummarize, FailsToSummarize, IsReplayedAndSummarized, IsSummarized}
 use Rattle.replay_program.specs.Verbose.{IsExplained, SaysHeld}
 use Rattle.replay_stream.specs.declared.recorder.Recorder.{Recorder}
 use Rattle.replay_stream.specs.Sinks.{SinkState}

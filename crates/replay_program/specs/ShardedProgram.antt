@@ -36,8 +36,8 @@ use Rattle.replay_program.specs.Program.{
   bytes_of,
   texts,
 }
-use Rattle.replay_program.specs.Replayed.{DidNotStart, HasFailed, Written, written}
-use Rattle.replay_program.specs.Sharded.{
+use Rattle.replay_tasks.specs.Replayed.{DidNotStart, HasFailed, Written, written}
+use Rattle.replay_tasks.specs.Sharded.{
   FailsToCheckByShards,
   FailsToReplayAndSummarizeByShards,
   FailsToReplayByShards,

@@ -15,7 +15,7 @@ use Rattle.replay_stream.specs.declared.recorder.Recorder.{Recorder}
 use Rattle.replay_stream.specs.Recorder.{is_unwritten, unwritten_cause}
 use Rattle.replay_stream.specs.Sinks.{SinkState, Takes}
 use Rattle.replay_stream.specs.Streaming.{HaveRecords, IsStreamed, Recorded, recorded_each}
-use Rattle.replay_program.specs.Replayed.{DidNotStart, HasFailed, IsReplayedBy, Took, Written, ending_of}
+use Rattle.replay_tasks.specs.Replayed.{DidNotStart, HasFailed, IsReplayedBy, Took, Written, ending_of}
 
 -- The text is the lines of these answers, each if it is shown: those of each proxy are all of its answers, in order. The lines of
 -- different proxies may alternate in any way.

@@ -11,9 +11,9 @@ use Rattle.replay_diagnosis.specs.declared.run_findings.RunFinding.TheVariants a
 use Rattle.replay_diagnosis.specs.Content.{FoundIn}
 use Rattle.replay_diagnosis.specs.Following.{Follows, HasLeast, NoneBegins, NoneFollowsBelow}
 use Rattle.replay_diagnosis.specs.Remedy.{remedy_line, run_remedy_line}
-use Rattle.replay_program.specs.declared.met.Met.{Met}
-use Rattle.replay_program.specs.Replayed.{Written}
-use Rattle.replay_program.specs.Summarized.{TookUnlessFailed}
+use Rattle.replay_tasks.specs.declared.met.Met.{Met}
+use Rattle.replay_tasks.specs.Replayed.{Written}
+use Rattle.replay_tasks.specs.Summarized.{TookUnlessFailed}
 
 -- the bytes are the frames of these batches, and nothing else
 abbrev pub AreBatches : Option (List ℕ) → List Batch → Type 0

@@ -2,35 +2,20 @@
 //! compared with recorded replies.
 //!
 //! [`run`] is the program `replay` over any words, files and streams, and [`run_in`] takes the
-//! words from an environment. Both are in `program`. `replay` does all that follows the opening of
-//! the files if the answers are printed, `explain` if their rejections are explained too, `check`
-//! if they are compared, and `summary` if they are summarized. `sharded` does so with several
-//! resolvers.
+//! words from an environment. Both are in `program`. It opens the files, and `replay_tasks` does
+//! with them what the words ask for. `stream` does so if the answers are printed as they come, and
+//! `verbose` has the line that says more of a run.
 //!
-//! What is printed is defined by `IsReplayed`, in `specs/Replayed.antt`, and how the program ends
-//! in `specs/Program.antt`. The public names of the crates below, which the program is made of, are
-//! exported here too.
+//! How the program ends is defined in `specs/Program.antt`. The public names of the crates below,
+//! which the program is made of, are exported here too.
 #![tactic(auto)]
 
-mod check;
-mod explain;
-mod met;
 mod program;
-mod reached;
-mod replay;
 mod report;
-mod sharded;
 mod stream;
-mod summary;
 mod verbose;
 
-pub use check::{
-    CheckReport, RepliesError, check_over, fail_to_read_replies, print_check, read_replies,
-};
-pub use explain::{explain_lines, explain_over, print_explained};
-pub use met::{Ended, Met};
 pub use program::{run, run_in};
-pub use replay::{replay_and_summarize_over, replay_over};
 pub use replay_arguments::{
     ArgumentsRefusal, CommandLine, Extent, FileError, Files, OpeningError, STANDARD_INPUT,
     Sharding, SummaryFile, Task, WrittenFile, create_files, fail_to_create, fail_to_create_file,
@@ -43,13 +28,15 @@ pub use replay_output::{
 };
 pub use replay_stream::Recorder;
 pub use replay_summary::SummaryForm;
+pub use replay_tasks::{
+    CheckReport, Ended, Met, RepliesError, SummaryRequest, SummaryWriter, check_over,
+    check_sharded_over, explain_lines, explain_over, fail_to_read_replies, print_check,
+    print_explained, print_summary, read_replies, replay_and_summarize_over,
+    replay_and_summarize_sharded_over, replay_over, replay_sharded_over, summarize_over,
+    summarize_sharded_over,
+};
 pub use replay_workers::{
     AlwaysOpen, Assignment, Finished, Gatekeeper, MostUnanswered, ShareKeeper, Unshared, work,
 };
 pub use report::RunReport;
-pub use sharded::{
-    check_sharded_over, replay_and_summarize_sharded_over, replay_sharded_over,
-    summarize_sharded_over,
-};
 pub use stream::stream_over;
-pub use summary::{SummaryRequest, SummaryWriter, print_summary, summarize_over};

@@ -4,7 +4,7 @@ ghost use Rattle.std.specs.Prelude.{◌≡◌, ℕ, List, map, string_bytes};
 ghost use Rattle.replay_arguments.specs.Arguments.{IsMistaken};
 ghost use Rattle.replay_program.specs.Ended.{HasDifferences, IsDone, IsFailed, IsQuiet};
 ghost use Rattle.replay_program.specs.Program.{ReportsLine, named_files};
-ghost use Rattle.replay_program.specs.Replayed.{written};
+ghost use Rattle.replay_tasks.specs.Replayed.{written};
 ghost use Rattle.replay_program.specs.ShardedProgram.{regular_files};
 ghost use Rattle.replay_stream.specs.Sinks.{state_by};
 

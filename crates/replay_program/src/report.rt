@@ -2,9 +2,9 @@
 
 ghost use Rattle.std.specs.Prelude.{◌≡◌, [], None, false};
 
-use crate::met::{Ended, Met};
 use replay_output::Status;
 use replay_stream::Recorder;
+use replay_tasks::{Ended, Met};
 use std::alloc::Global;
 
 /// How a run has ended.

@@ -7,17 +7,17 @@ ghost use Rattle.std.specs.Io.KnownBytes.{Appends, Keeps};
 ghost use Rattle.replay_output.specs.Failures.{NothingFailed, failure_lines};
 ghost use Rattle.replay_output.specs.Unwritten.{unwritten_lines};
 ghost use Rattle.replay_stream.specs.Sinks.{state_by};
-ghost use Rattle.replay_program.specs.Met.{HasMet};
-ghost use Rattle.replay_program.specs.Replayed.{written};
+ghost use Rattle.replay_tasks.specs.Met.{HasMet};
+ghost use Rattle.replay_tasks.specs.Replayed.{written};
 ghost use Rattle.replay_program.specs.Streamed.{FailsToStream, IsStreamDone};
 
-use crate::met::Met;
 use crate::report::RunReport;
 use replay_output::{
     Ending, Options, ProxyFailure, Status, all_written, fail_to_start, nothing_failed,
     print_failures, print_unwritten,
 };
 use replay_stream::{Streamed, run_stream};
+use replay_tasks::Met;
 use replay_workers::{Gatekeeper, ShareKeeper};
 use resolver::MAX_PROXIES;
 use std::alloc::Global;

@@ -6,14 +6,14 @@ ghost use Rattle.keyspace.specs.declared.batch.Batch.{Batch as BatchValue};
 ghost use Rattle.replay_diagnosis.specs.Following.{HasLeast};
 ghost use Rattle.replay_diagnosis.specs.Remedy.{remedy_line, run_remedy_line};
 ghost use Rattle.replay_program.specs.Program.{texts};
-ghost use Rattle.replay_program.specs.Replayed.{written};
-ghost use Rattle.replay_program.specs.Summarized.{TookUnlessFailed};
+ghost use Rattle.replay_tasks.specs.Replayed.{written};
+ghost use Rattle.replay_tasks.specs.Summarized.{TookUnlessFailed};
 ghost use Rattle.replay_program.specs.Verbose.{IsExplained, IsFoundOf, IsGateFinding};
 
-use crate::met::Met;
 use files::{FileFinding, examine_files};
 use replay_arguments::{CommandLine, Files};
 use replay_diagnosis::{FileBatches, RunFinding, write_remedy, write_run_remedy};
+use replay_tasks::Met;
 use resolver::Stop;
 use std::alloc::Global;
 use wire::Sink;

@@ -2,15 +2,14 @@
 
 ghost use Rattle.std.specs.Prelude.{◌≡◌, ◌≢◌, ◌≤◌, ◌<◌, length, map, true, vec_len};
 ghost use Rattle.std.specs.Io.KnownBytes.{Keeps};
-ghost use Rattle.replay_program.specs.Met.{HasMet};
+ghost use Rattle.replay_tasks.specs.Met.{HasMet};
 ghost use Rattle.replay_program.specs.Program.{ChecksFiles, FailsToCheck, named_files, texts};
-ghost use Rattle.replay_program.specs.Replayed.{written};
+ghost use Rattle.replay_tasks.specs.Replayed.{written};
 
-use crate::check::{check_over, fail_to_read_replies, read_replies};
-use crate::met::Ended;
 use crate::program::opened::Opened;
 use replay_arguments::Files;
 use replay_output::{Form, Options, Status};
+use replay_tasks::{Ended, check_over, fail_to_read_replies, read_replies};
 use resolver::MAX_PROXIES;
 use std::alloc::Global;
 use std::sync::Wait;

@@ -6,7 +6,7 @@ ghost use Rattle.replay_program.specs.Ended.{HasDifferences, HasNoMemory, IsDone
 ghost use Rattle.replay_program.specs.Ended.{IsQuiet};
 ghost use Rattle.replay_program.specs.Program.{HasReadNoText, ReportsLine, named_files, not_text};
 ghost use Rattle.replay_program.specs.ShardedProgram.{regular_files};
-ghost use Rattle.replay_program.specs.Replayed.{written};
+ghost use Rattle.replay_tasks.specs.Replayed.{written};
 ghost use Rattle.replay_stream.specs.Sinks.{state_by};
 ghost use Rattle.replay_output.specs.Start.{start_line};
 ghost use Rattle.replay_arguments.specs.Arguments.{IsMistaken};

@@ -3,21 +3,21 @@
 ghost use Rattle.std.specs.Prelude.{◌≡◌, ◌≢◌, ℕ, List, true};
 ghost use Rattle.std.specs.Io.KnownBytes.{Keeps};
 ghost use Rattle.replay_arguments.specs.Asks.{Asks};
-ghost use Rattle.replay_program.specs.Met.{HasMet};
+ghost use Rattle.replay_tasks.specs.Met.{HasMet};
 ghost use Rattle.replay_program.specs.Program.{EndsQuietly, IsLineDone, LineFails};
 ghost use Rattle.replay_program.specs.Program.{LineFailsAndSays, LineFindsDifferences, OfOutput};
 ghost use Rattle.replay_program.specs.Program.{SaysFurther, SaysIfHeld, bytes_of, named_files};
 ghost use Rattle.replay_program.specs.Program.{texts};
-ghost use Rattle.replay_program.specs.Replayed.{HasFailed, written};
+ghost use Rattle.replay_tasks.specs.Replayed.{HasFailed, written};
 ghost use Rattle.replay_stream.specs.Sinks.{state_by};
 
-use crate::met::Met;
 use crate::program::opened::open_batches;
 use crate::program::task::run_task;
 use crate::report::RunReport;
 use crate::verbose::{explain_failure, say_if_held};
 use replay_arguments::{CommandLine, Files, WrittenFile, fail_to_create_file, fail_to_open};
 use replay_output::Status;
+use replay_tasks::Met;
 use std::alloc::Global;
 use std::sync::Wait;
 use std::thread::Threads;

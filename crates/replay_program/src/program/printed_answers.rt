@@ -2,17 +2,16 @@
 
 ghost use Rattle.std.specs.Prelude.{◌≡◌, ◌≢◌, ◌≤◌, ◌<◌, None, map, true, vec_len};
 ghost use Rattle.std.specs.Io.KnownBytes.{Keeps};
-ghost use Rattle.replay_program.specs.Met.{HasMet};
+ghost use Rattle.replay_tasks.specs.Met.{HasMet};
 ghost use Rattle.replay_program.specs.Program.{AreNotPrinted, ArePrinted, named_files};
-ghost use Rattle.replay_program.specs.Replayed.{written};
+ghost use Rattle.replay_tasks.specs.Replayed.{written};
 ghost use Rattle.replay_stream.specs.Sinks.{state_by};
 
 use crate::program::opened::Opened;
-use crate::replay::{replay_and_summarize_over, replay_over};
 use crate::report::RunReport;
-use crate::summary::SummaryWriter;
 use replay_arguments::{CommandLine, Files, WrittenFile, fail_to_create_file};
 use replay_output::Status;
+use replay_tasks::{SummaryWriter, replay_and_summarize_over, replay_over};
 use resolver::MAX_PROXIES;
 use std::alloc::Global;
 use std::sync::Wait;

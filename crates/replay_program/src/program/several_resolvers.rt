@@ -6,12 +6,12 @@ ghost use Rattle.std.specs.Io.KnownBytes.{Keeps};
 ghost use Rattle.replay_arguments.specs.Asks.{Asks};
 ghost use Rattle.replay_arguments.specs.Opening.{contents_each};
 ghost use Rattle.replay_program.specs.Program.{EndsQuietly, OfOutput, named_files, texts};
-ghost use Rattle.replay_program.specs.Sharded.{HasMetByShards};
+ghost use Rattle.replay_tasks.specs.Sharded.{HasMetByShards};
 ghost use Rattle.replay_program.specs.ShardedProgram.{ArePointsOf, IsLineDoneByShards};
 ghost use Rattle.replay_program.specs.ShardedProgram.{IsWhyNotSharded, LineFailsAndSaysByShards};
 ghost use Rattle.replay_program.specs.ShardedProgram.{LineFailsByShards, regular_files};
 ghost use Rattle.replay_program.specs.ShardedProgram.{LineFindsDifferencesByShards};
-ghost use Rattle.replay_program.specs.Replayed.{HasFailed, Written, written};
+ghost use Rattle.replay_tasks.specs.Replayed.{HasFailed, Written, written};
 ghost use Rattle.replay_sharded.specs.Files.{ReadTheFiles};
 ghost use Rattle.replay_stream.specs.Sinks.{state_by};
 

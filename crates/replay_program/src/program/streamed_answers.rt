@@ -4,10 +4,10 @@ ghost use Rattle.std.specs.Prelude.{◌≡◌, ◌≢◌, ◌≤◌, ℕ, Err, I
 ghost use Rattle.std.specs.Prelude.{◌<◌, true, vec_len};
 ghost use Rattle.std.specs.Io.KnownBytes.{Keeps};
 ghost use Rattle.replay_arguments.specs.Opening.{IsFirstRefused};
-ghost use Rattle.replay_program.specs.Met.{HasMet};
+ghost use Rattle.replay_tasks.specs.Met.{HasMet};
 ghost use Rattle.replay_program.specs.Program.{FailsToStreamFiles, HaveWriters, StreamsFiles};
 ghost use Rattle.replay_program.specs.Program.{named_files, texts};
-ghost use Rattle.replay_program.specs.Replayed.{written};
+ghost use Rattle.replay_tasks.specs.Replayed.{written};
 ghost use Rattle.replay_stream.specs.Sinks.{state_by};
 
 use crate::program::opened::Opened;

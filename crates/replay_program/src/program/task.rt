@@ -3,21 +3,20 @@
 ghost use Rattle.std.specs.Prelude.{◌≡◌, ◌≢◌, ◌<◌, ℕ, List, None, map, true, vec_len};
 ghost use Rattle.std.specs.Io.KnownBytes.{Keeps};
 ghost use Rattle.replay_arguments.specs.Asks.{Asks};
-ghost use Rattle.replay_program.specs.Met.{HasMet};
+ghost use Rattle.replay_tasks.specs.Met.{HasMet};
 ghost use Rattle.replay_program.specs.Program.{FindsDifferences, IsTaskDone, TaskFails};
 ghost use Rattle.replay_program.specs.Program.{named_files};
-ghost use Rattle.replay_program.specs.Replayed.{written};
+ghost use Rattle.replay_tasks.specs.Replayed.{written};
 ghost use Rattle.replay_stream.specs.Sinks.{state_by};
 
-use crate::explain::explain_over;
 use crate::program::comparison::check_replies;
 use crate::program::opened::Opened;
 use crate::program::printed_answers::print_and_summarize;
 use crate::program::streamed_answers::stream_and_record;
 use crate::report::RunReport;
-use crate::summary::{SummaryRequest, summarize_over};
 use replay_arguments::{CommandLine, Files, Task};
 use replay_output::Status;
+use replay_tasks::{SummaryRequest, explain_over, summarize_over};
 use std::alloc::Global;
 use std::sync::Wait;
 use std::thread::Threads;

@@ -5,7 +5,7 @@ ghost use Rattle.std.specs.Prelude.{IfSome, List};
 ghost use Rattle.keyspace.specs.declared.batch.Batch.{Batch as BatchValue};
 ghost use Rattle.replay_diagnosis.specs.Following.{HasLeast};
 ghost use Rattle.replay_program.specs.Program.{texts};
-ghost use Rattle.replay_program.specs.Replayed.{written};
+ghost use Rattle.replay_tasks.specs.Replayed.{written};
 ghost use Rattle.replay_program.specs.Verbose.{AreBatches, AreExamined, SaysHeld};
 
 use super::say_of_run;

@@ -4,7 +4,7 @@ use Rattle.std.specs.Prelude.{string_bytes}
 use Rattle.replay_output.specs.declared.status.Status.{Status}
 use Rattle.replay_output.specs.declared.status.Status.TheVariants.{Done, Failed, Differs}
 use Rattle.replay_program.specs.Program.{named_files}
-use Rattle.replay_program.specs.Replayed.{written}
+use Rattle.replay_tasks.specs.Replayed.{written}
 use Rattle.replay_program.specs.ShardedProgram.{regular_files}
 use Rattle.replay_stream.specs.Sinks.{state_by}
 use Rattle.replay_program.proofs.Programs.{Ends, asked_by, ends_by}

@@ -6,11 +6,11 @@ use Rattle.replay_output.specs.Unwritten.{unwritten_lines}
 use Rattle.replay_stream.specs.Outlet.{TookText}
 use Rattle.replay_stream.specs.Sinks.{SinkState, state_by}
 use Rattle.replay_stream.specs.Streaming.{IsStreamed, recorded_each}
-use Rattle.replay_program.specs.Replayed.{ending_of, written, Took}
+use Rattle.replay_tasks.specs.Replayed.{ending_of, written, Took}
 use Rattle.replay_program.specs.Streamed.{unwritten_each}
-use Rattle.replay_program.proofs.Meeting.{met_nothing, not_failed, stop_reported, stream_has_met}
-use Rattle.replay_program.proofs.Replaying.{ending_is, held_ok}
-use Rattle.replay_program.proofs.Streaming.{clean_as, is_stream_done, keeps_error, streamed_and_failed, reported_as}
+use Rattle.replay_tasks.proofs.callers.Meeting.{met_nothing, not_failed, stop_reported}
+use Rattle.replay_tasks.proofs.callers.Replaying.{ending_is, held_ok}
+use Rattle.replay_program.proofs.Streaming.{clean_as, is_stream_done, keeps_error, stream_has_met, streamed_and_failed, reported_as}
 use Rattle.replay_program.proofs.stream.stream_over.Goals.{then-account, else-account}
 use Rattle.replay_program.proofs.stream.stream_over.Goals as goal
 

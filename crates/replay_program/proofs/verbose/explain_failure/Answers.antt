@@ -1,7 +1,7 @@
 use Rattle.std.proofs.Common.{List, ℕ, Bor, inl, inr, refl, subst}
 use Rattle.replay_diagnosis.specs.Remedy.{remedy_line, run_remedy_line}
 use Rattle.replay_program.specs.Program.{texts}
-use Rattle.replay_program.specs.Replayed.{written}
+use Rattle.replay_tasks.specs.Replayed.{written}
 use Rattle.replay_program.specs.Verbose.{AreExamined, IsFirstFound}
 use Rattle.replay_program.proofs.Saying.{explained_by}
 use Rattle.replay_program.proofs.verbose.explain_failure.Goals as goal

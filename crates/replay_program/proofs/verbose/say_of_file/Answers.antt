@@ -1,6 +1,6 @@
 use Rattle.std.proofs.Common.{refl}
 use Rattle.replay_diagnosis.specs.Remedy.{remedy_line}
-use Rattle.replay_program.specs.Replayed.{written}
+use Rattle.replay_tasks.specs.Replayed.{written}
 use Rattle.replay_program.proofs.Saying.{said_by}
 use Rattle.replay_program.proofs.verbose.say_of_file.Goals as goal
 

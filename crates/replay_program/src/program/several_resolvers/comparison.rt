@@ -4,19 +4,17 @@ ghost use Rattle.std.specs.Prelude.{◌≡◌, ◌≢◌, ◌<◌, ℕ, List, Op
 ghost use Rattle.std.specs.List.{All};
 ghost use Rattle.std.specs.Io.KnownBytes.{Keeps};
 ghost use Rattle.replay_program.specs.Program.{named_files, texts};
-ghost use Rattle.replay_program.specs.Replayed.{written};
-ghost use Rattle.replay_program.specs.Sharded.{HasMetByShards};
+ghost use Rattle.replay_tasks.specs.Replayed.{written};
+ghost use Rattle.replay_tasks.specs.Sharded.{HasMetByShards};
 ghost use Rattle.replay_program.specs.ShardedProgram.{ChecksFilesByShards};
 ghost use Rattle.replay_program.specs.ShardedProgram.{FailsToCheckFilesByShards};
 ghost use Rattle.replay_sharded.specs.Files.{ReadTheFiles};
 
-use crate::check::{fail_to_read_replies, read_replies};
-use crate::met::Ended;
-use crate::sharded::check_sharded_over;
 use flow::WaitingRoom;
 use replay_arguments::Files;
 use replay_output::{Form, Options, Status};
 use replay_sharded::ShardedReaders;
+use replay_tasks::{Ended, check_sharded_over, fail_to_read_replies, read_replies};
 use std::alloc::Global;
 use std::sync::Wait;
 use std::thread::Threads;

@@ -4,19 +4,18 @@ ghost use Rattle.std.specs.Prelude.{◌≡◌, ◌≢◌, ◌<◌, ℕ, List, No
 ghost use Rattle.std.specs.List.{All};
 ghost use Rattle.std.specs.Io.KnownBytes.{Keeps};
 ghost use Rattle.replay_program.specs.Program.{named_files};
-ghost use Rattle.replay_program.specs.Replayed.{written};
-ghost use Rattle.replay_program.specs.Sharded.{HasMetByShards};
+ghost use Rattle.replay_tasks.specs.Replayed.{written};
+ghost use Rattle.replay_tasks.specs.Sharded.{HasMetByShards};
 ghost use Rattle.replay_program.specs.ShardedProgram.{AreNotPrintedByShards, ArePrintedByShards};
 ghost use Rattle.replay_sharded.specs.Files.{ReadTheFiles};
 ghost use Rattle.replay_stream.specs.Sinks.{state_by};
 
 use crate::report::RunReport;
-use crate::sharded::{replay_and_summarize_sharded_over, replay_sharded_over};
-use crate::summary::SummaryWriter;
 use flow::WaitingRoom;
 use replay_arguments::{CommandLine, Files, WrittenFile, fail_to_create_file};
 use replay_output::Status;
 use replay_sharded::ShardedReaders;
+use replay_tasks::{SummaryWriter, replay_and_summarize_sharded_over, replay_sharded_over};
 use std::alloc::Global;
 use std::sync::Wait;
 use std::thread::Threads;

@@ -1,6 +1,6 @@
 use Rattle.std.proofs.Common.{map}
-use Rattle.replay_program.specs.Replayed.{written}
-use Rattle.replay_program.proofs.Meeting.{met_nothing, not_failed}
+use Rattle.replay_tasks.specs.Replayed.{written}
+use Rattle.replay_tasks.proofs.callers.Meeting.{met_nothing, not_failed}
 use Rattle.replay_program.proofs.program.comparison.check_replies.Goals as goal
 
 pub returns-in-Err-clause-met : goal.returns-in-Err-clause-met

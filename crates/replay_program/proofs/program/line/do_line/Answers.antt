@@ -1,9 +1,9 @@
 use Rattle.std.proofs.Common.{◌∙◌, List, ℕ, Option, Err, Some, ap, inr, refl, subst}
 use Rattle.replay_program.specs.Program.{FindsDifferences, IsTaskDone, TaskFails, bytes_of, named_files}
-use Rattle.replay_program.specs.Met.{HasMet}
-use Rattle.replay_program.specs.Replayed.{HasFailed, Written, written}
+use Rattle.replay_tasks.specs.Met.{HasMet}
+use Rattle.replay_tasks.specs.Replayed.{HasFailed, Written, written}
 use Rattle.replay_stream.specs.Sinks.{state_by}
-use Rattle.replay_program.proofs.Meeting.{met_nothing, not_failed}
+use Rattle.replay_tasks.proofs.callers.Meeting.{met_nothing, not_failed}
 use Rattle.replay_program.proofs.Programs.{done_same, fails_same, not_created, not_opened, to_file, to_standard}
 use Rattle.replay_program.proofs.program.line.do_line.Goals as goal
 

@@ -1,7 +1,7 @@
 use Rattle.std.proofs.Common.{◌≡◌, Bool, refl, rules, subst, sym}
 use Rattle.std.specs.Prelude.{false, true}
 use Rattle.replay_program.specs.Program.{SaysFurther, SaysIfHeld, texts}
-use Rattle.replay_program.specs.Replayed.{written}
+use Rattle.replay_tasks.specs.Replayed.{written}
 use Rattle.replay_program.proofs.program.line.say_more.Goals as goal
 
 pub returns-then-not-verbose-clause-further : goal.returns-then-not-verbose-clause-further

@@ -1,11 +1,11 @@
 use Rattle.std.proofs.Common.{◌∙◌, Option, Err, Some, ap, inr, map, refl, subst, sym}
 use Rattle.replay_arguments.specs.declared.arguments.summary_file.SummaryFile.{SummaryFile}
-use Rattle.replay_program.specs.declared.met.Met.{Met}
-use Rattle.replay_program.specs.Met.{HasMet}
+use Rattle.replay_tasks.specs.declared.met.Met.{Met}
+use Rattle.replay_tasks.specs.Met.{HasMet}
 use Rattle.replay_program.specs.Program.{AreNotPrinted, ArePrinted, named_files}
-use Rattle.replay_program.specs.Replayed.{written}
+use Rattle.replay_tasks.specs.Replayed.{written}
 use Rattle.replay_stream.specs.Sinks.{state_by}
-use Rattle.replay_program.proofs.Meeting.{met_nothing, not_failed}
+use Rattle.replay_tasks.proofs.callers.Meeting.{met_nothing, not_failed}
 use Rattle.replay_program.proofs.Programs.{is_given, no_summary_file}
 use Rattle.replay_program.proofs.program.printed_answers.print_and_summarize.Goals as goal
 

@@ -1,9 +1,9 @@
 use Rattle.std.proofs.Common.{◌∙◌, Err, Some, ap, inr, refl}
 use Rattle.replay_program.specs.Program.{bytes_of, named_files}
-use Rattle.replay_program.specs.Replayed.{HasFailed, Written, written}
+use Rattle.replay_tasks.specs.Replayed.{HasFailed, Written, written}
 use Rattle.replay_program.specs.ShardedProgram.{FindsDifferencesByShards, IsTaskDoneByShards, TaskFailsByShards, regular_files}
 use Rattle.replay_stream.specs.Sinks.{state_by}
-use Rattle.replay_program.proofs.Meeting.{not_failed}
+use Rattle.replay_tasks.proofs.callers.Meeting.{not_failed}
 use Rattle.replay_program.proofs.Programs.{to_file, to_standard}
 use Rattle.replay_program.proofs.ShardingEnds.{shards_done_same, shards_fail_same, shards_met_nothing, shards_without_output}
 use Rattle.replay_program.proofs.program.several_resolvers.do_line_sharded.Goals as goal

@@ -1,5 +1,5 @@
 use Rattle.replay_program.specs.Program.{named_files}
-use Rattle.replay_program.specs.Replayed.{written}
+use Rattle.replay_tasks.specs.Replayed.{written}
 use Rattle.replay_program.specs.ShardedProgram.{regular_files}
 use Rattle.replay_stream.specs.Sinks.{state_by}
 use Rattle.replay_program.proofs.Unopened.{not_sharded, says_nothing}

@@ -1,7 +1,7 @@
 use Rattle.std.proofs.Common.{refl}
 use Rattle.replay_arguments.specs.Opening.{contents_each}
 use Rattle.replay_program.specs.Program.{texts}
-use Rattle.replay_program.specs.Replayed.{written}
+use Rattle.replay_tasks.specs.Replayed.{written}
 use Rattle.replay_program.proofs.Unopened.{met_by_line}
 use Rattle.replay_program.proofs.program.several_resolvers.run_line_sharded.Goals as goal
 

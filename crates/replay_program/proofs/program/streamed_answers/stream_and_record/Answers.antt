@@ -1,9 +1,9 @@
 use Rattle.std.proofs.Common.{◌∙◌, Err, ap, arith, inr, length, map, refl}
 use Rattle.std.proofs.lemmas.List.{length-map}
 use Rattle.replay_program.specs.Program.{AreWriters, texts}
-use Rattle.replay_program.specs.Replayed.{written}
+use Rattle.replay_tasks.specs.Replayed.{written}
 use Rattle.replay_stream.specs.Sinks.{state_by}
-use Rattle.replay_program.proofs.Meeting.{met_nothing, not_failed}
+use Rattle.replay_tasks.proofs.callers.Meeting.{met_nothing, not_failed}
 use Rattle.replay_program.proofs.Writers.{not_recorded, recorded_and_failed}
 use Rattle.replay_program.proofs.program.streamed_answers.stream_and_record.Goals as goal
 

@@ -2,8 +2,8 @@ use Rattle.std.proofs.Common.{◌≡◌, ◌∙◌, ℕ, List, Bor, ap, map, sub
 use Rattle.std.specs.Prelude.{◌≢◌}
 use Rattle.replay_arguments.specs.declared.arguments.task.Task.{Task}
 use Rattle.replay_output.specs.declared.options.Options.{Options}
-use Rattle.replay_program.specs.declared.met.Met.{Met}
-use Rattle.replay_program.specs.Met.{HasMet}
+use Rattle.replay_tasks.specs.declared.met.Met.{Met}
+use Rattle.replay_tasks.specs.Met.{HasMet}
 use Rattle.replay_program.specs.Program.{
   ChecksFiles,
   FailsToCheck,
@@ -15,10 +15,10 @@ use Rattle.replay_program.specs.Program.{
   named_files,
   texts,
 }
-use Rattle.replay_program.specs.Summarized.{FailsToSummarize, IsSummarized}
-use Rattle.replay_program.specs.Replayed.{written}
+use Rattle.replay_tasks.specs.Summarized.{FailsToSummarize, IsSummarized}
+use Rattle.replay_tasks.specs.Replayed.{written}
 use Rattle.replay_stream.specs.Sinks.{state_by}
-use Rattle.replay_program.proofs.Meeting.{met_quieted}
+use Rattle.replay_tasks.proofs.callers.Meeting.{met_quieted}
 use Rattle.replay_program.proofs.Programs.{is_done}
 use Rattle.replay_program.proofs.program.task.run_task.Goals as goal
 

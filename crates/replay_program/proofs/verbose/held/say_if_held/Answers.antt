@@ -1,7 +1,7 @@
 use Rattle.std.proofs.Common.{List, ℕ, Bor, SFits, w64, inl, refl, rules, subst}
 use Rattle.std.proofs.lemmas.Int.{to_z-of_z}
 use Rattle.replay_program.specs.Program.{texts}
-use Rattle.replay_program.specs.Replayed.{written}
+use Rattle.replay_tasks.specs.Replayed.{written}
 use Rattle.replay_program.specs.Verbose.{AreExamined}
 use Rattle.replay_program.proofs.Saying.{held_said}
 use Rattle.replay_program.proofs.verbose.held.say_if_held.Goals as goal

@@ -1,7 +1,7 @@
 use Rattle.std.proofs.Common.{inl, inr, map, refl}
 use Rattle.std.specs.Prelude.{vec_items}
-use Rattle.replay_program.specs.Replayed.{written}
-use Rattle.replay_program.proofs.Meeting.{not_failed}
+use Rattle.replay_tasks.specs.Replayed.{written}
+use Rattle.replay_tasks.proofs.callers.Meeting.{not_failed}
 use Rattle.replay_program.proofs.ShardingEnds.{shards_met_nothing}
 use Rattle.replay_program.proofs.program.several_resolvers.comparison.check_sharded.Goals as goal
 

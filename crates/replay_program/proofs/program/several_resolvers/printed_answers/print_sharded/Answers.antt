@@ -1,12 +1,12 @@
 use Rattle.std.proofs.Common.{◌∙◌, Option, Err, Some, ap, inr, refl, subst, sym}
 use Rattle.replay_arguments.specs.declared.arguments.summary_file.SummaryFile.{SummaryFile}
-use Rattle.replay_program.specs.declared.met.Met.{Met}
+use Rattle.replay_tasks.specs.declared.met.Met.{Met}
 use Rattle.replay_program.specs.Program.{named_files}
-use Rattle.replay_program.specs.Replayed.{written}
-use Rattle.replay_program.specs.Sharded.{HasMetByShards}
+use Rattle.replay_tasks.specs.Replayed.{written}
+use Rattle.replay_tasks.specs.Sharded.{HasMetByShards}
 use Rattle.replay_program.specs.ShardedProgram.{AreNotPrintedByShards, ArePrintedByShards}
 use Rattle.replay_stream.specs.Sinks.{state_by}
-use Rattle.replay_program.proofs.Meeting.{not_failed}
+use Rattle.replay_tasks.proofs.callers.Meeting.{not_failed}
 use Rattle.replay_program.proofs.Programs.{is_given}
 use Rattle.replay_program.proofs.ShardingEnds.{shards_met_nothing, shards_without_summary}
 use Rattle.replay_program.proofs.program.several_resolvers.printed_answers.print_sharded.Goals as goal

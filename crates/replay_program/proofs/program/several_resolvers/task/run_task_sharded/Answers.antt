@@ -3,10 +3,10 @@ use Rattle.std.specs.Prelude.{◌≢◌}
 use Rattle.replay_arguments.specs.declared.arguments.task.Task.{Task}
 use Rattle.replay_arguments.specs.declared.arguments.task.Task.TheVariants as task
 use Rattle.replay_output.specs.declared.options.Options.{Options}
-use Rattle.replay_program.specs.declared.met.Met.{Met}
+use Rattle.replay_tasks.specs.declared.met.Met.{Met}
 use Rattle.replay_program.specs.Program.{named_files, texts}
-use Rattle.replay_program.specs.Replayed.{written}
-use Rattle.replay_program.specs.Sharded.{FailsToSummarizeByShards, HasMetByShards, IsSummarizedByShards}
+use Rattle.replay_tasks.specs.Replayed.{written}
+use Rattle.replay_tasks.specs.Sharded.{FailsToSummarizeByShards, HasMetByShards, IsSummarizedByShards}
 use Rattle.replay_program.specs.ShardedProgram.{
   ChecksFilesByShards,
   FailsToCheckFilesByShards,

@@ -1,5 +1,0 @@
-use Rattle.replay_program.specs.Replies.{TakesReplies}
-use Rattle.replay_program.proofs.check.replies.read_file.Given as goal
-
-abbrev pub invariant-loop : goal.invariant-loop
-invariant-loop g l = TakesReplies (g.S.Source.remaining l.fn.reader) (g.S.Source.remaining l.reader) l.replies.items

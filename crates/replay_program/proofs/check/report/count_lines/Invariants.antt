@@ -1,7 +1,0 @@
-use Rattle.std.proofs.Common.{◌≡◌, ◌+◌, drop, map, vec_items}
-use Rattle.replay_program.specs.Checked.{count_lines}
-use Rattle.replay_program.proofs.check.report.count_lines.Given as goal
-
-abbrev pub invariant-loop-lines : goal.invariant-loop-lines
-invariant-loop-lines l =
-    l.count + count_lines (map vec_items (drop l.lines-index l.received)) ≡ count_lines (map vec_items l.received)

@@ -1,0 +1,10 @@
+pub mod callers
+pub mod Measuring
+pub mod ReadingReplies
+pub mod KeptReplies
+pub mod Noting
+pub mod Ranges
+pub mod Beside
+pub mod Explaining
+pub mod Counting
+pub mod ShardedRuns

@@ -1,0 +1,4 @@
+-- lemmas that proofs of the crates above may cite
+pub mod Reporting
+pub mod Replaying
+pub mod Meeting
