@@ -30,8 +30,8 @@ returns-then-not-verbose-clause-quiet g c = λ other.
     let off : c.args.line.now.verbose ≡ false = search rules in
     subst (λ (verbose : Bool). SaysIfHeld verbose (g.F.Files.contents f) (texts c.args.line.now.files.items) error) (sym off) (refl, refl)
 
-pub returns-in_default-clause-quiet : goal.returns-in_default-clause-quiet
-returns-in_default-clause-quiet g c = λ other.
+pub returns-in-Done-clause-quiet : goal.returns-in-Done-clause-quiet
+returns-in-Done-clause-quiet g c = λ other.
     let f = c.args.files.now in
     let error = written (g.E.Sink.given c.args.error.now) (g.E.Sink.given c.say_if_held.new.error)
     (g.E.Sink.failures c.args.error.now) (g.E.Sink.failures c.say_if_held.new.error) in
