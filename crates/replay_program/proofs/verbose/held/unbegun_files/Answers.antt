@@ -16,7 +16,9 @@ loop-name-preserved g c = record {
       c.join.ensures.joined c.in-Some.ensures.batches c.loop-name.invariant.examined;
 }
 
-pub returns-clause-batches : goal.returns-clause-batches
-returns-clause-batches g c =
-    subst (λ (l : List (List ℕ)). AreExamined (g.F.Files.contents c.args.files.now) l c.loop-name.batches.least_previous)
-    (take_entire (λ (name : Bor (List ℕ)). name.now) c.args.names.now c.loop-name.name-index (omega arith)) c.loop-name.invariant.examined
+pub returns : goal.returns
+returns g c = record {
+  batches = subst (λ (l : List (List ℕ)). AreExamined (g.F.Files.contents c.args.files.now) l c.loop-name.batches.least_previous)
+      (take_entire (λ (name : Bor (List ℕ)). name.now) c.args.names.now c.loop-name.name-index (omega arith))
+      c.loop-name.invariant.examined;
+}
