@@ -54,15 +54,15 @@ def replay_outcome(
     return Outcome(status, text.encode(), fault_lines(faults, "proxy").encode())
 
 
-def turned(content: bytes, task: str, is_replies: bool, full: bool = False) -> Outcome:
-    """Returns what `batches decode` or `batches show` prints for these frames."""
+def turned(content: bytes, task: str, is_replies: bool, full: bool = False, name: str = "standard input") -> Outcome:
+    """Returns what `batches decode` or `batches show` prints for these frames of a file."""
     if is_replies:
         replies, fault = frames(content, read_reply)
         lines = [reply_line(one) + "\n" if task == "decode" else reply_table(one) for one in replies]
     else:
         batches, fault = frames(content, read_batch)
         lines = [batch_line(one) + "\n" if task == "decode" else batch_table(one, full) for one in batches]
-    err = f"frame {len(lines) + 1}: {fault}\n" if fault else ""
+    err = f"batches: {name}: frame {len(lines) + 1}: {fault}\n" if fault else ""
     return Outcome(1 if fault else 0, "".join(lines).encode(), err.encode())
 
 

@@ -25,9 +25,8 @@ def draw_decoded(chance: Random) -> Case:
     runs = []
     for task, full in (("decode", False), ("show", False), ("show", True)):
         args = [task, *(["--replies"] if is_replies else []), *(["--full"] if full else [])]
-        expected = turned(content, task, is_replies, full)
         if chance.random() < 0.5:
-            runs.append(Run("batches", tuple(args), content, expected=expected))
+            runs.append(Run("batches", tuple(args), content, expected=turned(content, task, is_replies, full)))
         else:
-            runs.append(Run("batches", (*args, "frames"), expected=expected))
+            runs.append(Run("batches", (*args, "frames"), expected=turned(content, task, is_replies, full, "frames")))
     return Case("", "frames shown", {"frames": content}, tuple(runs))

@@ -96,7 +96,7 @@ def wire_cases() -> list[Case]:
         runs = [Run("batches", ("decode",), frame, expected=turned(frame, "decode", False))]
         if fault:
             runs.append(Run("replay", ("file",), expected=Outcome(1, b"0 0 empty\n", err.encode())))
-            runs.append(Run("batches", ("decode",), frame, expected=Outcome(1, b"", f"frame 1: {fault}\n".encode())))
+            runs.append(Run("batches", ("decode",), frame, expected=Outcome(1, b"", f"batches: standard input: frame 1: {fault}\n".encode())))
         cases.append(Case(f"wire batch {number}", "worked rows", {"file": content}, tuple(runs)))
     for number, (frame, fault) in enumerate(wire_rows.REPLIES):
         runs = [Run("batches", ("decode", "--replies"), frame, expected=turned(frame, "decode", True))]
@@ -107,14 +107,19 @@ def wire_cases() -> list[Case]:
     return cases
 
 
-def refused_line(line: str, cause: str, options: tuple[str, ...] = ()) -> Run:
-    return Run("batches", ("encode", *options), line.encode(), expected=Outcome(1, b"", f"line 1: {cause}\n".encode()))
+def refused_line(marked: str, cause: str, options: tuple[str, ...] = (), out: bytes = b"") -> Run:
+    """Lines, of which one is refused. An arrow marks the line and the column that the message names."""
+    before, _, after = marked.partition("↓")
+    column = len(before.rpartition("\n")[2].encode()) + 1
+    message = f"batches: standard input: line {before.count(chr(10)) + 1}, column {column}: {cause}\n"
+    return Run("batches", ("encode", *options), (before + after).encode(errors="surrogateescape"), expected=Outcome(1, out, message.encode()))
 
 
 def json_runs() -> list[Run]:
     runs = []
-    for line, cause in (row.split(" => ") for row in json_rows.REFUSED.split("\n")):
+    for line, cause in (row.split(" => ") for row in (*json_rows.REFUSED.split("\n"), *json_rows.REFUSED_LONG)):
         runs.append(refused_line(line, cause))
+    runs += [refused_line(lines, cause) for lines, cause in json_rows.REFUSED_AMONG]
     for line, cause in (row.split(" => ") for row in json_rows.REFUSED_REPLIES.split("\n")):
         runs.append(refused_line(line, cause, ("--replies",)))
     for line, batch in (row.split(" => ") for row in json_rows.READ.split("\n")):
@@ -153,12 +158,11 @@ def stream_runs() -> list[Run]:
     shown, _ = json_rows.TABLE
     batches = [batch_of(one) for one in shown]
     lines, content = [f"{batch_line(batch)}\n".encode() for batch in batches], file_of(batches)
-    text, message = json_rows.REFUSED_THIRD
     return [
         Run("batches", ("encode",), b"".join(lines), expected=Outcome(0, file_of(batches, 2), b"")),
         Run("batches", ("decode",), content, expected=Outcome(0, b"".join(lines), b"")),
-        Run("batches", ("encode",), text.encode(), expected=Outcome(1, file_of(batches[:1], 2), message.encode())),
-        Run("batches", ("decode",), content[:-1], expected=Outcome(1, lines[0], b"frame 2: 1 Short\n")),
+        refused_line(*json_rows.REFUSED_THIRD, out=file_of(batches[:1], 2)),
+        Run("batches", ("decode",), content[:-1], expected=Outcome(1, lines[0], b"batches: standard input: frame 2: 1 Short\n")),
     ]
 
 
@@ -242,7 +246,7 @@ def example_case(path: Path) -> Case:
         runs.append(Run("replay", (*names, *checks), expected=replay_outcome(contents, replies=replies)))
     for task, full in (("decode", False), ("show", False), ("show", True)):
         args = (task, "--full") if full else (task,)
-        runs.append(Run("batches", (*args, "file0"), expected=turned(contents[0], task, False, full)))
+        runs.append(Run("batches", (*args, "file0"), expected=turned(contents[0], task, False, full, "file0")))
     return Case(path.name, "examples", files, tuple(runs))
 
 
@@ -275,10 +279,10 @@ FULL_RUNS: tuple[tuple[str, tuple[str, ...], bytes, bytes], ...] = (
     ("replay", ("first", "--check", "same"), b"", b""),
     ("replay", ("--help",), b"", b""),
     ("replay", ("--version",), b"", b""),
-    ("batches", ("decode",), rows.FIRST_RUN, b"the output can't be written\n"),
-    ("batches", ("show",), rows.FIRST_RUN, b"the output can't be written\n"),
-    ("batches", ("--help",), b"", b"the output can't be written\n"),
-    ("batches", ("opening", "--version", "1"), b"", b"the output can't be written\n"),
+    ("batches", ("decode",), rows.FIRST_RUN, b"batches: standard output: the output can't be written\n"),
+    ("batches", ("show",), rows.FIRST_RUN, b"batches: standard output: the output can't be written\n"),
+    ("batches", ("--help",), b"", b"batches: standard output: the output can't be written\n"),
+    ("batches", ("opening", "--version", "1"), b"", b"batches: standard output: the output can't be written\n"),
     ("batches", ("stats",), rows.FIRST_RUN, b"batches: standard output: the output can't be written\n"),
     ("batches", ("split-points", "--resolvers=2"), rows.FIRST_RUN, b"batches: standard output: the output can't be written\n"),
     ("batches", ("clip", "--shard=0", "--split-points=empty"), rows.FIRST_RUN, b"batches: standard output: the output can't be written\n"),

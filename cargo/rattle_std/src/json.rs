@@ -11,7 +11,7 @@ pub use strings::Scratch;
 pub use writer::Writer;
 
 // How deep arrays and objects may nest.
-const MAX_DEPTH: usize = 128;
+pub const MAX_DEPTH: usize = 128;
 
 /// Why a text is no value.
 #[derive(Clone, Copy, Debug, PartialEq, Eq)]

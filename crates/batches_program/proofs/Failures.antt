@@ -11,7 +11,7 @@ use Rattle.wire.specs.declared.error.WireError.{WireError}
 use Rattle.wire.specs.FrameLength.{frame_length}
 use Rattle.wire.proofs.callers.Frames.{is_fault, is_reply_fault}
 use Rattle.batches_program.specs.Lines.{is_blank}
-use Rattle.batches_program.specs.Failing.{BeginsWithLine, FailsFrame, FailsLine, IsFailureOfFrame, IsFailureOfLine, IsFirstFault, SpellsNothing, SpellsTooMuch, fault_of}
+use Rattle.batches_program.specs.Failing.{BeginsWithLine, FailsFrame, FailsLine, IsFailureOfFrame, IsFailureOfLine, IsFirstFault, IsRefusedAt, SpellsTooMuch, fault_of}
 use Rattle.batches_program.specs.Clipping.{BeginsTooLong, ClipsTooLong, FailsClip, IsClipAt, IsFailureOfClip}
 use Rattle.batches_program.specs.declared.failure.Failure.{Failure}
 use Rattle.batches_program.specs.declared.failure.Failure.TheVariants as failure
@@ -29,9 +29,10 @@ pub frame_fails : (kind : Kind) (number : ℕ) (left now : Option (List ℕ)) (f
     → IsFailureOfFrame kind number frame e → FailsFrame kind number left e
 frame_fails kind number left now frame (failure.Frame n fault) taken some end fails =
     (fails.0, first_fault kind fault left now frame taken some end fails.1)
-frame_fails kind number left now frame (failure.Line n refusal) taken some end fails = absurd fails
+frame_fails kind number left now frame (failure.Line n column refusal) taken some end fails = absurd fails
 frame_fails kind number left now frame (failure.Long n) taken some end fails = absurd fails
 frame_fails kind number left now frame (failure.LongClip n) taken some end fails = absurd fails
+frame_fails kind number left now frame (failure.Point n refusal) taken some end fails = absurd fails
 frame_fails kind number left now frame (failure.NotRising n) taken some end fails = absurd fails
 frame_fails kind number left now frame failure.TooManyPoints taken some end fails = absurd fails
 frame_fails kind number left now frame (failure.NoShard n) taken some end fails = absurd fails
@@ -68,10 +69,12 @@ clip_fails points shard number left now frame (failure.LongClip n) taken some en
     (fails.0, too_long points shard left now frame taken fails.1)
 clip_fails points shard number left now frame (failure.Frame n fault) taken some end fails =
     frame_fails Batches number left now frame (failure.Frame n fault) taken some end fails
-clip_fails points shard number left now frame (failure.Line n refusal) taken some end fails =
-    frame_fails Batches number left now frame (failure.Line n refusal) taken some end fails
+clip_fails points shard number left now frame (failure.Line n column refusal) taken some end fails =
+    frame_fails Batches number left now frame (failure.Line n column refusal) taken some end fails
 clip_fails points shard number left now frame (failure.Long n) taken some end fails =
     frame_fails Batches number left now frame (failure.Long n) taken some end fails
+clip_fails points shard number left now frame (failure.Point n refusal) taken some end fails =
+    frame_fails Batches number left now frame (failure.Point n refusal) taken some end fails
 clip_fails points shard number left now frame (failure.NotRising n) taken some end fails =
     frame_fails Batches number left now frame (failure.NotRising n) taken some end fails
 clip_fails points shard number left now frame failure.TooManyPoints taken some end fails =
@@ -106,12 +109,13 @@ begins Is (Some bytes) line read some is =
 pub line_fails : (kind : Kind) (number : ℕ) (left : Option (List ℕ)) (line : List ℕ) (e : Failure)
     → IfSome left (λ bytes. line ≡ take_through 10 bytes) → IsTrue (not (is_blank line))
     → IsFailureOfLine kind number line e → FailsLine kind number left e
-line_fails kind number left line (failure.Line n refusal) read some fails =
-    (fails.0, begins (SpellsNothing kind) left line read some fails.1)
+line_fails kind number left line (failure.Line n column refusal) read some fails =
+    (fails.0, begins (IsRefusedAt kind column) left line read some fails.1)
 line_fails kind number left line (failure.Long n) read some fails =
     (fails.0, begins (SpellsTooMuch kind) left line read some fails.1)
 line_fails kind number left line (failure.Frame n fault) read some fails = absurd fails
 line_fails kind number left line (failure.LongClip n) read some fails = absurd fails
+line_fails kind number left line (failure.Point n refusal) read some fails = absurd fails
 line_fails kind number left line (failure.NotRising n) read some fails = absurd fails
 line_fails kind number left line failure.TooManyPoints read some fails = absurd fails
 line_fails kind number left line (failure.NoShard n) read some fails = absurd fails

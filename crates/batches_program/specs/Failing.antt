@@ -1,5 +1,5 @@
 -- Which failure comes of the next line or frame, whose number is counted from 1.
-use Rattle.std.specs.Prelude.{◌≡◌, ℕ, ◌<◌, List, length, Option, Some, None, IfSome, IsTrue, not}
+use Rattle.std.specs.Prelude.{◌≡◌, ℕ, ◌+◌, ◌<◌, ◌≤◌, List, length, Option, Some, None, IfSome, IsTrue, not}
 use Rattle.std.specs.Str.{IsUtf8}
 use Rattle.std.specs.Io.BufRead.{take_through}
 use Rattle.keyspace.specs.declared.batch.Batch.{Batch}
@@ -32,9 +32,17 @@ SpellsTooMuch Batches line = (batch : Batch) × (batch_of line ≡ Some (batch_f
 SpellsTooMuch Replies line = (reply : Reply) × (reply_of line ≡ Some (reply_fields reply))
     × (MAX_BODY_LENGTH < length (reply_body (reply_fields reply)))
 
+-- from 1, for the first byte, to one past the last one
+abbrev pub IsColumnOf : List ℕ → ℕ → Type 0
+IsColumnOf line column = (0 < column) × (column ≤ length line + 1)
+
+-- the line spells no value of this kind, and the column is one of it
+abbrev pub IsRefusedAt : Kind → ℕ → List ℕ → Type 0
+IsRefusedAt kind column line = SpellsNothing kind line × IsColumnOf line column
+
 -- the failure of the line of this number
 abbrev pub IsFailureOfLine : Kind → ℕ → List ℕ → Failure → Type 0
-IsFailureOfLine kind number line (failure.Line n refusal) = (n ≡ number) × SpellsNothing kind line
+IsFailureOfLine kind number line (failure.Line n column refusal) = (n ≡ number) × IsRefusedAt kind column line
 IsFailureOfLine kind number line (failure.Long n) = (n ≡ number) × SpellsTooMuch kind line
 IsFailureOfLine kind number line failure.Memory = Unit {0}
 IsFailureOfLine kind number line other = ⊥
@@ -45,7 +53,7 @@ BeginsWithLine Is bytes = IsTrue (not (is_blank (take_through 10 bytes))) × Is 
 
 -- what the failure says of the line of this number, or that memory, reading or writing failed
 abbrev pub FailsLine : Kind → ℕ → Option (List ℕ) → Failure → Type 0
-FailsLine kind number left (failure.Line n refusal) = (n ≡ number) × IfSome left (BeginsWithLine (SpellsNothing kind))
+FailsLine kind number left (failure.Line n column refusal) = (n ≡ number) × IfSome left (BeginsWithLine (IsRefusedAt kind column))
 FailsLine kind number left (failure.Long n) = (n ≡ number) × IfSome left (BeginsWithLine (SpellsTooMuch kind))
 FailsLine kind number left failure.Memory = Unit {0}
 FailsLine kind number left failure.Read = Unit {0}

@@ -3,7 +3,6 @@
 ghost use Rattle.std.specs.Prelude.{◌≡◌, ◌≢◌, ◌<◌, ℕ, List, IfOk, IfErr, OnOk, None};
 ghost use Rattle.std.specs.List.{list_all};
 ghost use Rattle.std.specs.Io.KnownBytes.{Appends, Consumes, IsAtEnd};
-ghost use Rattle.json.specs.Word.{is_space};
 ghost use Rattle.batches_program.specs.Lines.{IsBatchFrame, IsReplyFrame, IsFrame, BecomesFrame};
 ghost use Rattle.batches_program.specs.Lines.{is_blank};
 ghost use Rattle.batches_program.specs.Failing.{FailsLine, IsFailureOfLine};
@@ -12,7 +11,9 @@ ghost use Rattle.batches_program.specs.Turned.{Stops, TurnsAll};
 ghost use Rattle.batches_program.specs.declared.failure.Failure.TheVariants.{Write};
 ghost use Rattle.batches_program.specs.declared.kind.Kind.TheVariants.{Batches, Replies};
 
+use crate::column::column_of;
 use crate::failure::Failure;
+use crate::json_tokens::is_space;
 use crate::kind::Kind;
 use crate::progress::FileProgress;
 use json_lines::{Scratch, read_batch, read_reply};
@@ -100,12 +101,6 @@ fn is_blank(line: &[u8]) -> bool
     true
 }
 
-fn is_space(byte: u8) -> bool
-    ensures exact { result ≡ is_space byte }
-{
-    byte == b' ' || byte == b'\t' || byte == b'\n' || byte == b'\r'
-}
-
 // Returns the frame of what a line says.
 fn frame_of(
     alloc: Global,
@@ -137,7 +132,10 @@ fn batch_frame(
             Ok(frame) => Ok(frame),
             Err(refusal) => Err(Failure::of_long(number, refusal)),
         },
-        Err(refusal) => Err(Failure::of_line(number, refusal)),
+        Err(refusal) => {
+            let column = column_of(alloc, line, &refusal, scratch);
+            Err(Failure::of_line(number, column, refusal))
+        }
     }
 }
 
@@ -155,6 +153,9 @@ fn reply_frame(
             Ok(frame) => Ok(frame),
             Err(refusal) => Err(Failure::of_long(number, refusal)),
         },
-        Err(refusal) => Err(Failure::of_line(number, refusal)),
+        Err(refusal) => {
+            let column = column_of(alloc, line, &refusal, scratch);
+            Err(Failure::of_line(number, column, refusal))
+        }
     }
 }

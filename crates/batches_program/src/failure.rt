@@ -16,9 +16,9 @@ use wire::{Failed, Sink, WireError, write_all};
 /// What goes wrong. Lines and frames are counted from 1, blank lines too.
 #[derive(Debug, Drop, Error)]
 pub enum Failure {
-    /// A line is refused.
-    #[error("line {0}: {1}")]
-    Line(u64, LineRefusal),
+    /// A line of JSON is refused, at this column. Columns are counted in bytes, from 1.
+    #[error("line {0}, column {1}: {2}")]
+    Line(u64, u64, LineRefusal),
     /// What a line says is too long for a frame.
     #[error("line {0}: longer as a frame than 4,194,304 bytes")]
     Long(u64),
@@ -28,6 +28,9 @@ pub enum Failure {
     /// The batch of a frame is too long for a frame once it is clipped.
     #[error("frame {0}: its clip is longer as a frame than 4,194,304 bytes")]
     LongClip(u64),
+    /// The line of a split point is refused.
+    #[error("line {0}: {1}")]
+    Point(u64, LineRefusal),
     /// The split point of a line isn't after that of the line before, or is the empty key.
     #[error("line {0}: the split point isn't after the one before")]
     NotRising(u64),
@@ -62,14 +65,25 @@ pub enum Failure {
 }
 
 impl Failure {
-    /// Creates the failure of a refused line.
-    pub fn of_line(number: u64, refusal: LineRefusal) -> Self
+    /// Creates the failure of a refused line of JSON.
+    pub fn of_line(number: u64, column: u64, refusal: LineRefusal) -> Self
         ensures which { ((refusal.cause ≡ Cause.Memory) × (result ≡ Failure.Memory))
-            ⊎ ((refusal.cause ≢ Cause.Memory) × (result ≡ Failure.Line number refusal)) }
+            ⊎ ((refusal.cause ≢ Cause.Memory) × (result ≡ Failure.Line number column refusal)) }
     {
         match refusal.cause {
             Cause::Memory => Failure::Memory,
-            cause => Failure::Line(number, LineRefusal::new(refusal.place, cause)),
+            cause => Failure::Line(number, column, LineRefusal::new(refusal.place, cause)),
+        }
+    }
+
+    /// Creates the failure of the refused line of a split point.
+    pub fn of_point(number: u64, refusal: LineRefusal) -> Self
+        ensures which { ((refusal.cause ≡ Cause.Memory) × (result ≡ Failure.Memory))
+            ⊎ ((refusal.cause ≢ Cause.Memory) × (result ≡ Failure.Point number refusal)) }
+    {
+        match refusal.cause {
+            Cause::Memory => Failure::Memory,
+            cause => Failure::Point(number, LineRefusal::new(refusal.place, cause)),
         }
     }
 
@@ -153,7 +167,8 @@ impl From<io::Error> for Failure {
     }
 }
 
-/// Tells the failure in a line, and returns how the program ends. A failed write changes nothing.
+/// Tells the failure in a line that begins with the program, and returns how the program ends. A
+/// failed write changes nothing.
 pub fn fail<E: Sink>(error: &mut E, alloc: Global, failure: &Failure) -> JobStatus
     ensures failed { result ≡ JobStatus.Failed }
     ensures reported { ReportsLine (E.given error.old) (E.given error.new) (E.failures error.old)
@@ -161,7 +176,7 @@ pub fn fail<E: Sink>(error: &mut E, alloc: Global, failure: &Failure) -> JobStat
 {
     match line_of(alloc, failure) {
         Ok(line) => report_line(error, line.as_bytes()),
-        Err(_) => report_line(error, b"memory was refused\n"),
+        Err(_) => report_line(error, b"batches: memory was refused\n"),
     }
 }
 
@@ -174,7 +189,7 @@ pub fn fail_in<E: Sink>(error: &mut E, alloc: Global, name: &str, failure: &Fail
 {
     match line_in(alloc, name, failure) {
         Ok(named) => report_line(error, named.as_bytes()),
-        Err(_) => report_line(error, b"memory was refused\n"),
+        Err(_) => report_line(error, b"batches: memory was refused\n"),
     }
 }
 
@@ -192,12 +207,12 @@ fn report_line<E: Sink>(error: &mut E, line: &[u8]) -> JobStatus
 fn line_of(alloc: Global, failure: &Failure) -> Result<String, AllocError>
     ensures line { IfOk result (λ line. IsLine (string_bytes line)) }
 {
-    let mut line = format!(in alloc; "{failure}")?;
+    let mut line = format!(in alloc; "batches: {failure}")?;
     line.push('\n')?;
     Ok(line)
 }
 
-// Returns the same with the names before it.
+// Returns the same with the name of the input or of the output.
 fn line_in(alloc: Global, name: &str, failure: &Failure) -> Result<String, AllocError>
     ensures line { IfOk result (λ line. IsLine (string_bytes line)) }
 {

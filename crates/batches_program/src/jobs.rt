@@ -16,14 +16,16 @@ use crate::stats_text::text_of_stats;
 use crate::status::JobStatus;
 use keyspace::Batch;
 use shards::SplitPoints;
+use std::alloc::Global;
 use std::fs::{File, Files};
 use std::io::BufReader;
 use wire::{Sink, StdSource, write_and_flush};
 
-// What messages call standard input and standard output.
+// What messages call standard input.
 const INPUT: &str = "standard input";
 
-const OUTPUT: &str = "standard output";
+/// What messages call standard output.
+pub const OUTPUT: &str = "standard output";
 
 /// Prints what the batches of the files add up to, as lines or as JSON. Prints nothing if a file
 /// has a fault.
@@ -103,8 +105,25 @@ pub fn write_clips<R: Files<File = File> + Input + AllocGlobal, O: Sink, E: Sink
     }
     match clip_file(rt, &split, shard, file, out) {
         Ok(()) => JobStatus::Done,
-        Err(Failure::Write) => fail_in(error, alloc, OUTPUT, &Failure::Write),
-        Err(failure) => fail_in(error, alloc, file.unwrap_or(INPUT), &failure),
+        Err(failure) => fail_between(error, alloc, file, &failure),
+    }
+}
+
+/// Tells the failure of reading a file, or standard input, and writing standard output. Returns how
+/// the program ends.
+pub fn fail_between<E: Sink>(
+    error: &mut E,
+    alloc: Global,
+    file: Option<&str>,
+    failure: &Failure,
+) -> JobStatus
+    ensures failed { result ≡ JobStatus.Failed }
+    ensures reported { ReportsLine (E.given error.old) (E.given error.new) (E.failures error.old)
+        (E.failures error.new) }
+{
+    match failure {
+        Failure::Write => fail_in(error, alloc, OUTPUT, failure),
+        _ => fail_in(error, alloc, file.unwrap_or(INPUT), failure),
     }
 }
 

@@ -9,6 +9,7 @@
 #![tactic(auto)]
 
 mod clipper;
+mod column;
 mod command;
 mod converter;
 mod counter;
@@ -20,6 +21,8 @@ mod frame;
 mod frame_tally;
 mod job;
 mod jobs;
+mod json_fault;
+mod json_tokens;
 mod kind;
 pub mod laws;
 mod opening_batch;

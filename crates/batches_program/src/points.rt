@@ -65,7 +65,7 @@ fn point_of(alloc: Global, number: u64, line: &[u8]) -> Result<Key, Failure>
 {
     match key_of_line(alloc, line) {
         Ok(key) => Ok(key),
-        Err(refusal) => Err(Failure::of_line(number, refusal)),
+        Err(refusal) => Err(Failure::of_point(number, refusal)),
     }
 }
 

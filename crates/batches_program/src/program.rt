@@ -4,9 +4,9 @@ ghost use Rattle.std.specs.Prelude.{◌≡◌, IsTrue, OnOk, not};
 ghost use Rattle.batches_program.specs.ErrorText.{ReportsText, ReportsLine};
 
 use crate::converter::convert;
-use crate::failure::{Failure, fail};
+use crate::failure::{Failure, fail, fail_in};
 use crate::job::{Job, JobLine};
-use crate::jobs::{print_points, print_stats, write_clips};
+use crate::jobs::{OUTPUT, fail_between, print_points, print_stats, write_clips};
 use crate::opening_batch::write_opening;
 use crate::progress::{FileProgress, LONG_FILE};
 use crate::report_page::write_report;
@@ -92,7 +92,7 @@ fn convert_file<R: Files<File = File> + Input + AllocGlobal, O: Sink, E: Sink>(
 {
     match do_line(rt, line, watched, out, error) {
         Ok(()) => JobStatus::Done,
-        Err(failure) => fail(error, rt.alloc(), &failure),
+        Err(failure) => fail_between(error, rt.alloc(), line.file, &failure),
     }
 }
 
@@ -115,6 +115,7 @@ fn open_chain<O: Sink, E: Sink>(
     }
     match write_opening(alloc, version, out) {
         Ok(()) => JobStatus::Done,
+        Err(Failure::Write) => fail_in(error, alloc, OUTPUT, &Failure::Write),
         Err(failure) => fail(error, alloc, &failure),
     }
 }
@@ -146,7 +147,7 @@ fn end<O: Sink, E: Sink>(
     match stop {
         ArgumentsStop::Shown(text) => match write_and_flush(out, text.as_bytes()) {
             Ok(()) => JobStatus::Done,
-            Err(Failed) => fail(error, alloc, &Failure::Write),
+            Err(Failed) => fail_in(error, alloc, OUTPUT, &Failure::Write),
         },
         ArgumentsStop::Refused(text) => {
             let _ = write_all(error, text.as_bytes());

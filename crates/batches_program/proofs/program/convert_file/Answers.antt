@@ -5,6 +5,6 @@ pub returns-in-Err-clause-reported : goal.returns-in-Err-clause-reported
 returns-in-Err-clause-reported g c failed =
     let given = g.E.Sink.given in
     let failures = g.E.Sink.failures in
-    line_after (given c.args.error.now) (given c.do_line.new.error) (given c.fail.new.error)
-    (failures c.args.error.now) (failures c.do_line.new.error) (failures c.fail.new.error)
-    c.do_line.ensures.reported c.fail.ensures.reported
+    line_after (given c.args.error.now) (given c.do_line.new.error) (given c.fail_between.new.error)
+    (failures c.args.error.now) (failures c.do_line.new.error) (failures c.fail_between.new.error)
+    c.do_line.ensures.reported c.fail_between.ensures.reported
