@@ -5,15 +5,14 @@
 
 ghost use Rattle.std.specs.Prelude.{◌≡◌, ◌+◌, ◌-◌, ◌≤◌, All, length, map, take, drop};
 ghost use Rattle.std.specs.List.{AllZip};
-ghost use Rattle.filter.specs.Filter.{bound_in};
+ghost use Rattle.stepmap.specs.Filter.{bound_in};
 ghost use Rattle.keys.specs.Hash.{hash_of};
 ghost use Rattle.keys.specs.Range.{IsSingle};
-ghost use Rattle.tree.specs.declared.question.TheConstants.{SIDE};
+ghost use Rattle.boundaries.specs.declared.question.TheConstants.{SIDE};
 
-use crate::query::QueryList;
+use crate::filter::Filter;
 use arrayvec::ArrayVec;
-use filter::Filter;
-use tree::SIDE;
+use boundaries::{QueryList, SIDE};
 
 /// Returns a hash for each of the queries from one index up to another: that of its key, if its
 /// range is a single key. It looks at no key.

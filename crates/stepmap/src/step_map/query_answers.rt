@@ -7,15 +7,14 @@ ghost use Rattle.std.specs.List.{AllZip};
 ghost use Rattle.keys.specs.Range.{IsEmpty};
 ghost use Rattle.stepmap.specs.Covers.{IsAbove};
 ghost use Rattle.stepmap.specs.Filtering.{AreMarked, IsBound};
-ghost use Rattle.tree.specs.declared.question.TheConstants.{SIDE};
+ghost use Rattle.boundaries.specs.declared.question.TheConstants.{SIDE};
 
 use super::StepMap;
 use crate::filter_bounds::{bounds_at, hashes_from, repeated};
 use crate::left::put_answers;
-use crate::query::QueryList;
 use arrayvec::ArrayVec;
+use boundaries::{QueryList, SIDE};
 use std::alloc::AllocError;
-use tree::SIDE;
 
 impl StepMap {
     // Answers the next of the queries, and appends the answers. At most `SIDE` of them are looked

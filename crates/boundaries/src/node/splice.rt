@@ -1,0 +1,70 @@
+//! Entries that replace others of a node.
+
+ghost use Rattle.std.specs.Prelude.{◌≡◌, ◌<◌, ◌≤◌, ◌+◌, ◌-◌, ◌++◌, length, take, drop, option_map};
+ghost use Rattle.boundaries.specs.Node.{IsHeaded, entries_of};
+ghost use Rattle.boundaries.specs.Splice.{AreHalfFull, CanSplice, spliced};
+ghost use Rattle.boundaries.specs.declared.node.TheConstants.{FAN_OUT};
+
+use super::{FAN_OUT, HALF_FULL, Node};
+use crate::entry::NodeEntry;
+use crate::key_bound::Keys;
+
+/// One entry or two, which replace those of a node from one index up to another.
+#[derive(Clone, Copy, Debug)]
+pub struct Splice<'a> {
+    pub from: usize,
+    pub to: usize,
+    pub new: &'a [NodeEntry],
+    /// Their heads, if their keys begin as all others do. Else all heads are computed anew.
+    pub heads: Option<[u32; 2]>,
+    ghost few: { length new.now ≤ 2 },
+}
+
+impl Node {
+    /// Replaces entries.
+    pub fn splice(&mut self, keys: &Keys, splice: Splice<'_>)
+        requires can_splice { CanSplice keys.now self.old splice }
+        requires room { length (spliced splice (entries_of self.old)) ≤ FAN_OUT }
+        ensures entries { entries_of self.new ≡ spliced splice (entries_of self.old) }
+        ensures headed { IsHeaded keys.now self.new }
+    {
+        let Splice { from, to, new, heads } = splice;
+        match heads {
+            Some(heads) => self.replace(from, to, new, Some(&heads[..new.len()])),
+            None => {
+                self.replace(from, to, new, None);
+                self.compute_heads(keys);
+            }
+        }
+    }
+
+    /// Replaces entries where there is no room for all. The entries of the second half are
+    /// returned.
+    pub fn splice_apart(&mut self, keys: &Keys, splice: Splice<'_>) -> Node
+        requires can_splice { CanSplice keys.now self.old splice }
+        requires many { FAN_OUT < length (spliced splice (entries_of self.old)) }
+        ensures entries { entries_of self.new ++ entries_of result
+            ≡ spliced splice (entries_of self.old) }
+        ensures filled { AreHalfFull (entries_of self.new) (entries_of result) }
+        ensures headed { IsHeaded keys.now self.new × IsHeaded keys.now result }
+    {
+        let half = self.len - HALF_FULL;
+        if splice.to <= half {
+            let mut right = self.split_off(half);
+            self.splice(keys, splice);
+            self.lengthen_prefix(keys);
+            right.lengthen_prefix(keys);
+            return right;
+        }
+        let mut right = self.split_off(HALF_FULL);
+        let moved = Splice {
+            from: splice.from - HALF_FULL,
+            to: splice.to - HALF_FULL,
+            ..splice
+        };
+        right.splice(keys, moved);
+        self.lengthen_prefix(keys);
+        right.lengthen_prefix(keys);
+        right
+    }
+}

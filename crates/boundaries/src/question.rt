@@ -1,0 +1,90 @@
+//! What boundaries are asked.
+
+ghost use Rattle.std.specs.Prelude.{◌≡◌, ◌∷◌, ◌++◌, [], true, false, take};
+ghost use Rattle.keys.specs.Hash.{IsHashOf};
+ghost use Rattle.keys.specs.Key.{IsBefore};
+ghost use Rattle.keys.specs.Range.{IsEmpty};
+
+use crate::key_bound::KeyBound;
+use crate::query::RangeQuery;
+use keys::common_prefix_len;
+
+/// How many questions are answered side by side at most: few enough that they and the nodes that
+/// are read for them fit into the first-level cache together.
+pub const SIDE: usize = 16;
+
+const _: () = prove!(SIDE == 16);
+
+/// Asks whether a version at some key of a range, which isn't empty, is above this one.
+#[derive(Clone, Copy, Debug)]
+pub struct Question<'a> {
+    begin: &'a [u8],
+    end: &'a [u8],
+    /// How many bytes both begin with in common, or fewer.
+    pub common_prefix_len: usize,
+    /// Says that the range holds its begin alone, so that the last boundary that isn't after it
+    /// decides the answer. It may be false although it is so.
+    pub is_single: bool,
+    pub version: i64,
+    ghost filled: { IsBefore begin.now end.now },
+    ghost single: { is_single ≡ true → end.now ≡ begin.now ++ 0 ∷ [] },
+    ghost common: { take common_prefix_len begin.now ≡ take common_prefix_len end.now },
+}
+
+impl<'a> Question<'a> {
+    /// Returns the question for a query whose range isn't empty.
+    pub fn of(query: RangeQuery<'a>) -> Self
+        requires filled { ¬ IsEmpty query.range }
+        requires hash { IsHashOf query.range query.hash }
+        ensures begin { result.begin.now ≡ query.entry.range.begin }
+        ensures end { result.end.now ≡ query.entry.range.end }
+        ensures version { result.version ≡ query.entry.version }
+    {
+        let begin = query.range.begin();
+        let end = query.range.end();
+        let is_single = query.hash.is_some();
+        // A key is a prefix of the one right after it.
+        let common_prefix_len = if is_single {
+            begin.len()
+        } else {
+            common_prefix_len(begin, end)
+        };
+        Question {
+            begin,
+            end,
+            common_prefix_len,
+            is_single,
+            version: query.version,
+        }
+    }
+
+    /// Returns the bound right after the begin. The last boundary below it has the version at the
+    /// begin.
+    pub fn from(&self) -> KeyBound<'a>
+        ensures key { result.key.now ≡ self.now.begin.now }
+        ensures up_to { result.up_to ≡ true }
+    {
+        KeyBound::after(self.begin)
+    }
+
+    /// Returns the bound right before the end.
+    pub fn to(&self) -> KeyBound<'a>
+        ensures key { result.key.now ≡ self.now.end.now }
+        ensures up_to { result.up_to ≡ false }
+    {
+        KeyBound::before(self.end)
+    }
+}
+
+impl Default for Question<'_> {
+    /// Returns a question about the empty key, which stands where none is asked.
+    fn default() -> Self {
+        Question {
+            begin: &[],
+            end: &[0],
+            common_prefix_len: 0,
+            is_single: false,
+            version: 0,
+        }
+    }
+}

@@ -1,0 +1,105 @@
+//! The run of a leaf's entries that is written over, and what comes in its place.
+
+ghost use Rattle.std.specs.Prelude.{◌≡◌, ◌≤◌, ◌+◌, ◌-◌, ◌<◌, length, None};
+ghost use Rattle.boundaries.specs.EntryRun.{CanFindRun, CanWriteRun, IsRun, IsRunWritten};
+ghost use Rattle.boundaries.specs.Rebalancing.{IsStored};
+ghost use Rattle.boundaries.specs.Subtree.{entries_at};
+ghost use Rattle.boundaries.specs.declared.node.TheConstants.{FAN_OUT};
+
+use crate::descent::Position;
+use crate::entry::NodeEntry;
+use crate::node::Splice;
+use crate::overwrite::Overwrite;
+use crate::store::{Store, put_removed};
+use arena::Slot;
+
+/// The position of a run among the entries of a leaf.
+#[derive(Clone, Copy, Debug)]
+pub struct EntryRun {
+    /// How many entries are before the start.
+    pub begin: usize,
+    /// How many are before the end: at least one.
+    pub end: usize,
+    /// The head of the start, if that begins as all keys do.
+    pub begin_head: Option<u32>,
+    /// The head of the end.
+    pub end_head: Option<u32>,
+    /// Whether there is a boundary at the end, so that none is put in there.
+    pub ended: bool,
+}
+
+/// Finds the run in the leaf that has the last boundary before the end.
+pub fn find_run(store: &Store, position: Position, new: &Overwrite<'_>) -> EntryRun
+    requires can_find { CanFindRun store.now position new.now }
+    ensures run { IsRun store.now position.slot position.following new.now result }
+{
+    let keys = &store.keys;
+    let leaf = store.nodes.header_ref(position.slot);
+    let known = position.common_prefix_len;
+    let end_head = leaf.head_for(keys, new.to(), known);
+    let end = leaf.lower_bound_by_head(keys, new.to(), end_head);
+    let common = new.common_prefix_len;
+    let begin_head = leaf.head_beside(keys, new.from(), known, common, end_head);
+    let begin = leaf.lower_bound_back(keys, end, new.from(), begin_head);
+    let ended = if end < leaf.len() {
+        leaf.is_below_at(keys, end, new.past(), end_head)
+    } else {
+        match position.following {
+            Some(key) => new.past().is_below(keys, key),
+            None => false,
+        }
+    };
+    EntryRun {
+        begin,
+        end,
+        begin_head,
+        end_head,
+        ended,
+    }
+}
+
+/// Replaces the run by the new boundaries. Returns the slot of the leaf's right neighbour if there
+/// is no room for all, so that it is split. It takes no memory.
+#[inline(always)]
+pub fn write_run(
+    store: &mut Store,
+    slot: Slot,
+    new: &Overwrite<'_>,
+    run: EntryRun,
+) -> Option<Slot>
+    requires can_write { CanWriteRun store.old slot new.now run }
+    ensures written { IsRunWritten store.old store.new slot new.now run result }
+    ensures stored { IsStored store.old store.new slot result }
+    ensures fits { run.begin + 2 + (length (entries_at store.old.nodes slot) - run.end) ≤ FAN_OUT
+        → result ≡ None }
+{
+    let EntryRun { begin, end, .. } = run;
+    let entries = store.nodes.header_ref(slot).entries();
+    let last = entries[end - 1].version;
+    put_removed(&mut store.removed, &entries[begin..end]);
+    let start = store.keys.place((), new.start).unwrap();
+    let first = NodeEntry::of(start, new.version);
+    // The keys of both entries have the bytes of the start and the end, and so their heads.
+    let heads = match (run.begin_head, run.end_head) {
+        (Some(begin), Some(end)) => Some([begin, end]),
+        _ => None,
+    };
+    if run.ended {
+        let new = Splice {
+            from: begin,
+            to: end,
+            new: &[first],
+            heads,
+        };
+        return store.splice(slot, new);
+    }
+    let key = store.keys.place((), new.end).unwrap();
+    let second = NodeEntry::of(key, new.at_end.unwrap_or(last));
+    let new = Splice {
+        from: begin,
+        to: end,
+        new: &[first, second],
+        heads,
+    };
+    store.splice(slot, new)
+}
