@@ -1,8 +1,8 @@
 -- Whether a version is above another, of items and of the entries for them.
 use Rattle.std.proofs.Common.{◌≡◌, Bool, true, List, map, IsTrue, ◌↔◌, All, Any, int_le, arith, ℤ, ◌<ℤ◌, ◌≤ℤ◌, w64, SFits, to_z, of_z}
 use Rattle.std.proofs.lemmas.Int.{ints, to_z-of_z}
-use Rattle.tree.proofs.Words.{NodeEntry, Item, item_of}
-use Rattle.tree.proofs.GreatestParts.{Bounds}
+use Rattle.boundaries.proofs.Words.{NodeEntry, Item, item_of}
+use Rattle.boundaries.proofs.GreatestParts.{Bounds}
 use Rattle.keys.proofs.callers.SomeElement.{Any-map, Any-unmap}
 
 -- the other way about

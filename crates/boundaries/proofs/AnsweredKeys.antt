@@ -2,10 +2,10 @@
 use Rattle.std.proofs.Common.{◌≡◌, ℕ, ◌+◌, ◌-◌, ◌<◌, ◌≤◌, Bool, true, false, List, [], ◌∷◌, Some, None, length, get_or, slice_get, filter, flat_map, All, refl, sym, ap, arith, ◌≢◌, Option, unwrap_or}
 use Rattle.std.proofs.lemmas.Bool.{cases_Bool}
 use Rattle.std.proofs.lemmas.Option.{slice_get_read}
-use Rattle.tree.proofs.Words.{Arena, NodeEntry, Node, KeyBytes, IsCommonPrefix, IsCommonPrefixAt, Item, Describes, CanReach, IsPartitioned, index_in, entries_at, items_in}
-use Rattle.tree.proofs.callers.Partitions.{none_pass, rest_fails, length-items_below}
-use Rattle.tree.proofs.HeadCounts.{passing_at, passing_inside}
-use Rattle.tree.proofs.FirstKeys.{first_describes, items_under, node_items, node_describes}
+use Rattle.boundaries.proofs.Words.{Arena, NodeEntry, Node, KeyBytes, IsCommonPrefix, IsCommonPrefixAt, Item, Describes, CanReach, IsPartitioned, index_in, entries_at, items_in}
+use Rattle.boundaries.proofs.callers.Partitions.{none_pass, rest_fails, length-items_below}
+use Rattle.boundaries.proofs.HeadCounts.{passing_at, passing_inside}
+use Rattle.boundaries.proofs.FirstKeys.{first_describes, items_under, node_items, node_describes}
 
 -- Where the first entry passes, some do.
 pub some_pass : (is_below : ℕ → Bool) (es : List NodeEntry) → 1 ≤ length es
@@ -51,7 +51,7 @@ none_from_first is_below under es e there describe (x ∷ xs) same partitioned f
     (none_pass p (x ∷ xs) (rest_fails p x xs partitioned (rw (← first_describes under es e there describe x xs (sym same)) f))).0
 
 -- What is known of the first key is not that it doesn't pass, where some item does.
-pub known_where_some : {N : ℕ} {nodes : Arena (Node N)} {least height slot : ℕ} {bytes : KeyBytes} {is_below : ℕ → Bool}
+pub known_where_some : {nodes : Arena Node} {least height slot : ℕ} {bytes : KeyBytes} {is_below : ℕ → Bool}
     (target : List ℕ) (known : Option ℕ) → CanReach bytes is_below nodes least height slot
     → filter (λ x. is_below x.key) (items_in nodes height slot) ≢ []
     → IsCommonPrefixAt bytes is_below target known (entries_at nodes slot) 0

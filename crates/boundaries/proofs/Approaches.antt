@@ -1,8 +1,8 @@
 -- Where a question leads.
 use Rattle.std.proofs.Common.{rules, ℕ, Bool, false, List, Option, Some, ℤ}
-use Rattle.tree.proofs.Words.{Arena, Node, Approach, Leaf, Clear, Open, KeyBytes, IsApproach, IsLeading, IsAnswer, items_in}
+use Rattle.boundaries.proofs.Words.{Arena, Node, Approach, Leaf, Clear, Open, KeyBytes, IsApproach, IsLeading, IsAnswer, items_in}
 
-module _ {N : ℕ} (nodes : Arena (Node N)) (bytes : KeyBytes) (p q : ℕ → Bool) (target : List ℕ) (v : ℤ) where
+module _ (nodes : Arena Node) (bytes : KeyBytes) (p q : ℕ → Bool) (target : List ℕ) (v : ℤ) where
   -- What answers for a part answers for the whole, where what is told of the part is told of the whole.
   pub approach_wider : (height slot low child : ℕ) (clear next : Bool) (approach : Approach)
       → ((result : Option Bool) → IsAnswer p q v next (items_in nodes low child) result

@@ -2,30 +2,30 @@
 use Rattle.std.proofs.Common.{◌≡◌, ℕ, ◌∙◌, Bool, List, [], ◌∷◌, Option, None, Some, refl, arith}
 use Rattle.std.proofs.lemmas.Option.{IfSome_then}
 use Rattle.arena.specs.Arena.{Arena, IsLive, header_at, with_header}
-use Rattle.tree.specs.declared.entry.NodeEntry.{NodeEntry}
-use Rattle.tree.specs.declared.node.Node.{Node}
-use Rattle.tree.specs.declared.walk.LeafOutcome.{LeafOutcome}
-use Rattle.tree.specs.declared.walk.RaisedLeaf.{RaisedLeaf}
-use Rattle.tree.specs.declared.walk.LeafOutcome.TheVariants.{Same, Raised, Changed}
-use Rattle.tree.specs.Finding.{CanFind, CanStep}
-use Rattle.tree.specs.Heads.{KeyBytes, AllAreHeads, AreHeads}
-use Rattle.tree.specs.Node.{key_heads_of, all_heads_of}
-use Rattle.tree.specs.Item.{Item}
-use Rattle.tree.specs.Overwrite.{IsPartOfPartitioned}
-use Rattle.tree.specs.Rebalancing.{IsStored}
-use Rattle.tree.specs.Children.{slot_taken, slots_with, Changes, IsKeyless}
-use Rattle.tree.specs.Subtree.{entries_at, items_in, slots_in}
-use Rattle.tree.specs.Walk.{CanChange, CanChangeLeaf, IsChanged, IsRaisedAt, added_by}
-use Rattle.tree.proofs.callers.Times.{once_if_distinct}
-use Rattle.tree.proofs.Changing.{changes_if_moves, moves_same}
-use Rattle.tree.proofs.Headed.{headed_at, key_heads_kept}
-use Rattle.tree.proofs.KnownKeys.{headed_header}
-use Rattle.tree.proofs.Leaves.{entries_of_partitioned}
-use Rattle.tree.proofs.Placing.{entries_from_header, put_live, put_moves}
-use Rattle.tree.proofs.WrittenLeaf.{part_partitioned}
+use Rattle.boundaries.specs.declared.entry.NodeEntry.{NodeEntry}
+use Rattle.boundaries.specs.declared.node.Node.{Node}
+use Rattle.boundaries.specs.declared.walk.LeafOutcome.{LeafOutcome}
+use Rattle.boundaries.specs.declared.walk.RaisedLeaf.{RaisedLeaf}
+use Rattle.boundaries.specs.declared.walk.LeafOutcome.TheVariants.{Same, Raised, Changed}
+use Rattle.boundaries.specs.Finding.{CanFind, CanStep}
+use Rattle.boundaries.specs.Heads.{KeyBytes, AllAreHeads, AreHeads}
+use Rattle.boundaries.specs.Node.{key_heads_of, all_heads_of}
+use Rattle.boundaries.specs.Item.{Item}
+use Rattle.boundaries.specs.Overwrite.{IsPartOfPartitioned}
+use Rattle.boundaries.specs.Rebalancing.{IsStored}
+use Rattle.boundaries.specs.Children.{slot_taken, slots_with, Changes, IsKeyless}
+use Rattle.boundaries.specs.Subtree.{entries_at, items_in, slots_in}
+use Rattle.boundaries.specs.Walk.{CanChange, CanChangeLeaf, IsChanged, IsRaisedAt, added_by}
+use Rattle.boundaries.proofs.callers.Times.{once_if_distinct}
+use Rattle.boundaries.proofs.Changing.{changes_if_moves, moves_same}
+use Rattle.boundaries.proofs.Headed.{headed_at, key_heads_kept}
+use Rattle.boundaries.proofs.KnownKeys.{headed_header}
+use Rattle.boundaries.proofs.Leaves.{entries_of_partitioned}
+use Rattle.boundaries.proofs.Placing.{entries_from_header, put_live, put_moves}
+use Rattle.boundaries.proofs.WrittenLeaf.{part_partitioned}
 
 -- A subtree that stays as it is.
-pub unchanged : {N : ℕ} (bytes : KeyBytes) (nodes : Arena (Node N)) (height slot : ℕ) → CanChange nodes height slot
+pub unchanged : (bytes : KeyBytes) (nodes : Arena Node) (height slot : ℕ) → CanChange nodes height slot
     → AllAreHeads bytes (all_heads_of nodes) → IsChanged bytes nodes nodes height slot Same
 unchanged bytes nodes height slot can headed = record {
   same = λ _. refl;
@@ -41,7 +41,7 @@ unchanged bytes nodes height slot can headed = record {
 }
 
 -- A node whose header is put is stored.
-pub put_stored : {N : ℕ} {bytes : KeyBytes} (old : Arena (Node N)) (slot : ℕ) (node : Node N) → IsLive old slot → IsKeyless old
+pub put_stored : {bytes : KeyBytes} (old : Arena Node) (slot : ℕ) (node : Node) → IsLive old slot → IsKeyless old
     → AllAreHeads bytes (all_heads_of old) → AreHeads bytes (key_heads_of node)
     → IsStored bytes old (with_header old slot node) slot None
 put_stored {N} {bytes} old slot node live keyless all headed =
@@ -57,7 +57,7 @@ put_stored {N} {bytes} old slot node live keyless all headed =
     }
 
 -- A leaf that is stored, and its right neighbour if it is split.
-pub leaf_stored : {N : ℕ} {bytes : KeyBytes} {old new : Arena (Node N)} {slot : ℕ} (outcome : LeafOutcome) → CanChange old 0 slot
+pub leaf_stored : {bytes : KeyBytes} {old new : Arena Node} {slot : ℕ} (outcome : LeafOutcome) → CanChange old 0 slot
     → IsStored bytes old new slot (added_by outcome) → (outcome ≡ Same → new ≡ old)
     → ((leaf : RaisedLeaf) → outcome ≡ Raised leaf → IsRaisedAt old new 0 slot leaf) → IsChanged bytes old new 0 slot outcome
 leaf_stored {N} {bytes} {old} {new} {slot} outcome can stored same raised = record {
@@ -75,8 +75,8 @@ leaf_stored {N} {bytes} {old} {new} {slot} outcome can stored same raised = reco
 }
 
 -- A leaf that is changed where it lies, where nothing is told of its first key.
-pub leaf_changed : {N : ℕ} {bytes : KeyBytes} {is_below : ℕ → Bool} {target : List ℕ} {Wants : List Item → Type 0}
-    {nodes : Arena (Node N)} {slot : ℕ} {common_prefix_len : Option ℕ} {taken : List NodeEntry} (node : Node N)
+pub leaf_changed : {bytes : KeyBytes} {is_below : ℕ → Bool} {target : List ℕ} {Wants : List Item → Type 0}
+    {nodes : Arena Node} {slot : ℕ} {common_prefix_len : Option ℕ} {taken : List NodeEntry} (node : Node)
     → CanChangeLeaf bytes is_below target Wants nodes 0 slot common_prefix_len taken → AreHeads bytes (key_heads_of node)
     → IsChanged bytes nodes (with_header nodes slot node) 0 slot Changed
 leaf_changed node can headed =
@@ -85,8 +85,8 @@ leaf_changed node can headed =
     (λ leaf e. absurd (cc))
 
 -- In a leaf that may be changed, and that was read, the bound can be sought.
-pub leaf_can_step : {N : ℕ} {bytes : KeyBytes} {is_below : ℕ → Bool} {target : List ℕ} {Wants : List Item → Type 0}
-    {nodes : Arena (Node N)} {slot : ℕ} {common_prefix_len : Option ℕ} {taken : List NodeEntry} {leaf : Node N}
+pub leaf_can_step : {bytes : KeyBytes} {is_below : ℕ → Bool} {target : List ℕ} {Wants : List Item → Type 0}
+    {nodes : Arena Node} {slot : ℕ} {common_prefix_len : Option ℕ} {taken : List NodeEntry} {leaf : Node}
     → CanChangeLeaf bytes is_below target Wants nodes 0 slot common_prefix_len taken → header_at nodes slot ≡ Some leaf
     → CanStep bytes is_below target leaf common_prefix_len
 leaf_can_step {N} {bytes} {is_below} {target} {Wants} {nodes} {slot} {common_prefix_len} {taken} {leaf} can header =
@@ -101,7 +101,7 @@ leaf_can_step {N} {bytes} {is_below} {target} {Wants} {nodes} {slot} {common_pre
     }
 
 -- So can another bound, of keys that have the same bytes, that goes through items of which the leaf's are a part.
-pub leaf_can_find : {N : ℕ} {bytes : KeyBytes} {is_below : ℕ → Bool} {leaf : Node N} (nodes : Arena (Node N)) (slot : ℕ)
+pub leaf_can_find : {bytes : KeyBytes} {is_below : ℕ → Bool} {leaf : Node} (nodes : Arena Node) (slot : ℕ)
     → CanFind bytes is_below leaf → (hint : KeyBytes) (other : ℕ → Bool) → ((key : ℕ) → hint key ≡ bytes key)
     → header_at nodes slot ≡ Some leaf → IsPartOfPartitioned other (items_in nodes 0 slot) → CanFind hint other leaf
 leaf_can_find {N} {bytes} {is_below} {leaf} nodes slot can hint other same header part =

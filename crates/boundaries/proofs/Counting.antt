@@ -4,11 +4,11 @@ use Rattle.std.proofs.lemmas.List.{length-map}
 use Rattle.std.proofs.Math.Nat.{mul-le-mul_left, pow-le-pow_right, two-pow-succ}
 use Rattle.std.proofs.lemmas.Bool.{cases_lt}
 use Rattle.std.proofs.lemmas.List.Elements.{All-head, All-tail}
-use Rattle.tree.proofs.Words.{Arena, spare_of, NodeEntry, Node, item_of, AreChildren, items_of, slots_of, entries_at, items_in, slots_in, IsSubtree, IsTree, least_of}
-use Rattle.tree.proofs.Frames.{IsRight}
-use Rattle.tree.proofs.LeafChange.{root_some}
+use Rattle.boundaries.proofs.Words.{Arena, spare_of, NodeEntry, Node, item_of, AreChildren, items_of, slots_of, entries_at, items_in, slots_in, IsSubtree, IsTree, least_of}
+use Rattle.boundaries.proofs.Frames.{IsRight}
+use Rattle.boundaries.proofs.LeafChange.{root_some}
 
-module _ {N : ℕ} (nodes : Arena (Node N)) (least : ℕ) where
+module _ (nodes : Arena Node) (least : ℕ) where
   -- where each child has so many items for each node, and so many more
   fill_each : (k j height : ℕ) → ((slot : ℕ) → IsSubtree nodes least height slot → least ≤ length (entries_at nodes slot)
       → k * length (slots_in nodes height slot) + j ≤ length (items_in nodes height slot))
@@ -40,25 +40,25 @@ module _ {N : ℕ} (nodes : Arena (Node N)) (least : ℕ) where
       omega (arith, each, power, mul-le-mul_left bound several)
 
 -- a tree that a machine can count is lower than 63
-pub low : {N : ℕ} (nodes : Arena (Node N)) (root height len room : ℕ) → IsTree nodes root height len room
+pub low : (nodes : Arena Node) (root height len room : ℕ) → IsTree nodes root height len room
     → len < 2 ^ 64 → height < 63
 low {N} nodes root height len room t fits = elim (cases_lt height 63) [
   | inl less ↦ less
   | inr high ↦
-      let many = many_items nodes (least_of N) (omega arith) height root t.rooted.subtree (t.rooted.branches (omega arith)) in
+      let many = many_items nodes (HALF_FULL) (omega arith) height root t.rooted.subtree (t.rooted.branches (omega arith)) in
       let power : 2 ^ 63 ≤ 2 ^ height = pow-le-pow_right (lit< tt) high in
       absurd (omega (arith, many, power, t.counted))
 ]
 
 -- enough nodes are spare for a change
-pub enough_spare : {N : ℕ} (nodes : Arena (Node N)) (root height len room : ℕ) → IsTree nodes root height len room
+pub enough_spare : (nodes : Arena Node) (root height len room : ℕ) → IsTree nodes root height len room
     → 66 ≤ spare_of nodes 0
 enough_spare {N} nodes root height len room t = elim (cases_lt (spare_of nodes 0) 66) [
   | inl few ↦
-      let count = few_nodes nodes (least_of N) (least_of N - 1) (omega arith) height root t.rooted.subtree in
+      let count = few_nodes nodes (HALF_FULL) (HALF_FULL - 1) (omega arith) height root t.rooted.subtree in
       let filled = root_some nodes root height len room t in
       let reserved = rw t.rooted.linked at t.reserved in
       let less : spare_of nodes 0 ≤ 65 = omega arith in
-      absurd (omega (arith, count, filled, reserved, t.counted, t.within, mul-le-mul_left (least_of N - 1) less))
+      absurd (omega (arith, count, filled, reserved, t.counted, t.within, mul-le-mul_left (HALF_FULL - 1) less))
   | inr many ↦ many
 ]

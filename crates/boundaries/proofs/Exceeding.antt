@@ -2,8 +2,8 @@
 use Rattle.std.proofs.Common.{◌≡◌, List, Some, IsTrue, ◌↔◌, int_lt, inl, inr, arith, ℤ, ◌<ℤ◌, w64, SFits, to_z, of_z}
 use Rattle.std.proofs.lemmas.Int.{ints, to_z-of_z}
 use Rattle.keys.proofs.callers.SomeElement.{Any-weaker}
-use Rattle.tree.proofs.Words.{Item, IsMost}
-use Rattle.tree.proofs.Above.{IsAbove}
+use Rattle.boundaries.proofs.Words.{Item, IsMost}
+use Rattle.boundaries.proofs.Above.{IsAbove}
 
 -- the test as the code makes it
 above_tested : (a b : ℤ) → SFits w64 a → SFits w64 b

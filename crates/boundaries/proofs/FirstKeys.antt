@@ -3,8 +3,8 @@ use Rattle.std.proofs.Common.{◌≡◌, ℕ, zero, suc, ◌-◌, ◌≤◌, Boo
 use Rattle.std.proofs.lemmas.Int.{ints}
 use Rattle.std.proofs.lemmas.List.Concat.{flat_map_single}
 use Rattle.std.proofs.lemmas.List.Elements.{All-cons, All-nil, All-head}
-use Rattle.tree.proofs.Words.{Arena, header_at, NodeEntry, Node, KeyBytes, IsCommonPrefix, IsCommonPrefixAt, Item, Describes, item_of, entries_of, index_in, entries_at, items_in, IsChild, IsSubtree}
-use Rattle.tree.proofs.Found.{IsFound, entries_read}
+use Rattle.boundaries.proofs.Words.{Arena, header_at, NodeEntry, Node, KeyBytes, IsCommonPrefix, IsCommonPrefixAt, Item, Describes, item_of, entries_of, index_in, entries_at, items_in, IsChild, IsSubtree}
+use Rattle.boundaries.proofs.Found.{IsFound, entries_read}
 use Rattle.keys.proofs.callers.SomeElement.{Any-first}
 
 -- The first of some entries has the first key of the items below them.
@@ -16,7 +16,7 @@ first_describes under (d ∷ es) e is describe x xs same =
     cc (t.key, rw t.items_are at same)
 
 -- the items of an entry of a node of this height: its own one, or those of its child
-abbrev pub items_under : {N : ℕ} → Arena (Node N) → ℕ → NodeEntry → List Item
+abbrev pub items_under : Arena Node → ℕ → NodeEntry → List Item
 items_under nodes zero e = item_of e ∷ []
 items_under nodes (suc height) e = items_in nodes height e.child
 
@@ -26,7 +26,7 @@ item_describes e =
     let has = Any-first (λ (x : Item). x.version ≡ e.version) (item_of e) [] refl in
     record { first = item_of e; others = []; items_are = refl; key = refl; greatest = record { bound = bound; reached = has } }
 
-module _ {N : ℕ} (nodes : Arena (Node N)) (least : ℕ) where
+module _ (nodes : Arena Node) (least : ℕ) where
   pub node_items : (height slot : ℕ) → items_in nodes height slot ≡ flat_map (items_under nodes height) (entries_at nodes slot)
   node_items zero slot = sym (flat_map_single item_of (entries_at nodes slot))
   node_items (suc height) slot = refl
@@ -47,9 +47,9 @@ module _ {N : ℕ} (nodes : Arena (Node N)) (least : ℕ) where
       rw (own, ← t.key) knows
 
 -- What a search finds out at an entry holds of the first key of the child at which it goes on.
-module _ {N : ℕ} (nodes : Arena (Node N)) (least height slot : ℕ) (is_below : ℕ → Bool) (child : ℕ)
+module _ (nodes : Arena Node) (least height slot : ℕ) (is_below : ℕ → Bool) (child : ℕ)
     (f : IsFound nodes least height slot is_below child) where
-  pub known_below : (bytes : KeyBytes) (target : List ℕ) (known : Option ℕ) (header : Node N) (index : ℕ)
+  pub known_below : (bytes : KeyBytes) (target : List ℕ) (known : Option ℕ) (header : Node) (index : ℕ)
       → header_at nodes slot ≡ Some header → index ≡ index_in is_below (entries_of header)
       → IsCommonPrefixAt bytes is_below target known (entries_of header) index
       → IsCommonPrefixAt bytes is_below target known (entries_at nodes child) 0

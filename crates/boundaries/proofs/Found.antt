@@ -2,12 +2,12 @@
 use Rattle.std.proofs.Common.{◌≡◌, ℕ, suc, ◌-◌, ◌<◌, Bool, List, [], ◌∷◌, length, Some, option_map, unwrap_or, map, slice_get, slice_index_or, sym, ◌∙◌, ap, subst, inl, inr, arith}
 use Rattle.std.proofs.lemmas.Option.{get_or_from_slice_get}
 use Rattle.std.proofs.lemmas.List.{get_or-map, length-map}
-use Rattle.tree.proofs.Words.{Arena, header_at, NodeEntry, Node, Item, item_of, entries_of, IsPartitioned, index_in, leaf_in, entries_at, items_in, IsSubtree}
-use Rattle.tree.proofs.callers.Partitions.{Falls, Falls-below_from, IsPartitioned-from_falls}
-use Rattle.tree.proofs.Ways.{IsWay, way}
+use Rattle.boundaries.proofs.Words.{Arena, header_at, NodeEntry, Node, Item, item_of, entries_of, IsPartitioned, index_in, leaf_in, entries_at, items_in, IsSubtree}
+use Rattle.boundaries.proofs.callers.Partitions.{Falls, Falls-below_from, IsPartitioned-from_falls}
+use Rattle.boundaries.proofs.Ways.{IsWay, way}
 
 -- the entries at a slot are those of the header that the code has read
-pub entries_read : {N : ℕ} (nodes : Arena (Node N)) (slot : ℕ) (header : Node N) (es : List NodeEntry)
+pub entries_read : (nodes : Arena Node) (slot : ℕ) (header : Node) (es : List NodeEntry)
     → header_at nodes slot ≡ Some header → es ≡ entries_of header → entries_at nodes slot ≡ es
 entries_read nodes slot header es h e = ap (λ o. unwrap_or (option_map entries_of o) []) h ∙ sym e
 
@@ -24,7 +24,7 @@ partitioned-entries p es c =
         (h.1 k (item_of d) (omega (arith, length-map es item_of))) in
         inr (h.0, fails)
 
-module _ {N : ℕ} (nodes : Arena (Node N)) (least height slot : ℕ) (is_below : ℕ → Bool) where
+module _ (nodes : Arena Node) (least height slot : ℕ) (is_below : ℕ → Bool) where
   -- The child is that of the entry that the bound finds.
   pub record IsFound (child : ℕ) : Type 0 where
     pub lower : suc (height - 1) ≡ height
@@ -39,7 +39,7 @@ module _ {N : ℕ} (nodes : Arena (Node N)) (least height slot : ℕ) (is_below 
       way nodes least (height - 1) slot is_below (subst (λ n. IsSubtree nodes least n slot) lower s)
       (subst (λ n. IsPartitioned (λ (x : Item). is_below x.key) (items_in nodes n slot)) lower c)
 
-  module _ (header : Node N) (es : List NodeEntry) where
+  module _ (header : Node) (es : List NodeEntry) where
     pub found : (index : ℕ) (d : NodeEntry) → (height ≡ 0 → ⊥) → IsSubtree nodes least height slot
         → IsPartitioned (λ x. is_below x.key) (items_in nodes height slot) → header_at nodes slot ≡ Some header
         → es ≡ entries_of header → index ≡ index_in is_below es → IsFound (slice_index_or es index d).child

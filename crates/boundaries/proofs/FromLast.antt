@@ -4,8 +4,8 @@ use Rattle.std.proofs.Math.Seq.{drop-append-add}
 use Rattle.std.proofs.lemmas.Bool.{cases_Bool}
 use Rattle.std.proofs.lemmas.List.{drop-append-le, drop-take, length-drop, nil_from_length, take_at}
 use Rattle.std.proofs.lemmas.List.Elements.{All-cons, All-head, All-tail, filter-append}
-use Rattle.tree.proofs.Words.{IsPartitioned}
-use Rattle.tree.proofs.callers.Partitions.{Falls, Falls-below_from, none_pass, none_fail, All-front, All-back}
+use Rattle.boundaries.proofs.Words.{IsPartitioned}
+use Rattle.boundaries.proofs.callers.Partitions.{Falls, Falls-below_from, none_pass, none_fail, All-front, All-back}
 
 -- the last of those that pass, alone
 abbrev last_passing : {X : Type 0} → (X → Bool) → List X → List X

@@ -7,7 +7,7 @@ use Rattle.std.proofs.lemmas.List.Edits.{get_or-between, length-between}
 use Rattle.std.proofs.lemmas.List.Elements.{All-push, All-weaker}
 use Rattle.std.proofs.lemmas.List.Quantifiers.{Any-push}
 use Rattle.keys.proofs.callers.SomeElement.{Any-left}
-use Rattle.tree.specs.Item.{IsGreatest}
+use Rattle.boundaries.specs.Item.{IsGreatest}
 
 pub one_of_both : (a b : ℤ) → (a ≡ int_max a b) ⊎ (b ≡ int_max a b)
 one_of_both a b = grind (arith, ints, clamps)

@@ -1,9 +1,9 @@
 -- The greatest version of lists in parts.
 use Rattle.std.proofs.Common.{rules, ◌≡◌, List, [], ◌∷◌, Option, Some, None, MatchOption, map, flat_map, All, Any, ap, inl, inr, arith, ℤ, ◌≤ℤ◌}
-use Rattle.tree.proofs.callers.Partitions.{All-joined}
+use Rattle.boundaries.proofs.callers.Partitions.{All-joined}
 use Rattle.std.proofs.lemmas.Int.{ints}
 use Rattle.std.proofs.lemmas.List.Elements.{All-head, All-tail, All-weaker, All-map}
-use Rattle.tree.proofs.Words.{NodeEntry, Item, Describes, IsGreatest, item_of, version_of}
+use Rattle.boundaries.proofs.Words.{NodeEntry, Item, Describes, IsGreatest, item_of, version_of}
 use Rattle.keys.proofs.callers.SomeElement.{Any-none, Any-cases, Any-left, Any-right, Any-map}
 
 -- this is the greatest version of them, or there are none of them

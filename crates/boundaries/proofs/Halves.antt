@@ -4,15 +4,15 @@ use Rattle.std.proofs.Common.{◌≡◌, ℕ, zero, suc, ◌+◌, ◌-◌, ◌<�
 use Rattle.std.proofs.lemmas.Grind.{flat_map-append}
 use Rattle.std.proofs.lemmas.List.{drop-drop, drop_more, take_more}
 use Rattle.std.proofs.lemmas.List.Elements.{All-take, All-drop}
-use Rattle.tree.proofs.Words.{Arena, NodeEntry, Node, Item, Describes, KeyBytes, CanReach, IsPartitioned, IsChild, IsSubtree, items_in}
-use Rattle.tree.proofs.callers.Partitions.{All-back}
-use Rattle.tree.proofs.FromLast.{from_last_of, from_last_part, from_last_parts}
-use Rattle.tree.proofs.Looks.{IsLook, around_child, look_ordered, look_answers, items_partitioned, child_is, child_reached, first_inside, last_inside}
-use Rattle.tree.proofs.AnsweredKeys.{last_passes, some_answered}
-use Rattle.tree.proofs.Ways.{entries_partitioned, pass_before, fail_after_index}
+use Rattle.boundaries.proofs.Words.{Arena, NodeEntry, Node, Item, Describes, KeyBytes, CanReach, IsPartitioned, IsChild, IsSubtree, items_in}
+use Rattle.boundaries.proofs.callers.Partitions.{All-back}
+use Rattle.boundaries.proofs.FromLast.{from_last_of, from_last_part, from_last_parts}
+use Rattle.boundaries.proofs.Looks.{IsLook, around_child, look_ordered, look_answers, items_partitioned, child_is, child_reached, first_inside, last_inside}
+use Rattle.boundaries.proofs.AnsweredKeys.{last_passes, some_answered}
+use Rattle.boundaries.proofs.Ways.{entries_partitioned, pass_before, fail_after_index}
 
 -- a look at such a node, with the entries of the two children
-pub record AreHalves {N : ℕ} (nodes : Arena (Node N)) (least height slot : ℕ) (f t : ℕ → Bool) : Type 0 where
+pub record AreHalves (nodes : Arena Node) (least height slot : ℕ) (f t : ℕ → Bool) : Type 0 where
   pub es : List NodeEntry
   pub begin : ℕ
   pub end : ℕ
@@ -27,7 +27,7 @@ pub record AreHalves {N : ℕ} (nodes : Arena (Node N)) (least height slot : ℕ
   pub left_at : left ≡ get_or es first left
   pub right_at : right ≡ get_or es last right
 
-module _ {N : ℕ} {nodes : Arena (Node N)} {least height slot : ℕ} {f t : ℕ → Bool}
+module _ {nodes : Arena Node} {least height slot : ℕ} {f t : ℕ → Bool}
     (h : AreHalves nodes least height slot f t) where
   abbrev below : NodeEntry → List Item
   below e = items_in nodes (height - 1) e.child

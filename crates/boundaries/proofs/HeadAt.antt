@@ -9,11 +9,11 @@ use Rattle.std.proofs.lemmas.List.{get_or_default, get_or-map}
 use Rattle.std.proofs.lemmas.Option.{get_or_from_slice_get, slice_get_within, slice_get-get_or, slice_get-map}
 use Rattle.keys.specs.Key.{IsBytes, IsBefore}
 pub use Rattle.keys.proofs.callers.Lists.{some_at as entry_at}
-use Rattle.tree.proofs.Words.{NodeEntry, Node, PADDING, entries_of, key_heads_of, keys_of, KeyBytes, Begins, head_after, head_at, KeyHeads, AreHeads, IsBelowInOrder, IsCommonPrefixLen, IsCommonPrefixAt, HasPrefix, IsTargetHead, IsPartitioned, CanStep, IsStep}
-use Rattle.tree.proofs.callers.Partitions.{length-items_below, none_fail, not_both}
-use Rattle.tree.proofs.HeadChanges.{heads_count, prefix_begins}
-use Rattle.tree.proofs.HeadCounts.{passing_before, passing_inside}
-use Rattle.tree.proofs.HeadOrder.{empty_head, empty_before, empty_before_too, describes_empty, answered_by_heads, too, common_by_heads}
+use Rattle.boundaries.proofs.Words.{NodeEntry, Node, FAN_OUT, PADDING, entries_of, key_heads_of, keys_of, KeyBytes, Begins, head_after, head_at, KeyHeads, AreHeads, IsBelowInOrder, IsCommonPrefixLen, IsCommonPrefixAt, HasPrefix, IsTargetHead, IsPartitioned}
+use Rattle.boundaries.proofs.callers.Partitions.{length-items_below, none_fail, not_both}
+use Rattle.boundaries.proofs.HeadChanges.{heads_count, prefix_begins}
+use Rattle.boundaries.proofs.HeadCounts.{passing_before, passing_inside}
+use Rattle.boundaries.proofs.HeadOrder.{empty_head, empty_before, empty_before_too, describes_empty, answered_by_heads, too, common_by_heads}
 
 -- the key of the entry there
 pub key_there : (entries : List NodeEntry) (index : ℕ) (e : NodeEntry) → slice_get entries index ≡ Some e
@@ -145,25 +145,15 @@ module _ (bytes : KeyBytes) (key_heads : KeyHeads) (h : AreHeads bytes key_heads
               (λ e. apart (cc)) count few (cc) (λ less e. differ less (cc)) ahead
         ])
 
--- Where nothing is known of the first key, it isn't below the bound, and a step stays there.
-pub stay : {N : ℕ} (bytes : KeyBytes) (is_below : ℕ → Bool) (target : List ℕ) (node : Node N) (known : Option ℕ)
-    → CanStep bytes is_below target node known → known ≡ None
-    → record { step : IsStep bytes is_below target node (record { index = 0; common_prefix_len = None }) }
-stay bytes is_below target node known can none =
-    let e = entry_at (entries_of node) 0 can.can_find.some in
-    let first = rw none at can.known in
-    let few = passing_before (λ (e : NodeEntry). is_below e.key) _ 0 e.0 can.can_find.partitioned e.1 (first e.0 e.1) in
-    record { step = record { index_is = omega (arith, few); within = can.can_find.some; knows = first } }
-
 -- A head that isn't the greatest number is that of an entry.
-pub filled_within : {N : ℕ} (bytes : KeyBytes) (node : Node N) → AreHeads bytes (key_heads_of node) → length node.heads ≡ N
-    → (count : ℕ) → count ≤ N → (0 < count → get_or node.heads (count - 1) 0 ≢ PADDING) → count ≤ length (entries_of node)
+pub filled_within : (bytes : KeyBytes) (node : Node) → AreHeads bytes (key_heads_of node) → length node.heads ≡ FAN_OUT
+    → (count : ℕ) → count ≤ FAN_OUT → (0 < count → get_or node.heads (count - 1) 0 ≢ PADDING) → count ≤ length (entries_of node)
 filled_within bytes node h size count room filled =
     let all = heads_count bytes _ (key_heads_of node) h refl in
     let last = count - 1 in
     grind (arith, all, length-take node.len node.heads, get_or_default node.heads last 0 PADDING, node.padded last)
 
-module _ {N : ℕ} (bytes : KeyBytes) (node : Node N) (h : AreHeads bytes (key_heads_of node)) (target : List ℕ)
+module _ (bytes : KeyBytes) (node : Node) (h : AreHeads bytes (key_heads_of node)) (target : List ℕ)
     (is_below : ℕ → Bool)
     (order : (key : ℕ) (text : List ℕ) → bytes key ≡ Some text → IsBelowInOrder text target (is_below key)) where
   abbrev es : List NodeEntry

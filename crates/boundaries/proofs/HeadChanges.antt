@@ -4,10 +4,10 @@ use Rattle.std.specs.List.{AllZip, Contains}
 use Rattle.std.proofs.lemmas.List.{get_or-map, get_or-take, length-map, length-take, length-take-le, drop_at, map-append, map-set, map_more, set-get_or, take_at, take-map, drop-map, take_more_set}
 use Rattle.std.proofs.lemmas.Option.{slice_get_within, get_or_from_slice_get}
 use Rattle.std.proofs.lemmas.List.Elements.{All-nil, All-cons, All-append, All-contains, All-drop, All-more, All-set, All-take}
-use Rattle.tree.proofs.Words.{NodeEntry, KeyBytes, IsKnown, Begins, KeyHeads, AreHeads, HasPrefix, IsHeadBeside, IsTargetHead, head_after, head_at, keys_of}
-use Rattle.tree.proofs.Headed.{all_known, begins_if_long}
-use Rattle.tree.proofs.HeadOrder.{take_fewer}
-use Rattle.tree.proofs.callers.Partitions.{All-front, All-back}
+use Rattle.boundaries.proofs.Words.{NodeEntry, KeyBytes, IsKnown, Begins, KeyHeads, AreHeads, HasPrefix, IsHeadBeside, IsTargetHead, head_after, head_at, keys_of}
+use Rattle.boundaries.proofs.Headed.{all_known, begins_if_long}
+use Rattle.boundaries.proofs.HeadOrder.{take_fewer}
+use Rattle.boundaries.proofs.callers.Partitions.{All-front, All-back}
 
 -- Elements are put in place of those from one index up to another.
 All-spliced : {X : Type 0} (P : X → Type 0) (xs new : List X) (from to : ℕ) → All P xs → All P new

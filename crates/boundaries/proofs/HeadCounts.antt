@@ -4,8 +4,8 @@ use Rattle.std.proofs.lemmas.Bool.{cases_Bool}
 use Rattle.std.proofs.lemmas.List.Filters.{length-filter_more}
 use Rattle.std.proofs.lemmas.List.Elements.{All-take, filter-append}
 use Rattle.std.proofs.lemmas.Option.{get_or_from_slice_get, slice_get_within}
-use Rattle.tree.specs.Path.{IsPartitioned}
-use Rattle.tree.proofs.callers.Partitions.{Falls, Falls-below_from, none_pass}
+use Rattle.boundaries.specs.Path.{IsPartitioned}
+use Rattle.boundaries.proofs.callers.Partitions.{Falls, Falls-below_from, none_pass}
 
 module _ {X : Type 0} (p : X → Bool) where
   -- Of the first ones as many pass as there are, or as do of all.

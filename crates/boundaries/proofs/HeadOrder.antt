@@ -8,7 +8,7 @@ use Rattle.std.proofs.lemmas.List.Elements.{All-drop}
 use Rattle.keys.specs.Key.{IsBytes, IsBefore}
 use Rattle.keys.specs.Head.{first_eight, head_of}
 use Rattle.keys.proofs.callers.KeyHeads.{head_less, head_of-bytes, after_common, after_shorter, after_differing}
-use Rattle.tree.specs.Heads.{head_after, IsBelowInOrder, IsCommonPrefixLen}
+use Rattle.boundaries.specs.Heads.{head_after, IsBelowInOrder, IsCommonPrefixLen}
 
 pub take_fewer : (m n : ℕ) (a b : List ℕ) → m ≤ n → take n a ≡ take n b → take m a ≡ take m b
 take_fewer m n a b le same = cc (take-take m n a le, take-take m n b le)

@@ -3,52 +3,51 @@ use Rattle.std.proofs.Common.{◌≡◌, ◌≢◌, ℕ, ◌+◌, ◌≤◌, ◌
 use Rattle.std.specs.FinMap as finite
 use Rattle.std.proofs.lemmas.List.Filters.{length-filter_both}
 use Rattle.arena.specs.Arena.{Arena, spare_of}
-use Rattle.tree.specs.declared.node.Node.{Node}
-use Rattle.tree.specs.declared.entry.NodeEntry.{NodeEntry}
-use Rattle.tree.specs.Heads.{KeyBytes, AllAreHeads}
-use Rattle.tree.specs.Node.{all_heads_of}
-use Rattle.tree.specs.Item.{Item}
-use Rattle.tree.specs.Path.{IsPartitioned, items_below, following}
-use Rattle.tree.specs.Subtree.{items_in}
-use Rattle.tree.specs.Walk.{CanChangeBy}
-use Rattle.tree.proofs.Counting.{low, enough_spare}
-use Rattle.tree.proofs.LeafChange.{root_some}
-use Rattle.tree.specs.Tree.{IsTree, IsRooted}
+use Rattle.boundaries.specs.declared.node.Node.{Node}
+use Rattle.boundaries.specs.declared.entry.NodeEntry.{NodeEntry}
+use Rattle.boundaries.specs.Heads.{KeyBytes, AllAreHeads}
+use Rattle.boundaries.specs.Node.{all_heads_of}
+use Rattle.boundaries.specs.Item.{Item}
+use Rattle.boundaries.specs.Path.{IsPartitioned, items_below, following}
+use Rattle.boundaries.specs.Subtree.{items_in}
+use Rattle.boundaries.specs.Walk.{CanChangeBy}
+use Rattle.boundaries.proofs.Counting.{low, enough_spare}
+use Rattle.boundaries.proofs.LeafChange.{root_some}
+use Rattle.boundaries.specs.Tree.{IsTree, IsRooted}
 
-module _ {N : ℕ} where
-  -- A tree can be changed.
-  pub can_change : {bytes : KeyBytes} {is_below : ℕ → Bool} {Wants : List Item → Type 0} {nodes : Arena (Node N)}
-      {root height len room : ℕ} {taken : List NodeEntry} → IsTree nodes root height len room → len < 2 ^ 64
-      → IsPartitioned (λ x. is_below x.key) (items_in nodes height root) → AllAreHeads bytes (all_heads_of nodes)
-      → Wants (items_in nodes height root) → taken ≡ [] → CanChangeBy bytes is_below Wants nodes root height taken
-  can_change {bytes} {is_below} {Wants} {nodes} {root} {height} {len} {room} {taken} t fits partitioned headed wanted none =
-      let low_is = low nodes root height len room t fits in
-      let room_is : height + 1 < spare_of nodes 0 = omega (arith, enough_spare nodes root height len room t) in
-      let some = root_some nodes root height len room t in
-      record {
-        changeable = record { fan_out = t.fan_out; few = t.few; low = low_is; rooted = t.rooted; some = some; room = room_is };
-        partitioned = partitioned;
-        headed = headed;
-        wanted = wanted;
-        none_taken = none;
-      }
+-- A tree can be changed.
+pub can_change : {bytes : KeyBytes} {is_below : ℕ → Bool} {Wants : List Item → Type 0} {nodes : Arena Node}
+    {root height len room : ℕ} {taken : List NodeEntry} → IsTree nodes root height len room → len < 2 ^ 64
+    → IsPartitioned (λ x. is_below x.key) (items_in nodes height root) → AllAreHeads bytes (all_heads_of nodes)
+    → Wants (items_in nodes height root) → taken ≡ [] → CanChangeBy bytes is_below Wants nodes root height taken
+can_change {bytes} {is_below} {Wants} {nodes} {root} {height} {len} {room} {taken} t fits partitioned headed wanted none =
+    let low_is = low nodes root height len room t fits in
+    let room_is : height + 1 < spare_of nodes 0 = omega (arith, enough_spare nodes root height len room t) in
+    let some = root_some nodes root height len room t in
+    record {
+      changeable = record { fan_out = t.fan_out; few = t.few; low = low_is; rooted = t.rooted; some = some; room = room_is };
+      partitioned = partitioned;
+      headed = headed;
+      wanted = wanted;
+      none_taken = none;
+    }
 
-  -- the tree after a change that puts other items in its nodes
-  pub tree_put : (a b : Arena (Node N)) (root height slot above len now room : ℕ)
-      → IsTree a root height len room → IsRooted b slot above
-      → spare_of b 0 + finite.len b.records ≡ spare_of a 0 + finite.len a.records
-      → now ≡ length (items_in b above slot) → 1 ≤ now → now ≤ room → IsTree b slot above now room
-  tree_put a b root height slot above len now room t rooted spare counted some within =
-      let same : finite.len a.records + spare_of a 0 ≡ finite.len b.records + spare_of b 0 = omega arith in
-      record {
-        fan_out = t.fan_out;
-        few = t.few;
-        rooted = rooted;
-        counted = counted;
-        some = some;
-        within = within;
-        reserved = rw same at t.reserved;
-      }
+-- the tree after a change that puts other items in its nodes
+pub tree_put : (a b : Arena Node) (root height slot above len now room : ℕ)
+    → IsTree a root height len room → IsRooted b slot above
+    → spare_of b 0 + finite.len b.records ≡ spare_of a 0 + finite.len a.records
+    → now ≡ length (items_in b above slot) → 1 ≤ now → now ≤ room → IsTree b slot above now room
+tree_put a b root height slot above len now room t rooted spare counted some within =
+    let same : finite.len a.records + spare_of a 0 ≡ finite.len b.records + spare_of b 0 = omega arith in
+    record {
+      fan_out = t.fan_out;
+      few = t.few;
+      rooted = rooted;
+      counted = counted;
+      some = some;
+      within = within;
+      reserved = rw same at t.reserved;
+    }
 
 -- those that pass and those that don't are all
 pub length-partitioned : (is_below : ℕ → Bool) (items : List Item)

@@ -2,9 +2,9 @@
 use Rattle.std.proofs.Common.{arith, ◌≡◌, ℕ, ◌+◌, ◌-◌, Bool, true, false, List, [], ◌∷◌, ◌++◌, Option, Some, map, drop, filter, flat_map, All, refl, ap}
 use Rattle.std.proofs.lemmas.Bool.{cases_Bool}
 use Rattle.std.proofs.lemmas.List.Elements.{All-head, All-drop, filter-append}
-use Rattle.tree.proofs.Words.{Arena, header_at, NodeEntry, Node, Item, Describes, item_of, entries_of, index_in, following, after_leaf, first_key, entries_at, items_in}
-use Rattle.tree.proofs.callers.Partitions.{none_pass, none_fail}
-use Rattle.tree.proofs.Found.{IsFound, entries_read}
+use Rattle.boundaries.proofs.Words.{Arena, header_at, NodeEntry, Node, Item, Describes, item_of, entries_of, index_in, following, after_leaf, first_key, entries_at, items_in}
+use Rattle.boundaries.proofs.callers.Partitions.{none_pass, none_fail}
+use Rattle.boundaries.proofs.Found.{IsFound, entries_read}
 
 pub filter-items : (p : Item → Bool) (es : List NodeEntry) → filter p (map item_of es) ≡ map item_of (filter (λ e. p (item_of e)) es)
 filter-items p [] = refl
@@ -31,8 +31,8 @@ following-parts is_below a c b p f =
     simp (filter-append, n, m)
 
 -- At the entry behind the child that the bound finds, the next key is that of the entries behind it, or else the key given.
-module _ {N : ℕ} (nodes : Arena (Node N)) (least height slot : ℕ) (is_below : ℕ → Bool) (child : ℕ)
-    (f : IsFound nodes least height slot is_below child) (header : Node N) (es : List NodeEntry) (index : ℕ) (key next : Option ℕ)
+module _ (nodes : Arena Node) (least height slot : ℕ) (is_below : ℕ → Bool) (child : ℕ)
+    (f : IsFound nodes least height slot is_below child) (header : Node) (es : List NodeEntry) (index : ℕ) (key next : Option ℕ)
     (h : header_at nodes slot ≡ Some header) (e : es ≡ entries_of header) (i : index ≡ index_in is_below es)
     (n : next ≡ first_key key (map item_of (drop (index + 1) es))) where
   abbrev all : List NodeEntry

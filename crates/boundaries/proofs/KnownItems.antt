@@ -4,11 +4,11 @@ use mathlib.Core.List.{map-map, map-append}
 use Rattle.std.specs.FinMap as finite
 use Rattle.std.specs.Cmp.{nat_cmp_total}
 use Rattle.std.proofs.lemmas.List.Elements.{All-contains, All-map, All-contains_itself, Contains-get_or, Contains-append_left, Contains-append_right}
-use Rattle.tree.proofs.Words.{Arena, Record, record_at, NodeEntry, Node, Item, keys_of, key_heads_of, heads_list, items_of, slots_of, entries_at, items_in, slots_in, IsSubtree, KnowItems, IsRooted, least_of}
-use Rattle.tree.proofs.Changing.{other_number}
-use Rattle.tree.proofs.Frames.{IsRight, live_in}
-use Rattle.tree.proofs.HeadList.{read_list}
-use Rattle.tree.proofs.callers.Times.{times, once, once_same, once_cases, none_or_some, times-append, once_if_distinct}
+use Rattle.boundaries.proofs.Words.{Arena, Record, record_at, NodeEntry, Node, Item, keys_of, key_heads_of, heads_list, items_of, slots_of, entries_at, items_in, slots_in, IsSubtree, KnowItems, IsRooted, least_of}
+use Rattle.boundaries.proofs.Changing.{other_number}
+use Rattle.boundaries.proofs.Frames.{IsRight, live_in}
+use Rattle.boundaries.proofs.HeadList.{read_list}
+use Rattle.boundaries.proofs.callers.Times.{times, once, once_same, once_cases, none_or_some, times-append, once_if_distinct}
 
 -- The keys of a map that has no others.
 no_other : {X : Type 0} (m : finite.FinMap nat_cmp X) (xs : List ℕ) → ((s : ℕ) → times s xs ≤ 1)
@@ -37,7 +37,7 @@ keys_in items = map (λ x. x.key) items
 abbrev AreOf : List Item → List ℕ → Type 0
 AreOf items keys = All (Contains (keys_in items)) keys
 
-module _ {N : ℕ} (a : Arena (Node N)) (least : ℕ) where
+module _ (a : Arena Node) (least : ℕ) where
   -- those of the items below an entry are among those below all entries
   key_below : (height : ℕ) (es : List NodeEntry) (e : NodeEntry) → Contains es e → (key : ℕ)
       → Contains (keys_in (items_in a height e.child)) key → Contains (keys_in (items_of a height es)) key
@@ -79,16 +79,16 @@ module _ {N : ℕ} (a : Arena (Node N)) (least : ℕ) where
   ]
 
 -- Each key in each node of a tree is that of an item.
-pub know_items : {N : ℕ} (nodes : Arena (Node N)) (root height room : ℕ) → IsRooted nodes root height
+pub know_items : (nodes : Arena Node) (root height room : ℕ) → IsRooted nodes root height
     → KnowItems (record { items = items_in nodes height root; room = room; all_heads = heads_list nodes })
 know_items {N} nodes root height room r s =
     rw (read_list nodes s) (by_record (record_at nodes s) refl)
   where
-    by_record : (o : Option (Record (Node N))) → record_at nodes s ≡ o
+    by_record : (o : Option (Record Node)) → record_at nodes s ≡ o
         → IfSome (option_map key_heads_of (option_map (λ r. r.header) o)) (λ h. AreOf (items_in nodes height root) h.keys)
     by_record None e = tt
     by_record (Some record_there) e =
         let slots = slots_in nodes height root in
-        let live = live_in nodes (least_of N) height root r.subtree in
+        let live = live_in nodes (HALF_FULL) height root r.subtree in
         let among = no_other nodes.records slots (once_if_distinct slots r.distinct) live r.linked s (ap is_some e) in
-        rw e at (keys_known nodes (least_of N) s height root r.subtree among)
+        rw e at (keys_known nodes (HALF_FULL) s height root r.subtree among)

@@ -2,9 +2,9 @@
 use Rattle.std.proofs.Common.{◌≡◌, ℕ, ℤ, ◌+◌, ◌-◌, ◌<◌, ◌≤◌, Bool, List, Option, [], ◌∷◌, ◌++◌, pos, length, get_or, take, drop, filter, map, sym, ◌∙◌, ap, arith, length-drop}
 use Rattle.std.proofs.lemmas.List.{take_more, drop_more, map-append, length-map, length-take-le, take-append-drop, drop-drop}
 use mathlib.Core.List.{map-map}
-use Rattle.tree.proofs.Words.{NodeEntry, Removal, Item, item_of, version_of, IsPartitioned, first_key, RemovesExpired, IsLast, unexpired, expired}
-use Rattle.tree.proofs.Removing.{run, all_stay}
-use Rattle.tree.proofs.WrittenLeaf.{items_parted}
+use Rattle.boundaries.proofs.Words.{NodeEntry, Removal, Item, item_of, version_of, IsPartitioned, first_key, RemovesExpired, IsLast, unexpired, expired}
+use Rattle.boundaries.proofs.Removing.{run, all_stay}
+use Rattle.boundaries.proofs.WrittenLeaf.{items_parted}
 
 module _ (es : List NodeEntry) (begin end : ℕ) (some : begin < end) (most : end ≤ length es) where
   -- the entries from the first of the run on

@@ -3,13 +3,13 @@ use Rattle.std.proofs.Common.{◌≡◌, ℕ, zero, suc, ◌+◌, ◌-◌, ◌�
 use Rattle.std.proofs.lemmas.Option.{slice_get-get_or}
 use Rattle.std.proofs.lemmas.List.{drop_all, drop_more, take-append-drop, append-nil, append_assoc, map-append}
 use Rattle.std.proofs.lemmas.List.Elements.{All-head, All-append, All-map, filter-append}
-use Rattle.tree.proofs.Words.{Arena, NodeEntry, Node, Item, item_of, IsPartitioned, index_in, child_in, leaf_in, before_leaf, after_leaf, items_below, entries_at, items_in, IsSubtree, IsLast}
-use Rattle.tree.proofs.callers.Times.{none_or_some}
-use Rattle.tree.proofs.callers.Partitions.{not_both, none_pass, none_passed, none_fail, IsPartitioned-parts}
-use Rattle.tree.proofs.HeadCounts.{passing_at}
-use Rattle.tree.proofs.Found.{partitioned-entries}
-use Rattle.tree.proofs.Keys.{filter-items as filter_items}
-use Rattle.tree.proofs.Ways.{way}
+use Rattle.boundaries.proofs.Words.{Arena, NodeEntry, Node, Item, item_of, IsPartitioned, index_in, child_in, leaf_in, before_leaf, after_leaf, items_below, entries_at, items_in, IsSubtree, IsLast}
+use Rattle.boundaries.proofs.callers.Times.{none_or_some}
+use Rattle.boundaries.proofs.callers.Partitions.{not_both, none_pass, none_passed, none_fail, IsPartitioned-parts}
+use Rattle.boundaries.proofs.HeadCounts.{passing_at}
+use Rattle.boundaries.proofs.Found.{partitioned-entries}
+use Rattle.boundaries.proofs.Keys.{filter-items as filter_items}
+use Rattle.boundaries.proofs.Ways.{way}
 
 -- the last of those that pass does
 pub index_passes : {X : Type 0} (p : X → Bool) (xs : List X) (x : X) → IsPartitioned p xs → 1 ≤ length (filter p xs)
@@ -17,7 +17,7 @@ pub index_passes : {X : Type 0} (p : X → Bool) (xs : List X) (x : X) → IsPar
 index_passes p xs x partitioned some is = passing_at p xs (length (filter p xs) - 1) x partitioned is (omega arith)
 
 -- Where no entry of the leaf passes, no item of the subtree does, and none stands before the leaf.
-none_before : {N : ℕ} (nodes : Arena (Node N)) (least height slot : ℕ) (is_below : ℕ → Bool) → IsSubtree nodes least height slot
+none_before : (nodes : Arena Node) (least height slot : ℕ) (is_below : ℕ → Bool) → IsSubtree nodes least height slot
     → IsPartitioned (λ x. is_below x.key) (items_in nodes height slot)
     → filter (λ e. is_below e.key) (entries_at nodes (leaf_in nodes height slot is_below)) ≡ []
     → (before_leaf nodes height slot is_below ≡ []) × All (λ x. is_below x.key ≡ false) (items_in nodes height slot)
@@ -107,7 +107,7 @@ last_passing is_below items before after es passed result leaf same is =
     ))
 
 -- the leaf that a bound finds is one
-pub is_leaf : {N : ℕ} (nodes : Arena (Node N)) (least height slot : ℕ) (is_below : ℕ → Bool) (leaf : ℕ) (es : List NodeEntry)
+pub is_leaf : (nodes : Arena Node) (least height slot : ℕ) (is_below : ℕ → Bool) (leaf : ℕ) (es : List NodeEntry)
     → IsSubtree nodes least height slot → IsPartitioned (λ x. is_below x.key) (items_in nodes height slot)
     → leaf ≡ leaf_in nodes height slot is_below → entries_at nodes leaf ≡ es
     → items_in nodes height slot

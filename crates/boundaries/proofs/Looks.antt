@@ -2,17 +2,17 @@
 use Rattle.std.proofs.Common.{rules, ◌≡◌, ℕ, zero, suc, ◌+◌, ◌-◌, ◌<◌, ◌≤◌, Bool, true, false, List, ◌∷◌, ◌++◌, take, drop, Option, Some, None, option_map, length, get_or, filter, flat_map, map, All, IfSome, sym, refl, ◌∙◌, ap, subst, arith, slice_range, append-nil}
 use Rattle.std.proofs.lemmas.Grind.{flat_map-append}
 use Rattle.std.proofs.lemmas.List.{drop-map, length-map, take-map}
-use Rattle.tree.proofs.Words.{Arena, header_at, NodeEntry, Node, Item, Describes, item_of, entries_of, IsPartitioned, below_from, below_to, entries_at, items_in, IsChild, IsSubtree, CanFind, CanStep, IsLowerBound, KeyBytes, IsCommonPrefixAt, CanReach}
-use Rattle.tree.proofs.callers.Partitions.{none_pass, none_fail}
-use Rattle.tree.proofs.Ways.{around_element, children_partitioned, index_inside}
-use Rattle.tree.proofs.Found.{partitioned-entries, entries_read, read_partitioned}
-use Rattle.tree.proofs.Headed.{headed_at}
-use Rattle.tree.proofs.Placing.{entries_from_header}
-use Rattle.tree.proofs.Keys.{filter-items}
-use Rattle.tree.proofs.FromLast.{from_last_of, from_last_range, fewer_before}
+use Rattle.boundaries.proofs.Words.{Arena, header_at, NodeEntry, Node, Item, Describes, item_of, entries_of, IsPartitioned, below_from, below_to, entries_at, items_in, IsChild, IsSubtree, CanFind, CanStep, IsLowerBound, KeyBytes, IsCommonPrefixAt, CanReach}
+use Rattle.boundaries.proofs.callers.Partitions.{none_pass, none_fail}
+use Rattle.boundaries.proofs.Ways.{around_element, children_partitioned, index_inside}
+use Rattle.boundaries.proofs.Found.{partitioned-entries, entries_read, read_partitioned}
+use Rattle.boundaries.proofs.Headed.{headed_at}
+use Rattle.boundaries.proofs.Placing.{entries_from_header}
+use Rattle.boundaries.proofs.Keys.{filter-items}
+use Rattle.boundaries.proofs.FromLast.{from_last_of, from_last_range, fewer_before}
 
 -- What `requires` says of a bound that may be missing, as a bound.
-module _ {N : ℕ} {A : Type 0} (bytes : A → KeyBytes) (lets : A → ℕ → Bool) (nodes : Arena (Node N)) (least height slot : ℕ) where
+module _ {A : Type 0} (bytes : A → KeyBytes) (lets : A → ℕ → Bool) (nodes : Arena Node) (least height slot : ℕ) where
   pub from_asked : (o : Option A) → IfSome o (λ p. CanReach (bytes p) (lets p) nodes least height slot)
       → IsPartitioned (λ x. below_from (option_map lets o) x.key) (items_in nodes height slot)
   from_asked None h =
@@ -38,7 +38,7 @@ nested_asked f t (Some p) None h key e = refl
 nested_asked f t (Some p) (Some q) h key e = h key e
 
 -- a node with its entries, and two bounds through its items
-pub record IsLook {N : ℕ} (nodes : Arena (Node N)) (least height slot : ℕ) (f t : ℕ → Bool) (es : List NodeEntry)
+pub record IsLook (nodes : Arena Node) (least height slot : ℕ) (f t : ℕ → Bool) (es : List NodeEntry)
     (begin end : ℕ) : Type 0 where
   pub subtree : IsSubtree nodes least height slot
   pub from : IsPartitioned (λ x. f x.key) (items_in nodes height slot)
@@ -49,7 +49,7 @@ pub record IsLook {N : ℕ} (nodes : Arena (Node N)) (least height slot : ℕ) (
   pub end_is : end ≡ length (filter (λ e. t e.key) es)
 
 -- The entries are partitioned as the items are.
-pub look_bound : {N : ℕ} (nodes : Arena (Node N)) (least height slot : ℕ) (is_below : ℕ → Bool) (header : Node N)
+pub look_bound : (nodes : Arena Node) (least height slot : ℕ) (is_below : ℕ → Bool) (header : Node)
     (es : List NodeEntry) → IsSubtree nodes least height slot
     → IsPartitioned (λ x. is_below x.key) (items_in nodes height slot) → header_at nodes slot ≡ Some header
     → es ≡ entries_of header → IsPartitioned (λ e. is_below e.key) es
@@ -60,7 +60,7 @@ look_bound nodes least (suc height) slot is_below header es s c h e =
     read_partitioned nodes least (suc height) slot is_below header es (λ z. omega arith) s c h e
 
 -- A node that the code has read can be searched.
-module _ {N : ℕ} {nodes : Arena (Node N)} {least height slot : ℕ} {bytes : KeyBytes} {is_below : ℕ → Bool} {node : Node N}
+module _ {nodes : Arena Node} {least height slot : ℕ} {bytes : KeyBytes} {is_below : ℕ → Bool} {node : Node}
     (can : CanReach bytes is_below nodes least height slot) (header : header_at nodes slot ≡ Some node) where
   abbrev read : entries_at nodes slot ≡ entries_of node
   read = entries_from_header nodes slot node header
@@ -76,8 +76,8 @@ module _ {N : ℕ} {nodes : Arena (Node N)} {least height slot : ℕ} {bytes : K
       → CanStep bytes is_below target node known
   can_step_at knows = record { can_find = can_find_at; known = rw read at knows }
 
-pub look_of : {N : ℕ} {A B : Type 0} (nodes : Arena (Node N)) (least height slot : ℕ) (bytes : A → KeyBytes) (f : A → ℕ → Bool)
-    (hint : B → KeyBytes) (t : B → ℕ → Bool) (from : Option A) (to : Option B) (header : Node N) (es : List NodeEntry) (begin end : ℕ)
+pub look_of : {A B : Type 0} (nodes : Arena Node) (least height slot : ℕ) (bytes : A → KeyBytes) (f : A → ℕ → Bool)
+    (hint : B → KeyBytes) (t : B → ℕ → Bool) (from : Option A) (to : Option B) (header : Node) (es : List NodeEntry) (begin end : ℕ)
     → IsSubtree nodes least height slot
     → IfSome from (λ p. CanReach (bytes p) (f p) nodes least height slot)
     → IfSome to (λ q. CanReach (hint q) (t q) nodes least height slot)
@@ -95,7 +95,7 @@ look_of nodes least height slot bytes f hint t from to header es begin end s c d
   end_is = rw e l.count_is;
 }
 
-module _ {N : ℕ} (nodes : Arena (Node N)) (least height slot : ℕ) (f t : ℕ → Bool) (es : List NodeEntry)
+module _ (nodes : Arena Node) (least height slot : ℕ) (f t : ℕ → Bool) (es : List NodeEntry)
     (begin end : ℕ) (k : IsLook nodes least height slot f t es begin end) where
   abbrev p : Item → Bool
   p x = f x.key

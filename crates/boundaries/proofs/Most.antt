@@ -5,11 +5,11 @@ use Rattle.std.specs.Option.{IsSome}
 use Rattle.std.proofs.lemmas.Int.{ints, clamps, to_z-of_z}
 use Rattle.std.proofs.lemmas.List.Elements.{All-drop, All-nil, All-append, All-filter}
 use Rattle.keys.proofs.callers.SomeElement.{Any-parts, Any-left, Any-right}
-use Rattle.tree.proofs.Words.{NodeEntry, Item, Describes, IsGreatestWith, greater_of, version_of}
-use Rattle.tree.proofs.callers.Partitions.{All-front, All-back}
-use Rattle.tree.proofs.FromLast.{from_last_of}
-use Rattle.tree.proofs.Greatest.{one_of_both}
-use Rattle.tree.proofs.GreatestParts.{IsPeak, IsPeak-children, Bounds, Reaches, higher}
+use Rattle.boundaries.proofs.Words.{NodeEntry, Item, Describes, IsGreatestWith, greater_of, version_of}
+use Rattle.boundaries.proofs.callers.Partitions.{All-front, All-back}
+use Rattle.boundaries.proofs.FromLast.{from_last_of}
+use Rattle.boundaries.proofs.Greatest.{one_of_both}
+use Rattle.boundaries.proofs.GreatestParts.{IsPeak, IsPeak-children, Bounds, Reaches, higher}
 
 -- beside the greatest version of the items alone
 pub most_with : (least peak : Option ℤ) (xs : List Item) → IsPeak (λ (x : Item). x.version) peak xs

@@ -5,12 +5,12 @@ use Rattle.std.specs.List.{All, AllZip}
 use Rattle.std.proofs.lemmas.List.{take-take}
 use Rattle.std.proofs.lemmas.List.Elements.{All-nil, All-cons}
 use Rattle.keys.specs.Key.{IsBytes}
-use Rattle.tree.specs.declared.entry.NodeEntry.{NodeEntry}
-use Rattle.tree.proofs.HeadChanges.{target_beside}
-use Rattle.tree.specs.Heads.{KeyBytes, HaveCommonPrefix, IsCommonPrefixAt, KeyHeads, HasPrefix, IsHeadBeside, IsTargetHead}
-use Rattle.tree.specs.Node.{keys_of}
-use Rattle.tree.proofs.Overwriting.{entries_put}
-use Rattle.tree.proofs.FromLast.{fewer_before}
+use Rattle.boundaries.specs.declared.entry.NodeEntry.{NodeEntry}
+use Rattle.boundaries.proofs.HeadChanges.{target_beside}
+use Rattle.boundaries.specs.Heads.{KeyBytes, HaveCommonPrefix, IsCommonPrefixAt, KeyHeads, HasPrefix, IsHeadBeside, IsTargetHead}
+use Rattle.boundaries.specs.Node.{keys_of}
+use Rattle.boundaries.proofs.Overwriting.{entries_put}
+use Rattle.boundaries.proofs.FromLast.{fewer_before}
 
 -- what begins alike does so as far as fewer bytes
 pub fewer_equal : (fewer n : ℕ) (a b : List ℕ) → fewer ≤ n → take n a ≡ take n b → take fewer a ≡ take fewer b

@@ -1,11 +1,11 @@
 -- A node is put at its slot, and then its right neighbour in a spare one.
 use Rattle.std.proofs.Common.{◌≡◌, ℕ, [], ◌∷◌, refl, ◌∙◌, arith}
-use Rattle.tree.proofs.Words.{Arena, IsLive, record_at, with_header, Node, entries_of, Changes, IsKeyless, entries_at}
-use Rattle.tree.proofs.Changing.{changes_if_moves, moves_beside, moves_if_changes, moves_trans}
-use Rattle.tree.proofs.Frames.{entries_same, live_same}
-use Rattle.tree.proofs.Placing.{live_one, put_entries, put_live, put_moves}
+use Rattle.boundaries.proofs.Words.{Arena, IsLive, record_at, with_header, Node, entries_of, Changes, IsKeyless, entries_at}
+use Rattle.boundaries.proofs.Changing.{changes_if_moves, moves_beside, moves_if_changes, moves_trans}
+use Rattle.boundaries.proofs.Frames.{entries_same, live_same}
+use Rattle.boundaries.proofs.Placing.{live_one, put_entries, put_live, put_moves}
 
-module _ {N : ℕ} (a b z : Arena (Node N)) (x y : ℕ) (left : Node N) (put : b ≡ with_header a x left)
+module _ (a b z : Arena Node) (x y : ℕ) (left : Node) (put : b ≡ with_header a x left)
     (placed : Changes b z [] (y ∷ [])) where
   kept : record_at z x ≡ record_at b x
   kept = (moves_if_changes b z [] (y ∷ []) placed).others x refl (put_live a b x left put)

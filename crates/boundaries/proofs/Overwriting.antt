@@ -3,12 +3,12 @@ use Rattle.std.proofs.Common.{◌≡◌, ◌≢◌, ℕ, ◌≤◌, inl, inr, Bo
 use Rattle.std.proofs.Common.{[], ◌∷◌, ◌++◌, None, length, filter, IsTrue}
 use Rattle.std.proofs.Common.{map, refl, ap, arith}
 use Rattle.std.proofs.lemmas.Bool.{cases_Bool}
-use Rattle.tree.specs.declared.entry.NodeEntry.{NodeEntry}
-use Rattle.tree.specs.Item.{Item, item_of}
-use Rattle.tree.specs.Overwrite.{first_is_below}
-use Rattle.tree.specs.Path.{IsPartitioned, items_below, following, first_key}
-use Rattle.tree.specs.Tree.{ended_by}
-use Rattle.tree.proofs.callers.Partitions.{not_both, none_pass, rest_fails}
+use Rattle.boundaries.specs.declared.entry.NodeEntry.{NodeEntry}
+use Rattle.boundaries.specs.Item.{Item, item_of}
+use Rattle.boundaries.specs.Overwrite.{first_is_below}
+use Rattle.boundaries.specs.Path.{IsPartitioned, items_below, following, first_key}
+use Rattle.boundaries.specs.Tree.{ended_by}
+use Rattle.boundaries.proofs.callers.Partitions.{not_both, none_pass, rest_fails}
 
 -- the entries that are put in
 abbrev pub entries_put : Bool → NodeEntry → NodeEntry → List NodeEntry

@@ -2,10 +2,10 @@
 use Rattle.std.proofs.Common.{◌≡◌, ◌≢◌, ℕ, ℤ, ◌+◌, ◌≤◌, Bool, true, false, List, [], ◌∷◌, ◌++◌, Option, Some, None, IsTrue, length, refl, unwrap_or, ap, arith, length-append}
 use Rattle.std.proofs.lemmas.Bool.{cases_Bool}
 use Rattle.std.proofs.lemmas.List.{nil_from_length}
-use Rattle.tree.proofs.Words.{OverwriteResult, Partly, Entirely, Item, Overwrites, first_is_below, put_of, IsPartitioned, items_below, following, between, first_key, ended_by}
-use Rattle.tree.proofs.callers.Partitions.{IsPartitioned-parts}
-use Rattle.tree.proofs.Inserting.{ended_some}
-use Rattle.tree.proofs.Overwriting.{between_is, first_describes}
+use Rattle.boundaries.proofs.Words.{OverwriteResult, Partly, Entirely, Item, Overwrites, first_is_below, put_of, IsPartitioned, items_below, following, between, first_key, ended_by}
+use Rattle.boundaries.proofs.callers.Partitions.{IsPartitioned-parts}
+use Rattle.boundaries.proofs.Inserting.{ended_some}
+use Rattle.boundaries.proofs.Overwriting.{between_is, first_describes}
 
 -- two at most
 pub put_most : (written : OverwriteResult) → put_of written ≤ 2

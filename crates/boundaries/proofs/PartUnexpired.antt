@@ -1,13 +1,13 @@
 -- Items of which a run is swept of expired items: what is said of a leaf's is said of all of them, and how many stay.
 use Rattle.std.proofs.Common.{◌≡◌, ◌≢◌, ℕ, ℤ, ◌+◌, ◌≤◌, ◌≤ℤ◌, int_lt, Bool, true, false, List, [], ◌∷◌, ◌++◌, Option, None, length, sym, ◌∙◌, ap, arith, append_assoc, length-append}
 use Rattle.std.proofs.lemmas.Int.{ints}
-use Rattle.tree.proofs.Words.{Removal, Item, items_below, RemovesExpired, GivesUnexpired, unexpired, IsChangedWithin}
-use Rattle.tree.proofs.callers.Partitions.{filter_around}
-use Rattle.tree.proofs.callers.Times.{none_or_some}
-use Rattle.tree.proofs.Inserting.{length-partitioned}
-use Rattle.tree.proofs.Keys.{following-parts, first_key-append}
-use Rattle.tree.proofs.PartWritten.{some_here}
-use Rattle.tree.proofs.Removing.{expired_or_kept}
+use Rattle.boundaries.proofs.Words.{Removal, Item, items_below, RemovesExpired, GivesUnexpired, unexpired, IsChangedWithin}
+use Rattle.boundaries.proofs.callers.Partitions.{filter_around}
+use Rattle.boundaries.proofs.callers.Times.{none_or_some}
+use Rattle.boundaries.proofs.Inserting.{length-partitioned}
+use Rattle.boundaries.proofs.Keys.{following-parts, first_key-append}
+use Rattle.boundaries.proofs.PartWritten.{some_here}
+use Rattle.boundaries.proofs.Removing.{expired_or_kept}
 
 -- What becomes of all items where those of one leaf are swept of expired items.
 pub unexpired_all : (p : ℕ → Bool) (count : ℕ) (edge before : ℤ) (removal : Removal) (run was now : List Item)

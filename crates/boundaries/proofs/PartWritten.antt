@@ -3,18 +3,18 @@ use Rattle.std.proofs.Common.{◌≡◌, ◌≢◌, ℕ, ℤ, inl, inr, Bool, tr
 use Rattle.std.proofs.Common.{ap, All, refl, sym, ◌∙◌, append_assoc, append-nil}
 use Rattle.std.proofs.lemmas.List.{same_from_push}
 use Rattle.std.proofs.lemmas.List.Elements.{All-nil, All-filter, filter-append}
-use Rattle.tree.specs.declared.overwrite.OverwriteResult.{OverwriteResult}
-use Rattle.tree.specs.declared.overwrite.OverwriteResult.TheVariants.{Partly, Entirely}
-use Rattle.tree.specs.Item.{Item}
-use Rattle.tree.specs.Overwrite.{IsOverwritten, GivesPart, GivesWritten, OverwritesPart, Overwrites}
-use Rattle.tree.specs.Path.{IsPartitioned, items_below, following, between}
-use Rattle.tree.specs.Walk.{IsChangedWithin}
-use Rattle.tree.proofs.callers.Partitions.{All-front, filter_around, none_pass, none_passed, not_both, IsPartitioned-parts}
-use Rattle.tree.proofs.FromLast.{none_of_fewer}
-use Rattle.tree.proofs.Inserting.{ended_some}
-use Rattle.tree.proofs.Keys.{following-parts, first_key-append}
-use Rattle.tree.proofs.Overwriting.{between_is}
-use Rattle.tree.proofs.OverwrittenItems.{answered_by_first}
+use Rattle.boundaries.specs.declared.overwrite.OverwriteResult.{OverwriteResult}
+use Rattle.boundaries.specs.declared.overwrite.OverwriteResult.TheVariants.{Partly, Entirely}
+use Rattle.boundaries.specs.Item.{Item}
+use Rattle.boundaries.specs.Overwrite.{IsOverwritten, GivesPart, GivesWritten, OverwritesPart, Overwrites}
+use Rattle.boundaries.specs.Path.{IsPartitioned, items_below, following, between}
+use Rattle.boundaries.specs.Walk.{IsChangedWithin}
+use Rattle.boundaries.proofs.callers.Partitions.{All-front, filter_around, none_pass, none_passed, not_both, IsPartitioned-parts}
+use Rattle.boundaries.proofs.FromLast.{none_of_fewer}
+use Rattle.boundaries.proofs.Inserting.{ended_some}
+use Rattle.boundaries.proofs.Keys.{following-parts, first_key-append}
+use Rattle.boundaries.proofs.Overwriting.{between_is}
+use Rattle.boundaries.proofs.OverwrittenItems.{answered_by_first}
 
 -- Items of which those of one leaf are changed: all before them are below the second bound, and none behind them does.
 module _ (p q : ℕ → Bool) (nested : (key : ℕ) → p key ≡ true → q key ≡ true)

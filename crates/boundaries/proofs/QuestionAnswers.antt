@@ -2,14 +2,14 @@
 use Rattle.std.proofs.Common.{◌≡◌, ℕ, zero, suc, ◌+◌, ◌-◌, ◌<◌, ◌≤◌, Bool, true, false, List, [], ◌∷◌, ◌++◌, Option, Some, IsTrue, ◌↔◌, length, get_or, slice_get, drop, filter, flat_map, map, All, refl, ◌∙◌, ap, inl, inr, arith, append-nil, append_assoc, ℤ, ◌<ℤ◌, ◌≤ℤ◌, slice_range, Any}
 use Rattle.std.proofs.lemmas.List.{length-map}
 use Rattle.std.proofs.lemmas.List.Elements.{All-drop, All-filter, All-nil}
-use Rattle.tree.proofs.Words.{Arena, NodeEntry, Node, Item, Describes, item_of, IsPartitioned, from_last, IsAnswer, items_in}
-use Rattle.tree.proofs.Above.{IsAbove, leaf_above, not_above}
-use Rattle.tree.proofs.callers.Partitions.{All-front, none_pass, none_fail, IsPartitioned-parts, rest_fails}
-use Rattle.tree.proofs.FromLast.{from_last_of, from_last_part}
-use Rattle.tree.proofs.GreatestParts.{Bounds}
-use Rattle.tree.proofs.Keys.{filter-items}
-use Rattle.tree.proofs.Looks.{IsLook, around_child, leaf_from_last}
-use Rattle.tree.proofs.AnsweredKeys.{some_answered}
+use Rattle.boundaries.proofs.Words.{Arena, NodeEntry, Node, Item, Describes, item_of, IsPartitioned, from_last, IsAnswer, items_in}
+use Rattle.boundaries.proofs.Above.{IsAbove, leaf_above, not_above}
+use Rattle.boundaries.proofs.callers.Partitions.{All-front, none_pass, none_fail, IsPartitioned-parts, rest_fails}
+use Rattle.boundaries.proofs.FromLast.{from_last_of, from_last_part}
+use Rattle.boundaries.proofs.GreatestParts.{Bounds}
+use Rattle.boundaries.proofs.Keys.{filter-items}
+use Rattle.boundaries.proofs.Looks.{IsLook, around_child, leaf_from_last}
+use Rattle.boundaries.proofs.AnsweredKeys.{some_answered}
 
 -- Where the entry's version isn't above it, no item's is.
 none_answered : (v : ℤ) (e : NodeEntry) (items : List Item) → Describes e items → e.version ≤ℤ v → (p q : Item → Bool)
@@ -83,7 +83,7 @@ module _ (p q : ℕ → Bool) (v : ℤ) (n : (key : ℕ) → p key ≡ true → 
       ((λ yes. absurd (cc)), (λ above. absurd (none_answered v e part t le (λ x. p x.key) (λ x. q x.key) above)))
 
 -- below a node
-module _ {N : ℕ} (nodes : Arena (Node N)) (least height slot : ℕ) (p q : ℕ → Bool) (es : List NodeEntry)
+module _ (nodes : Arena Node) (least height slot : ℕ) (p q : ℕ → Bool) (es : List NodeEntry)
     (begin end : ℕ) (k : IsLook nodes least height slot p q es begin end) (v : ℤ) (clear : Bool) where
   -- what the entries of a leaf tell
   pub answered_by_leaf : (b : Bool) → height ≡ 0 → 1 ≤ begin → (end ≡ length es → clear ≡ true)

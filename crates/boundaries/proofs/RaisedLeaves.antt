@@ -7,29 +7,29 @@ use Rattle.std.proofs.lemmas.List.Elements.{All-append, All-cons}
 use Rattle.std.proofs.lemmas.Option.{slice_get-get_or}
 use Rattle.keys.proofs.callers.SomeElement.{Any-first, Any-later}
 use Rattle.arena.specs.Arena.{Arena}
-use Rattle.tree.specs.declared.entry.NodeEntry.{NodeEntry}
-use Rattle.tree.specs.declared.node.Node.{Node}
-use Rattle.tree.specs.declared.walk.LeafOutcome.TheVariants.{Raised}
-use Rattle.tree.specs.declared.walk.RaisedLeaf.{RaisedLeaf}
-use Rattle.tree.specs.Heads.{KeyBytes}
-use Rattle.tree.specs.Item.{Item, Describes}
-use Rattle.tree.specs.Overwrite.{IsPartOfPartitioned, part_of_part}
-use Rattle.tree.specs.Path.{IsPartitioned, items_below, following, first_key}
-use Rattle.tree.specs.Children.{child_at, items_of, AreChildren, IsRebalancedAt}
-use Rattle.tree.specs.Subtree.{entries_at, items_in, slots_in}
-use Rattle.tree.specs.Tree.{IsRooted, least_of}
-use Rattle.tree.specs.Walk.{CanChange, CanChangeTree, IsChanged, IsChangedWithin, IsNewTree, IsRaisedIn}
-use Rattle.tree.proofs.callers.Partitions.{All-front, IsPartitioned-parts, none_fail, none_pass}
-use Rattle.tree.proofs.callers.Times.{once_if_distinct}
-use Rattle.tree.proofs.Changing.{changes_if_moves, moves_if_changes, moves_same}
-use Rattle.tree.proofs.Frames.{IsRight}
-use Rattle.tree.proofs.Sharing.{child_is}
-use Rattle.tree.proofs.Stepping.{IsAt, around, child_can, here, items_split, live_beside, read_beside, split}
-use Rattle.tree.proofs.Storing.{family_apart}
-use Rattle.tree.proofs.Walked.{changed_above, child_filled, family, step_rebalanced, describes_written}
+use Rattle.boundaries.specs.declared.entry.NodeEntry.{NodeEntry}
+use Rattle.boundaries.specs.declared.node.Node.{Node}
+use Rattle.boundaries.specs.declared.walk.LeafOutcome.TheVariants.{Raised}
+use Rattle.boundaries.specs.declared.walk.RaisedLeaf.{RaisedLeaf}
+use Rattle.boundaries.specs.Heads.{KeyBytes}
+use Rattle.boundaries.specs.Item.{Item, Describes}
+use Rattle.boundaries.specs.Overwrite.{IsPartOfPartitioned, part_of_part}
+use Rattle.boundaries.specs.Path.{IsPartitioned, items_below, following, first_key}
+use Rattle.boundaries.specs.Children.{child_at, items_of, AreChildren, IsRebalancedAt}
+use Rattle.boundaries.specs.Subtree.{entries_at, items_in, slots_in}
+use Rattle.boundaries.specs.Tree.{IsRooted, least_of}
+use Rattle.boundaries.specs.Walk.{CanChange, CanChangeTree, IsChanged, IsChangedWithin, IsNewTree, IsRaisedIn}
+use Rattle.boundaries.proofs.callers.Partitions.{All-front, IsPartitioned-parts, none_fail, none_pass}
+use Rattle.boundaries.proofs.callers.Times.{once_if_distinct}
+use Rattle.boundaries.proofs.Changing.{changes_if_moves, moves_if_changes, moves_same}
+use Rattle.boundaries.proofs.Frames.{IsRight}
+use Rattle.boundaries.proofs.Sharing.{child_is}
+use Rattle.boundaries.proofs.Stepping.{IsAt, around, child_can, here, items_split, live_beside, read_beside, split}
+use Rattle.boundaries.proofs.Storing.{family_apart}
+use Rattle.boundaries.proofs.Walked.{changed_above, child_filled, family, step_rebalanced, describes_written}
 
 -- a tree that can be changed, from its root on
-pub root_can : {N : ℕ} {nodes : Arena (Node N)} {root height : ℕ} → CanChangeTree nodes root height → CanChange nodes height root
+pub root_can : {nodes : Arena Node} {root height : ℕ} → CanChangeTree nodes root height → CanChange nodes height root
 root_can can = record {
   fan_out = can.fan_out;
   few = can.few;
@@ -42,7 +42,7 @@ root_can can = record {
 }
 
 -- A tree of which a leaf was raised keeps its root.
-pub raised_tree : {N : ℕ} {bytes : KeyBytes} {a b : Arena (Node N)} {root height : ℕ} (leaf : RaisedLeaf) → IsRooted a root height
+pub raised_tree : {bytes : KeyBytes} {a b : Arena Node} {root height : ℕ} (leaf : RaisedLeaf) → IsRooted a root height
     → IsChanged bytes a b height root (Raised leaf) → IsNewTree bytes a b root height (Some leaf)
 raised_tree leaf was put = record {
   rooted = record {
@@ -73,8 +73,8 @@ some_passes p (x ∷ xs) some = elim (cases_Bool (p x)) [
 ]
 
 -- A node stays as it is where its child's entry has the version of what came into the child.
-module _ {N : ℕ} {a : Arena (Node N)} {height lower slot i x : ℕ} (at : IsAt a height lower slot i x) (leaf : RaisedLeaf)
-    {bytes : KeyBytes} {b : Arena (Node N)} (put : IsChanged bytes a b lower x (Raised leaf))
+module _ {a : Arena Node} {height lower slot i x : ℕ} (at : IsAt a height lower slot i x) (leaf : RaisedLeaf)
+    {bytes : KeyBytes} {b : Arena Node} (put : IsChanged bytes a b lower x (Raised leaf))
     (answered : (here at).version ≡ leaf.version) where
   abbrev es : List NodeEntry
   es = entries_at a slot
@@ -82,7 +82,7 @@ module _ {N : ℕ} {a : Arena (Node N)} {height lower slot i x : ℕ} (at : IsAt
   read : entries_at b slot ≡ es
   read = read_beside at (moves_if_changes a b (slots_in a lower x) (slots_in b lower x) put.changes)
 
-  right : IsRight b (least_of N) lower (here at)
+  right : IsRight b (HALF_FULL) lower (here at)
   right =
       let child : child_at es i ≡ x = child_is es i at.d at.within ∙ sym at.x_is in
       record {
@@ -92,14 +92,14 @@ module _ {N : ℕ} {a : Arena (Node N)} {height lower slot i x : ℕ} (at : IsAt
             (describes_written at put refl leaf refl (here at) (rw read (slice_get-get_or es i at.d at.within)) (omega (arith, ints, answered)));
       }
 
-  children : AreChildren b (least_of N) lower es
+  children : AreChildren b (HALF_FULL) lower es
   children =
       let loose = family at put refl in
-      let Right = IsRight b (least_of N) lower in
+      let Right = IsRight b (HALF_FULL) lower in
       rw (split at) (All-append Right (take i es) (here at ∷ [] ++ drop (i + 1) es) (rw read at loose.family.before)
       (All-cons Right (here at) (drop (i + 1) es) right (rw read at loose.family.following)))
 
-  made : IsRebalancedAt b b (least_of N) lower slot
+  made : IsRebalancedAt b b (HALF_FULL) lower slot
   made = record {
     subtree = (
       live_beside at (moves_if_changes a b (slots_in a lower x) (slots_in b lower x) put.changes),
@@ -108,7 +108,7 @@ module _ {N : ℕ} {a : Arena (Node N)} {height lower slot i x : ℕ} (at : IsAt
     );
     items = refl;
     changes = changes_if_moves b b _ _ (moves_same b (slots_in b (suc lower) slot) _ put.changes.keyless
-        (family_apart b (least_of N) lower slot i (i + 1) (family at put refl)) (λ s. refl) refl);
+        (family_apart b (HALF_FULL) lower slot i (i + 1) (family at put refl)) (λ s. refl) refl);
   }
 
   there : IsRaisedIn b leaf (suc lower) slot
@@ -128,7 +128,7 @@ module _ {N : ℕ} {a : Arena (Node N)} {height lower slot i x : ℕ} (at : IsAt
   items_kept : items_in b height slot ≡ around at (items_in b lower x)
   items_kept = (step_rebalanced at put refl made).items_are
 
-module _ {N : ℕ} {a : Arena (Node N)} (leaf : RaisedLeaf) where
+module _ {a : Arena Node} (leaf : RaisedLeaf) where
   -- the node at a slot, and the child that leads to the leaf
   at_raised : (lower slot : ℕ) → CanChange a (suc lower) slot → (h : IsRaisedIn a leaf (suc lower) slot)
       → IsAt a (suc lower) lower slot h.0 h.1.child
@@ -153,7 +153,7 @@ module _ {N : ℕ} {a : Arena (Node N)} (leaf : RaisedLeaf) where
       part_of_raised is_below lower h.1.child (child_can at) h.4.1
       (part_of_part is_below _ (items_in a lower h.1.child) _ (rw (items_split at) at part))
 
-  module _ {bytes : KeyBytes} {b : Arena (Node N)} (put : IsChanged bytes a b 0 leaf.slot (Raised leaf)) where
+  module _ {bytes : KeyBytes} {b : Arena Node} (put : IsChanged bytes a b 0 leaf.slot (Raised leaf)) where
     -- a subtree once the leaf was changed
     pub record IsWritten (height slot : ℕ) : Type 0 where
       pub changed : IsChanged bytes a b height slot (Raised leaf)

@@ -1,10 +1,10 @@
 -- The leaf that a bound finds: the items before it and behind it.
 use Rattle.std.proofs.Common.{rules, ◌≡◌, ℕ, zero, suc, Bool, true, false, ◌++◌, map, All, sym, append_assoc, append-nil}
 use Rattle.std.proofs.lemmas.List.Elements.{All-nil, All-append}
-use Rattle.tree.proofs.Words.{Arena, Node, Item, item_of, IsPartitioned, child_in, leaf_in, before_leaf, after_leaf, entries_at, items_in, IsSubtree}
-use Rattle.tree.proofs.Ways.{way}
+use Rattle.boundaries.proofs.Words.{Arena, Node, Item, item_of, IsPartitioned, child_in, leaf_in, before_leaf, after_leaf, entries_at, items_in, IsSubtree}
+use Rattle.boundaries.proofs.Ways.{way}
 
-module _ {N : ℕ} (nodes : Arena (Node N)) where
+module _ (nodes : Arena Node) where
   -- what the leaf that a bound finds says of the items of the subtree
   pub record IsFoundLeaf (height slot leaf : ℕ) (is_below : ℕ → Bool) : Type 0 where
     pub items : items_in nodes height slot ≡ before_leaf nodes height slot is_below

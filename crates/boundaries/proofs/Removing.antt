@@ -4,7 +4,7 @@ use Rattle.std.proofs.lemmas.Grind.{drop_more_same}
 use Rattle.std.proofs.lemmas.Int.{ints}
 use Rattle.std.proofs.lemmas.List.{append-nil, get_or-drop, map-append, take_more, take_more_set, drop-set-lt, drop_more}
 use Rattle.std.proofs.lemmas.Bool.{cases_Bool}
-use Rattle.tree.proofs.Words.{NodeEntry, Item, item_of, version_of, IsLast, unexpired, expired}
+use Rattle.boundaries.proofs.Words.{NodeEntry, Item, item_of, version_of, IsLast, unexpired, expired}
 
 -- the entries from an index up to another
 abbrev pub run : List NodeEntry → ℕ → ℕ → List NodeEntry

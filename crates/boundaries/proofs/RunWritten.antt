@@ -2,12 +2,12 @@
 use Rattle.std.proofs.Common.{◌≡◌, ◌⊎◌, inl, inr, ℕ, ℤ, ◌+◌, ◌-◌, ◌≤◌, Bool, true, List, [], ◌∷◌, ◌++◌, Option, length, get_or, take, drop, filter, map, IsTrue, unwrap_or, sym, ap, ◌∙◌, arith}
 use Rattle.std.specs.Prelude.{slice_range}
 use Rattle.std.proofs.lemmas.List.{drop-take, map-append, same_from_push, take_more}
-use Rattle.tree.specs.declared.entry.NodeEntry.{NodeEntry}
-use Rattle.tree.specs.Item.{Item, item_of}
-use Rattle.tree.specs.Overwrite.{GivesEntire, first_is_below}
-use Rattle.tree.specs.Path.{IsPartitioned, items_below, following, first_key}
-use Rattle.tree.specs.Tree.{IsLast, ended_by}
-use Rattle.tree.proofs.WrittenLeaf.{some_item, items_parted, between_entries}
+use Rattle.boundaries.specs.declared.entry.NodeEntry.{NodeEntry}
+use Rattle.boundaries.specs.Item.{Item, item_of}
+use Rattle.boundaries.specs.Overwrite.{GivesEntire, first_is_below}
+use Rattle.boundaries.specs.Path.{IsPartitioned, items_below, following, first_key}
+use Rattle.boundaries.specs.Tree.{IsLast, ended_by}
+use Rattle.boundaries.proofs.WrittenLeaf.{some_item, items_parted, between_entries}
 
 -- What stands between the bounds is taken out, and the new items come in its place.
 pub entire_run : (p q r : ℕ → Bool) → ((key : ℕ) → p key ≡ true → q key ≡ true) → (es : List NodeEntry) (begin end : ℕ)

@@ -2,8 +2,8 @@
 use Rattle.std.proofs.Common.{◌≡◌, ◌≢◌, ℕ, zero, suc, ◌+◌, ◌*◌, ◌-◌, ◌≤◌, ◌<◌, ℤ, int_lt, ◌&&◌, List, [], ◌∷◌, ◌++◌, length, drop, get_or, All, refl, sym, subst, ◌∙◌, ap, arith, length-append}
 use Rattle.std.proofs.lemmas.Bool.{cases_Bool}
 use Rattle.std.proofs.lemmas.List.{drop_more}
-use Rattle.tree.proofs.Words.{Arena, Node, NodeEntry, Item, Unexpired, items_in, entries_at, IsChild, IsSubtree, IsCounted, last_version, items_from, unexpired}
-use Rattle.tree.proofs.Removing.{from_index}
+use Rattle.boundaries.proofs.Words.{Arena, Node, NodeEntry, Item, Unexpired, items_in, entries_at, IsChild, IsSubtree, IsCounted, last_version, items_from, unexpired}
+use Rattle.boundaries.proofs.Removing.{from_index}
 
 -- those that stay of two parts
 unexpired-append : (edge before : ℤ) (xs ys : List Item)
@@ -64,7 +64,7 @@ pub fewer_counted : (edge : ℤ) (before middle : Unexpired) (xs : List Item) �
 fewer_counted edge before middle xs c = omega (arith, c.count, fewer_stay edge before.last xs)
 
 -- the subtrees of the children of a node that isn't a leaf
-module _ {N : ℕ} (nodes : Arena (Node N)) where
+module _ (nodes : Arena Node) where
   pub items_of_root : (height slot : ℕ) → items_in nodes height slot ≡ items_from nodes height (entries_at nodes slot)
   items_of_root zero slot = refl
   items_of_root (suc height) slot = refl

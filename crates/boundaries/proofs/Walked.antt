@@ -5,27 +5,27 @@ use Rattle.std.proofs.lemmas.List.{get_or-set_same, length-drop, length-set, len
 use Rattle.std.proofs.lemmas.List.Elements.{All-append, All-cons, All-nil}
 use Rattle.std.proofs.lemmas.Option.{slice_get-get_or}
 use Rattle.arena.specs.Arena.{Arena, record_at}
-use Rattle.tree.specs.declared.entry.NodeEntry.{NodeEntry}
-use Rattle.tree.specs.declared.node.Node.{Node}
-use Rattle.tree.specs.declared.walk.LeafOutcome.{LeafOutcome}
-use Rattle.tree.specs.declared.walk.LeafOutcome.TheVariants.{Same, Raised, Split}
-use Rattle.tree.specs.declared.walk.RaisedLeaf.{RaisedLeaf}
-use Rattle.tree.specs.Heads.{KeyBytes}
-use Rattle.tree.specs.Item.{Item}
-use Rattle.tree.specs.Children.{child_at, entries_at_both, items_of, slots_of, slots_with, Changes, HasRaisedEntry, IsFamily, IsFamilyAt, IsLinked, IsRebalancedAt, DescribesWritten}
-use Rattle.tree.specs.Splice.{AreHalfFull}
-use Rattle.tree.specs.Subtree.{entries_at, items_in, slots_in, IsSubtree}
-use Rattle.tree.specs.Tree.{least_of}
-use Rattle.tree.specs.Walk.{added_by, IsChanged, IsChangedWithin, IsRaisedIn}
-use Rattle.tree.specs.Rebalancing.{CanInsertChild, CanRebalance, IsStored, LosesOneAtMost}
-use Rattle.tree.proofs.callers.Times.{distinct_if_once, none_or_some, once_same, times, times_if_contains}
-use Rattle.tree.proofs.Changing.{Moves, changes_if_moves, moves_if_changes, moves_trans}
-use Rattle.tree.proofs.Families.{Loose}
-use Rattle.tree.proofs.Frames.{IsRight, below_of, raised_same}
-use Rattle.tree.proofs.Replacing.{both_right, loose_at}
-use Rattle.tree.proofs.Stepping.{IsAt, around, child_once, child_right, here, live_beside, one_slots, read_beside, split, x_at}
-use Rattle.tree.proofs.Storing.{Stored, moves_own, stored}
-use Rattle.tree.proofs.Walking.{raised_above, raised_at}
+use Rattle.boundaries.specs.declared.entry.NodeEntry.{NodeEntry}
+use Rattle.boundaries.specs.declared.node.Node.{Node}
+use Rattle.boundaries.specs.declared.walk.LeafOutcome.{LeafOutcome}
+use Rattle.boundaries.specs.declared.walk.LeafOutcome.TheVariants.{Same, Raised, Split}
+use Rattle.boundaries.specs.declared.walk.RaisedLeaf.{RaisedLeaf}
+use Rattle.boundaries.specs.Heads.{KeyBytes}
+use Rattle.boundaries.specs.Item.{Item}
+use Rattle.boundaries.specs.Children.{child_at, entries_at_both, items_of, slots_of, slots_with, Changes, HasRaisedEntry, IsFamily, IsFamilyAt, IsLinked, IsRebalancedAt, DescribesWritten}
+use Rattle.boundaries.specs.Splice.{AreHalfFull}
+use Rattle.boundaries.specs.Subtree.{entries_at, items_in, slots_in, IsSubtree}
+use Rattle.boundaries.specs.Tree.{least_of}
+use Rattle.boundaries.specs.Walk.{added_by, IsChanged, IsChangedWithin, IsRaisedIn}
+use Rattle.boundaries.specs.Rebalancing.{CanInsertChild, CanRebalance, IsStored, LosesOneAtMost}
+use Rattle.boundaries.proofs.callers.Times.{distinct_if_once, none_or_some, once_same, times, times_if_contains}
+use Rattle.boundaries.proofs.Changing.{Moves, changes_if_moves, moves_if_changes, moves_trans}
+use Rattle.boundaries.proofs.Families.{Loose}
+use Rattle.boundaries.proofs.Frames.{IsRight, below_of, raised_same}
+use Rattle.boundaries.proofs.Replacing.{both_right, loose_at}
+use Rattle.boundaries.proofs.Stepping.{IsAt, around, child_once, child_right, here, live_beside, one_slots, read_beside, split, x_at}
+use Rattle.boundaries.proofs.Storing.{Stored, moves_own, stored}
+use Rattle.boundaries.proofs.Walking.{raised_above, raised_at}
 
 -- The items of a leaf that was changed.
 pub within_leaf : (is_below : ℕ → Bool) (Gives : Bool → Option ℕ → List Item → List Item → Type 0) (is_first : Bool)
@@ -47,34 +47,34 @@ within_leaf is_below Gives is_first key was now gives = record {
 }
 
 -- Both parts of a node that was split have this many entries.
-both_filled : {N : ℕ} (n : ℕ) (w : Arena (Node N)) (slot : ℕ) (added : Option ℕ) → 2 * n ≤ N
+both_filled : (n : ℕ) (w : Arena Node) (slot : ℕ) (added : Option ℕ) → 2 * n ≤ N
     → IfSome added (λ s. AreHalfFull N (entries_at w slot) (entries_at w s))
     → IfSome added (λ s. (n ≤ length (entries_at w slot)) × (n ≤ length (entries_at w s)))
 both_filled n w slot None few half = tt
 both_filled n w slot (Some s) few half = (omega (arith, half.left), omega (arith, half.right))
 
-module _ {N : ℕ} {a : Arena (Node N)} {height lower slot i x : ℕ} (at : IsAt a height lower slot i x) where
+module _ {a : Arena Node} {height lower slot i x : ℕ} (at : IsAt a height lower slot i x) where
   abbrev es : List NodeEntry
   es = entries_at a slot
 
   -- The child was changed, and wasn't split.
-  module _ {bytes : KeyBytes} {b : Arena (Node N)} {outcome : LeafOutcome} (put : IsChanged bytes a b lower x outcome)
+  module _ {bytes : KeyBytes} {b : Arena Node} {outcome : LeafOutcome} (put : IsChanged bytes a b lower x outcome)
       (entire : added_by outcome ≡ None) where
     moves : Moves a b (slots_in a lower x) (slots_in b lower x)
     moves = moves_if_changes a b _ _ (subst (λ o. Changes a b (slots_in a lower x) (slots_with b lower x o)) entire put.changes)
 
-    loosened : Loose a b (least_of N) lower (take i es) (here at ∷ []) (drop (i + 1) es) (here at ∷ [])
+    loosened : Loose a b (HALF_FULL) lower (take i es) (here at ∷ []) (drop (i + 1) es) (here at ∷ [])
     loosened = loose_at at (here at ∷ []) (rw (one_slots at b) at moves)
 
     own : Moves a b (slots_in a (suc lower) slot) (slot ∷ slots_of b lower es)
     own = moves_own lower slot es at.few at.subtree.0 (rw (split at) loosened.moves)
 
-    pub family : IsFamilyAt b (least_of N) lower slot i (i + 1)
+    pub family : IsFamilyAt b (HALF_FULL) lower slot i (i + 1)
     family =
-        let Below = λ (e : NodeEntry). IsSubtree b (least_of N) lower e.child in
+        let Below = λ (e : NodeEntry). IsSubtree b (HALF_FULL) lower e.child in
         let all = All-append Below (take i es) (here at ∷ [] ++ drop (i + 1) es) (below_of b _ lower _ loosened.front)
         (All-cons Below (here at) (drop (i + 1) es) (rw at.x_is at put.subtree) (below_of b _ lower _ loosened.back)) in
-        let loose : IsFamily b (least_of N) lower es i (i + 1) = record {
+        let loose : IsFamily b (HALF_FULL) lower es i (i + 1) = record {
           distinct = distinct_if_once (slots_of b lower es) (λ s. omega (arith, own.few s));
           below = rw (split at) all;
           before = loosened.front;
@@ -104,11 +104,11 @@ module _ {N : ℕ} {a : Arena (Node N)} {height lower slot i x : ℕ} (at : IsAt
 
     -- The child has enough entries then.
     pub child_filled : (leaf : RaisedLeaf) → outcome ≡ Raised leaf
-        → least_of N ≤ length (entries_at b (child_at (entries_at b slot) i))
+        → HALF_FULL ≤ length (entries_at b (child_at (entries_at b slot) i))
     child_filled leaf is =
         let answered = put.raised leaf is in
-        let was : least_of N ≤ length (entries_at a x) = rw at.x_is (child_right at).filled in
-        let now : least_of N ≤ length (entries_at b x) =
+        let was : HALF_FULL ≤ length (entries_at a x) = rw at.x_is (child_right at).filled in
+        let now : HALF_FULL ≤ length (entries_at b x) =
         elim (none_or_some lower) [
           | inl none ↦ answered.filled none
           | inr some ↦ omega (arith, answered.no_fewer some, was)
@@ -117,7 +117,7 @@ module _ {N : ℕ} {a : Arena (Node N)} {height lower slot i x : ℕ} (at : IsAt
         rw child at now
 
     -- The leaf is below the child's entry where that has its version, too.
-    pub raised_below : {w : Arena (Node N)} {version : ℤ} (leaf : RaisedLeaf) → HasRaisedEntry b w slot i version
+    pub raised_below : {w : Arena Node} {version : ℤ} (leaf : RaisedLeaf) → HasRaisedEntry b w slot i version
         → version ≡ leaf.version → outcome ≡ Raised leaf
         → (length (entries_at b slot) ≤ length (entries_at w slot)) × IsRaisedIn w leaf (suc lower) slot
     raised_below {w} {version} leaf raises same is =
@@ -138,8 +138,8 @@ module _ {N : ℕ} {a : Arena (Node N)} {height lower slot i x : ℕ} (at : IsAt
         )
 
     -- The node was rebalanced.
-    module _ {w : Arena (Node N)} (rebalanced : IsRebalancedAt b w (least_of N) lower slot) where
-      pub step_rebalanced : Stored a w (least_of N) height slot None (around at (items_in b lower x))
+    module _ {w : Arena Node} (rebalanced : IsRebalancedAt b w (HALF_FULL) lower slot) where
+      pub step_rebalanced : Stored a w (HALF_FULL) height slot None (around at (items_in b lower x))
       step_rebalanced = rw (← at.next) record {
         items_are = rebalanced.items ∙ ap (items_of b lower) (read_beside at moves ∙ split at)
             ∙ (simp (sym at.x_is, append-nil) at loosened.items);
@@ -173,7 +173,7 @@ module _ {N : ℕ} {a : Arena (Node N)} {height lower slot i x : ℕ} (at : IsAt
       }
 
   -- The child was split.
-  module _ {bytes : KeyBytes} {b : Arena (Node N)} {s : ℕ} (put : IsChanged bytes a b lower x (Split s)) where
+  module _ {bytes : KeyBytes} {b : Arena Node} {s : ℕ} (put : IsChanged bytes a b lower x (Split s)) where
     both_moves : Moves a b (slots_in a lower x) (slots_in b lower x ++ slots_in b lower s)
     both_moves = moves_if_changes a b _ _ put.changes
 
@@ -194,14 +194,14 @@ module _ {N : ℕ} {a : Arena (Node N)} {height lower slot i x : ℕ} (at : IsAt
         }
 
     -- The node was linked to both parts.
-    module _ {w : Arena (Node N)} (outcome : LeafOutcome)
+    module _ {w : Arena Node} (outcome : LeafOutcome)
         (linked : IsLinked b (child_at (entries_at b slot) i) s (take i (entries_at b slot))
         (drop (i + 1) (entries_at b slot)) (entries_at_both w slot (added_by outcome)))
         (stored_at : IsStored bytes b w slot (added_by outcome)) where
       linked_here : IsLinked b x s (take i es) (drop (i + 1) es) (entries_at_both w slot (added_by outcome))
       linked_here = rw (x_at at) (rw (read_beside at both_moves) at linked)
 
-      pub step_linked : Stored a w (least_of N) height slot (added_by outcome)
+      pub step_linked : Stored a w (HALF_FULL) height slot (added_by outcome)
           (around at (items_in b lower x ++ items_in b lower s))
       step_linked =
           let t = linked_here.first in
@@ -211,14 +211,14 @@ module _ {N : ℕ} {a : Arena (Node N)} {height lower slot i x : ℕ} (at : IsAt
           let slots : slots_in b lower x ++ slots_in b lower s ≡ slots_of b lower (t ∷ u ∷ []) =
           simp (first, second, append-nil) in
           let l = loose_at at (t ∷ u ∷ []) (rw slots at both_moves) in
-          let right = both_right b (least_of N) lower x s t u first second put.subtree put.neighbour put.filled
+          let right = both_right b (HALF_FULL) lower x s t u first second put.subtree put.neighbour put.filled
           linked_here.first_describes linked_here.second_describes in
-          let Right = IsRight b (least_of N) lower in
+          let Right = IsRight b (HALF_FULL) lower in
           let all = All-append Right (take i es) (t ∷ u ∷ drop (i + 1) es) l.front
           (All-append Right (t ∷ u ∷ []) (drop (i + 1) es) right l.back) in
           let some : 1 ≤ length (entries_at_both w slot (added_by outcome)) =
           omega (arith, ap length linked_here.entries, length-append (take i es) (t ∷ u ∷ drop (i + 1) es)) in
-          let k = stored (least_of N) lower slot at.few at.subtree.0 (added_by outcome)
+          let k = stored (HALF_FULL) lower slot at.few at.subtree.0 (added_by outcome)
           (rw (split at, linked_here.entries) l.moves) (rw linked_here.entries all) some
           (both_filled 1 w slot _ (omega (arith, at.can.fan_out)) stored_at.filled) stored_at.live stored_at.live_added
           (moves_if_changes b w _ _ stored_at.changes) in
@@ -233,7 +233,7 @@ module _ {N : ℕ} {a : Arena (Node N)} {height lower slot i x : ℕ} (at : IsAt
         raised = λ leaf is. absurd (kept leaf is);
         subtree = step_linked.subtree;
         neighbour = step_linked.neighbour;
-        filled = both_filled (least_of N) w slot _ (omega (arith, at.can.fan_out)) stored_at.filled;
+        filled = both_filled (HALF_FULL) w slot _ (omega (arith, at.can.fan_out)) stored_at.filled;
         few_less = λ above none. (
             let is : entries_at w slot ≡ take i es ++ (linked_here.first ∷ linked_here.second ∷ drop (i + 1) es) =
             ap (entries_at_both w slot) (sym none) ∙ linked_here.entries in

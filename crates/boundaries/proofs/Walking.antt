@@ -8,21 +8,21 @@ use Rattle.std.proofs.lemmas.List.{get_or_default}
 use Rattle.std.proofs.lemmas.Option.{get_or_from_slice_get}
 use Rattle.arena.specs.Arena.{Arena}
 use Rattle.keys.proofs.callers.SomeElement.{Any-first, Any-left, Any-none, Any-parts, Any-right}
-use Rattle.tree.specs.declared.entry.NodeEntry.{NodeEntry}
-use Rattle.tree.specs.declared.node.Node.{Node}
-use Rattle.tree.specs.Item.{Item, Describes, item_of}
-use Rattle.tree.specs.Path.{IsPartitioned, first_key, index_in}
-use Rattle.tree.specs.Children.{child_at, items_of, AreChildren, DescribesWritten}
-use Rattle.tree.specs.Subtree.{entries_at, items_in}
-use Rattle.tree.specs.Tree.{least_of}
-use Rattle.tree.specs.Walk.{IsChangedWithin, IsFoundAmong, IsRaised}
-use Rattle.tree.proofs.callers.Partitions.{not_both}
-use Rattle.tree.proofs.callers.Times.{none_or_some}
-use Rattle.tree.proofs.Frames.{IsRight}
-use Rattle.tree.proofs.Keys.{first_key-append, first_key-children}
-use Rattle.tree.proofs.Leaves.{index_passes}
-use Rattle.tree.proofs.Stepping.{IsAt, child_right, items_split, x_at}
-use Rattle.tree.proofs.Ways.{way}
+use Rattle.boundaries.specs.declared.entry.NodeEntry.{NodeEntry}
+use Rattle.boundaries.specs.declared.node.Node.{Node}
+use Rattle.boundaries.specs.Item.{Item, Describes, item_of}
+use Rattle.boundaries.specs.Path.{IsPartitioned, first_key, index_in}
+use Rattle.boundaries.specs.Children.{child_at, items_of, AreChildren, DescribesWritten}
+use Rattle.boundaries.specs.Subtree.{entries_at, items_in}
+use Rattle.boundaries.specs.Tree.{least_of}
+use Rattle.boundaries.specs.Walk.{IsChangedWithin, IsFoundAmong, IsRaised}
+use Rattle.boundaries.proofs.callers.Partitions.{not_both}
+use Rattle.boundaries.proofs.callers.Times.{none_or_some}
+use Rattle.boundaries.proofs.Frames.{IsRight}
+use Rattle.boundaries.proofs.Keys.{first_key-append, first_key-children}
+use Rattle.boundaries.proofs.Leaves.{index_passes}
+use Rattle.boundaries.proofs.Stepping.{IsAt, child_right, items_split, x_at}
+use Rattle.boundaries.proofs.Ways.{way}
 
 both_empty : {X : Type 0} (xs ys : List X) → xs ++ ys ≡ [] → (xs ≡ []) × (ys ≡ [])
 both_empty [] ys e = (refl, e)
@@ -75,7 +75,7 @@ describes_raised e version was (x ∷ xs) describes raised le =
     }
 
 -- No item stands before those of a child if it is the first one.
-none_at : {N : ℕ} (a : Arena (Node N)) (least lower : ℕ) (es : List NodeEntry) (i : ℕ) → AreChildren a least lower es
+none_at : (a : Arena Node) (least lower : ℕ) (es : List NodeEntry) (i : ℕ) → AreChildren a least lower es
     → i < length es → items_of a lower (take i es) ≡ [] → i ≡ 0
 none_at a least lower [] i right within none = absurd (omega (arith, within))
 none_at a least lower (e ∷ es) zero right within none = refl
@@ -84,7 +84,7 @@ none_at a least lower (e ∷ es) (suc i) right within none =
     let empty = both_empty (items_in a lower e.child) (items_of a lower (take i es)) none in
     absurd (cc (t.items_are, empty.0))
 
-module _ {N : ℕ} {a : Arena (Node N)} {height lower slot i x : ℕ} (at : IsAt a height lower slot i x) where
+module _ {a : Arena Node} {height lower slot i x : ℕ} (at : IsAt a height lower slot i x) where
   abbrev es : List NodeEntry
   es = entries_at a slot
 
@@ -108,7 +108,7 @@ module _ {N : ℕ} {a : Arena (Node N)} {height lower slot i x : ℕ} (at : IsAt
       let Passes = λ (x : Item). is_below x.key ≡ true in
       let Fails = λ (x : Item). is_below x.key ≡ false in
       let QuestionAnswers = λ (e : NodeEntry). Describes e (items_in a lower e.child) in
-      let w = way a (least_of N) lower slot is_below at.subtree (rw (← at.next) at partitioned) in
+      let w = way a (HALF_FULL) lower slot is_below at.subtree (rw (← at.next) at partitioned) in
       let child : x ≡ w.entry.child = x_at at ∙ ap (child_at es) index ∙ sym w.child in
       let found : IsFoundAmong is_below front part = elim (none_or_some (length (filter (λ (e : NodeEntry). is_below e.key) es))) [
         | inl none ↦ (let zero_is : i ≡ 0 = omega (arith, index) in inl (ap (λ n. items_of a lower (take n es)) zero_is))
@@ -143,7 +143,7 @@ module _ {N : ℕ} {a : Arena (Node N)} {height lower slot i x : ℕ} (at : IsAt
           λ h. (let b = c.first_is.0 h in let f = first_is.0 b.0 in
               (f.0, ap₂ (λ n ys. items_of a lower (take n es) ++ ys) f.1 b.1)),
           λ h. (let none = both_empty front c.before h.1 in
-              c.first_is.1 (first_is.1 (h.0, none_at a (least_of N) lower es i at.subtree.2 at.within none.0), none.1)),
+              c.first_is.1 (first_is.1 (h.0, none_at a (HALF_FULL) lower es i at.subtree.2 at.within none.0), none.1)),
         );
         gives = subst (λ k. Gives c.first k c.leaf c.changed)
             (ap (λ k. first_key k c.following) below_is ∙ sym (first_key-append key c.following back)) c.gives;
@@ -178,7 +178,7 @@ module _ {N : ℕ} {a : Arena (Node N)} {height lower slot i x : ℕ} (at : IsAt
       }
 
   -- The child's entry would be right with that version, unless it has a greater one.
-  pub raised_at : (b : Arena (Node N)) (version : ℤ) → entries_at b slot ≡ entries_at a slot
+  pub raised_at : (b : Arena Node) (version : ℤ) → entries_at b slot ≡ entries_at a slot
       → IsRaised version (items_in a lower x) (items_in b lower x) → DescribesWritten b lower slot i version
   raised_at b version read raised e here le =
       let same = get_or_from_slice_get es i e at.d (rw read at here) in

@@ -5,8 +5,8 @@ use Rattle.std.proofs.lemmas.Option.{slice_get-get_or}
 use Rattle.std.proofs.lemmas.List.{drop_more}
 use Rattle.std.proofs.lemmas.Grind.{flat_map-append}
 use Rattle.std.proofs.lemmas.List.Elements.{All-nil, All-drop, All-head, All-tail, filter-append}
-use Rattle.tree.proofs.Words.{Arena, NodeEntry, Node, Item, Describes, IsPartitioned, index_in, child_in, items_of, entries_at, items_in, IsChild, IsSubtree}
-use Rattle.tree.proofs.callers.Partitions.{none_pass, IsPartitioned-parts, rest_fails, length-items_below, after_partitioned, All-back, All-apart}
+use Rattle.boundaries.proofs.Words.{Arena, NodeEntry, Node, Item, Describes, IsPartitioned, index_in, child_in, items_of, entries_at, items_in, IsChild, IsSubtree}
+use Rattle.boundaries.proofs.callers.Partitions.{none_pass, IsPartitioned-parts, rest_fails, length-items_below, after_partitioned, All-back, All-apart}
 
 -- an element of a list, between those before it and those behind it
 pub around_element : {X : Type 0} (xs : List X) (i : ℕ) (d : X) → i < length xs
@@ -101,7 +101,7 @@ module _ (is_below : ℕ → Bool) (below : NodeEntry → List Item) where
   index_inside es some = let le = length-items_below (λ (e : NodeEntry). is_below e.key) es in omega arith
 
 -- what a bound says of the node of a subtree above its leaves
-pub record IsWay {N : ℕ} (nodes : Arena (Node N)) (least height slot : ℕ) (is_below : ℕ → Bool) : Type 0 where
+pub record IsWay (nodes : Arena Node) (least height slot : ℕ) (is_below : ℕ → Bool) : Type 0 where
   -- the entries are partitioned by their keys
   pub entries : IsPartitioned (λ e. is_below e.key) (entries_at nodes slot)
   -- the entry that the bound finds
@@ -120,7 +120,7 @@ pub record IsWay {N : ℕ} (nodes : Arena (Node N)) (least height slot : ℕ) (i
       ≡ items_of nodes height (take (index_in is_below (entries_at nodes slot)) (entries_at nodes slot)) ++ (items_in nodes height
       entry.child ++ items_of nodes height (drop (index_in is_below (entries_at nodes slot) + 1) (entries_at nodes slot)))
 
-pub way : {N : ℕ} (nodes : Arena (Node N)) (least height slot : ℕ) (is_below : ℕ → Bool)
+pub way : (nodes : Arena Node) (least height slot : ℕ) (is_below : ℕ → Bool)
     → IsSubtree nodes least (suc height) slot → IsPartitioned (λ x. is_below x.key) (items_in nodes (suc height) slot)
     → IsWay nodes least height slot is_below
 way nodes least height slot is_below s c =

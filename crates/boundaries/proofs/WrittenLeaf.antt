@@ -7,17 +7,17 @@ use Rattle.std.proofs.lemmas.List.Elements.{All-nil, All-cons, All-head, All-app
 use Rattle.std.proofs.lemmas.Option.{slice_get_cases}
 use Rattle.std.specs.Prelude.{option_copied}
 use Rattle.keys.proofs.callers.SomeElement.{Any-first, Any-right}
-use Rattle.tree.specs.declared.entry.NodeEntry.{NodeEntry}
-use Rattle.tree.specs.Item.{Item, item_of}
-use Rattle.tree.specs.Overwrite.{IsOverwritten, IsPartOfPartitioned, first_is_below}
-use Rattle.tree.specs.Path.{IsPartitioned, items_below, following, between, first_key}
-use Rattle.tree.specs.Tree.{IsLast, ended_by}
-use Rattle.tree.specs.Walk.{IsRaised}
-use Rattle.tree.proofs.callers.Partitions.{All-back, none_fail, IsPartitioned-parts}
-use Rattle.tree.proofs.Inserting.{ended_some}
-use Rattle.tree.proofs.LeafChange.{parted}
-use Rattle.tree.proofs.Leaves.{IsLeaf, filter-items, last_passing}
-use Rattle.tree.proofs.Overwriting.{between_is}
+use Rattle.boundaries.specs.declared.entry.NodeEntry.{NodeEntry}
+use Rattle.boundaries.specs.Item.{Item, item_of}
+use Rattle.boundaries.specs.Overwrite.{IsOverwritten, IsPartOfPartitioned, first_is_below}
+use Rattle.boundaries.specs.Path.{IsPartitioned, items_below, following, between, first_key}
+use Rattle.boundaries.specs.Tree.{IsLast, ended_by}
+use Rattle.boundaries.specs.Walk.{IsRaised}
+use Rattle.boundaries.proofs.callers.Partitions.{All-back, none_fail, IsPartitioned-parts}
+use Rattle.boundaries.proofs.Inserting.{ended_some}
+use Rattle.boundaries.proofs.LeafChange.{parted}
+use Rattle.boundaries.proofs.Leaves.{IsLeaf, filter-items, last_passing}
+use Rattle.boundaries.proofs.Overwriting.{between_is}
 
 -- A part of items that are partitioned is partitioned.
 pub part_partitioned : (p : ℕ → Bool) (items : List Item) → IsPartOfPartitioned p items → IsPartitioned (λ x. p x.key) items

@@ -1,83 +1,121 @@
 -- The run of a leaf that is written over. This project's own.
-use Rattle.std.specs.Prelude.{◌≡◌, ◌≢◌, ◌≤◌, ◌<◌, ◌+◌, ◌-◌, ℕ, ℤ, Bool, List, [], length, slice_get, Option, None, Some}
-use Rattle.arena.specs.Arena.{Arena, IsLive, header_at, spare_of}
-use Rattle.tree.specs.declared.entry.NodeEntry.{NodeEntry}
-use Rattle.tree.specs.declared.node.Node.{Node}
-use Rattle.tree.specs.declared.run.EntryRun.{EntryRun}
-use Rattle.tree.specs.Finding.{CanFind, HasHead, IsLowerBound}
-use Rattle.tree.specs.Heads.{AllAreHeads, KeyBytes}
-use Rattle.tree.specs.Item.{Item}
-use Rattle.tree.specs.Node.{all_heads_of, entries_of, key_heads_of}
-use Rattle.tree.specs.Overwrite.{GivesEntire}
-use Rattle.tree.specs.Path.{IsPartitioned, items_below, following}
-use Rattle.tree.specs.Rebalancing.{IsStored}
-use Rattle.tree.specs.Children.{IsKeyless}
-use Rattle.tree.specs.Subtree.{entries_at, items_in}
-use Rattle.tree.specs.Tree.{least_of}
+use Rattle.std.specs.Prelude.{◌≡◌, ◌≢◌, ◌≤◌, ◌<◌, ◌+◌, ◌-◌, ◌⊎◌, ◌++◌, ◌∷◌, ℕ, ℤ, Bool, List, [], length, map, take, drop, slice_get, if◌then◌else◌, Option, None, Some, unwrap_or, IsTrue}
+use Rattle.arena.specs.Arena.{IsLive, header_at, spare_of}
+use Rattle.boundaries.specs.declared.descent.Position.{Position}
+use Rattle.boundaries.specs.declared.entry.NodeEntry.{NodeEntry}
+use Rattle.boundaries.specs.declared.node.Node.{Node}
+use Rattle.boundaries.specs.declared.node.TheConstants.{FAN_OUT, HALF_FULL}
+use Rattle.boundaries.specs.declared.overwrite.Overwrite.{Overwrite}
+use Rattle.boundaries.specs.declared.run.EntryRun.{EntryRun}
+use Rattle.boundaries.specs.declared.store.Store.{Store}
+use Rattle.boundaries.specs.declared.walk.RaisedLeaf.{RaisedLeaf}
+use Rattle.boundaries.specs.Bound.{Keys, is_below}
+use Rattle.boundaries.specs.Children.{items_with}
+use Rattle.boundaries.specs.Finding.{HasHead, IsLowerBound}
+use Rattle.boundaries.specs.Item.{Item, item_of, version_of}
+use Rattle.boundaries.specs.Items.{IsLast, ended_by}
+use Rattle.boundaries.specs.Node.{IsHeaded, entries_of, keys_of}
+use Rattle.boundaries.specs.Overwrite.{before_start, before_end, up_to_end, bound_from, bound_to, first_is_below, GivesEntire, HasKeyRoom}
+use Rattle.boundaries.specs.Path.{IsPartitioned, items_below, following, first_key}
+use Rattle.boundaries.specs.Position.{CanSearch}
+use Rattle.boundaries.specs.Rebalancing.{IsSound, IsStored}
+use Rattle.boundaries.specs.Store.{KeysStay, PutsKeys}
+use Rattle.boundaries.specs.Subtree.{entries_at, items_in}
 
-module _ {N : ℕ} where
-  -- The position of the run from one bound to another among the entries of a leaf, and the heads of their targets.
-  pub record IsRun (from_bytes to_bytes : KeyBytes) (from to : ℕ → Bool) (from_target to_target : List ℕ) (leaf : Node N) (run : EntryRun)
-      : Type 0 where
-    pub begin : IsLowerBound from leaf run.begin
-    pub end : IsLowerBound to leaf run.end
-    pub ordered : run.begin ≤ run.end
-    pub begin_head : HasHead from_bytes from_target run.begin_head (key_heads_of leaf)
-    pub end_head : HasHead to_bytes to_target run.end_head (key_heads_of leaf)
+-- The position of a run among the entries of a leaf, and the heads of the start and the end.
+pub record IsRun (keys : Keys) (leaf : Node) (new : Overwrite) (run : EntryRun) : Type 0 where
+  pub begin : IsLowerBound (before_start keys new) leaf run.begin
+  pub end : IsLowerBound (before_end keys new) leaf run.end
+  pub ordered : run.begin ≤ run.end
+  pub some : 0 < run.end
+  pub begin_head : HasHead keys (bound_from new) run.begin_head leaf
+  pub end_head : HasHead keys (bound_to new) run.end_head leaf
 
-  -- A leaf of which a run may be written over.
-  pub record CanWriteRun (from_bytes to_bytes : KeyBytes) (from to : ℕ → Bool) (from_target to_target : List ℕ) (nodes : Arena (Node N))
-      (slot : ℕ) (run : EntryRun) : Type 0 where
-    pub fan_out : 4 ≤ N
-    pub few : N ≤ 65536
-    pub keyless : IsKeyless nodes
-    pub room : 0 < spare_of nodes 0
-    pub headed : AllAreHeads to_bytes (all_heads_of nodes)
-    pub leaf : Node N
-    pub there : header_at nodes slot ≡ Some leaf
-    pub run_is : IsRun from_bytes to_bytes from to from_target to_target leaf run
+-- the leaf at a slot, whose run is this
+pub record IsRunAt (store : Store) (slot : ℕ) (new : Overwrite) (run : EntryRun) : Type 0 where
+  pub leaf : Node
+  pub there : header_at store.nodes slot ≡ Some leaf
+  pub run_is : IsRun store.keys leaf new run
 
-  -- a leaf in which a run may be sought
-  pub record CanFindRun (from to : ℕ → Bool) (bytes : KeyBytes) (leaf : Node N) : Type 0 where
-    pub fan_out : 4 ≤ N
-    pub few : N ≤ 65536
-    pub first_bound : IsPartitioned (λ e. from e.key) (entries_of leaf)
-    pub second_bound : CanFind bytes to leaf
+-- the same, where the key of the first item after the leaf is this
+pub record IsRunBefore (store : Store) (slot : ℕ) (next : Option ℕ) (new : Overwrite) (run : EntryRun) : Type 0 where
+  pub run_is : IsRunAt store slot new run
+  pub ended : run.ended ≡ first_is_below (up_to_end store.keys new)
+      (first_key next (map item_of (drop run.end (entries_at store.nodes slot))))
 
-  -- A run between two entries of a leaf, which keeps enough entries and has room for two more. The first entry after it
-  -- tells whether an item has the key of the second new one. No version is given for that one, so it has that of the last entry before
-  -- the second bound.
-  pub record IsFoundRun (from_bytes to_bytes : KeyBytes) (from to past : ℕ → Bool) (from_target to_target : List ℕ) (given : Option ℤ)
-      (leaf : Node N) (run : EntryRun) : Type 0 where
-    pub run_is : IsRun from_bytes to_bytes from to from_target to_target leaf run
-    pub some_before : 0 < run.begin
-    pub some_after : run.end < length (entries_of leaf)
-    pub fits : length (entries_of leaf) + 2 ≤ N
-    pub filled : least_of N + (run.end - run.begin) ≤ length (entries_of leaf)
-    pub ended : (e : NodeEntry) → slice_get (entries_of leaf) run.end ≡ Some e → run.ended ≡ past e.key
-    pub given_none : given ≡ None
+-- a leaf in which the run is sought
+pub record CanFindRun (store : Store) (position : Position) (new : Overwrite) : Type 0 where
+  pub search : CanSearch store (bound_to new) 0 position.slot position.common_prefix_len
+  pub from : IsPartitioned (λ x. before_start store.keys new x.key) (items_in store.nodes 0 position.slot)
 
-  -- A leaf in which the next write may continue.
-  pub record CanWriteInLeaf (from to : ℕ → Bool) (bytes : KeyBytes) (nodes : Arena (Node N)) (slot : ℕ) (taken : List NodeEntry) : Type 0 where
-    pub fan_out : 4 ≤ N
-    pub few : N ≤ 65536
-    pub live : IsLive nodes slot
-    pub some : 0 < length (entries_at nodes slot)
-    pub keyless : IsKeyless nodes
-    pub room : 0 < spare_of nodes 0
-    pub headed : AllAreHeads bytes (all_heads_of nodes)
-    pub first_bound : IsPartitioned (λ x. from x.key) (items_in nodes 0 slot)
-    pub second_bound : IsPartitioned (λ x. to x.key) (items_in nodes 0 slot)
-    pub none_taken : taken ≡ []
+-- A leaf of which a run may be written over.
+pub record CanWriteRun (store : Store) (slot : ℕ) (new : Overwrite) (run : EntryRun) : Type 0 where
+  pub sound : IsSound store
+  pub room : 0 < spare_of store.nodes 0
+  pub key_room : HasKeyRoom store.keys new
+  pub run_is : IsRunAt store slot new run
+  pub none_removed : store.removed.items ≡ []
 
-  -- A leaf in which a run was written over, between two of its items, if no version is given for the second new one. It still has
-  -- enough entries.
-  pub record IsWrittenInLeaf (from to past : ℕ → Bool) (first : Item) (second : ℕ) (given : Option ℤ) (ended : Bool) (bytes : KeyBytes)
-      (run : List Item) (old new : Arena (Node N)) (slot : ℕ) : Type 0 where
-    pub given_none : given ≡ None
-    pub some_before : items_below from (items_in old 0 slot) ≢ []
-    pub some_after : following to (items_in old 0 slot) ≢ []
-    pub gives : (is_first : Bool) (next : Option ℕ) → GivesEntire from to past first second given ended run is_first next
-        (items_in old 0 slot) (items_in new 0 slot)
-    pub filled : least_of N ≤ length (entries_at new slot)
-    pub stored : IsStored bytes old new slot None
+-- The run is replaced by the new items.
+pub record IsRunWritten (old new : Store) (slot : ℕ) (o : Overwrite) (run : EntryRun) (added : Option ℕ) : Type 0 where
+  pub first : ℕ
+  pub second : ℕ
+  pub puts : PutsKeys old.keys new.keys o.start.now o.end.now first (if run.ended then None else Some second)
+  pub removed : new.removed.items ≡ keys_of (drop run.begin (take run.end (entries_at old.nodes slot)))
+  pub items : (last : NodeEntry) → IsLast last (take run.end (entries_at old.nodes slot)) → items_with new.nodes 0 slot added
+      ≡ map item_of (take run.begin (entries_at old.nodes slot))
+      ++ (record { key = first; version = o.version }
+      ∷ ended_by run.ended (record { key = second; version = unwrap_or o.at_end last.version })
+      ++ map item_of (drop run.end (entries_at old.nodes slot)))
+
+-- a leaf of which the first entries may be removed
+pub record CanClearRun (store : Store) (slot end : ℕ) : Type 0 where
+  pub sound : IsSound store
+  pub live : IsLive store.nodes slot
+  pub some : 0 < end
+  pub within : end ≤ length (entries_at store.nodes slot)
+  pub none_removed : store.removed.items ≡ []
+
+-- They are removed, and the last of them had this version.
+pub record IsRunCleared (old new : Store) (slot end : ℕ) (last : ℤ) : Type 0 where
+  pub entries : entries_at new.nodes slot ≡ drop end (entries_at old.nodes slot)
+  pub removed : new.removed.items ≡ keys_of (take end (entries_at old.nodes slot))
+  pub last_is : IsLast last (map version_of (take end (entries_at old.nodes slot)))
+  pub stored : IsStored old new slot None
+  pub keys : new.keys ≡ old.keys
+
+-- A leaf in which the next write may continue.
+pub record CanWriteInLeaf (store : Store) (slot : ℕ) (new : Overwrite) : Type 0 where
+  pub sound : IsSound store
+  pub live : IsLive store.nodes slot
+  pub some : 0 < length (entries_at store.nodes slot)
+  pub room : 0 < spare_of store.nodes 0
+  pub key_room : HasKeyRoom store.keys new
+  pub from : IsPartitioned (λ x. before_start store.keys new x.key) (items_in store.nodes 0 slot)
+  pub to : IsPartitioned (λ x. before_end store.keys new x.key) (items_in store.nodes 0 slot)
+  pub none_removed : store.removed.items ≡ []
+
+-- A run between two entries of a leaf, which keeps enough entries and has room for two more. The first entry after it tells whether
+-- there is a boundary at the end.
+pub record IsFoundRun (store : Store) (slot : ℕ) (new : Overwrite) (run : EntryRun) : Type 0 where
+  pub run_is : IsRunAt store slot new run
+  pub some_before : 0 < run.begin
+  pub some_after : run.end < length (entries_at store.nodes slot)
+  pub fits : length (entries_at store.nodes slot) + 2 ≤ FAN_OUT
+  pub filled : HALF_FULL + (run.end - run.begin) ≤ length (entries_at store.nodes slot)
+  pub ended : (e : NodeEntry) → slice_get (entries_at store.nodes slot) run.end ≡ Some e → run.ended ≡ up_to_end store.keys new e.key
+
+-- A leaf in which a run was written over, between two of its items, at the version of the leaf. It still has enough entries.
+pub record IsWrittenInLeaf (old new : Store) (leaf : RaisedLeaf) (o : Overwrite) : Type 0 where
+  pub version : o.version ≡ leaf.version
+  pub given_none : o.at_end ≡ None
+  pub some_before : items_below (before_start old.keys o) (items_in old.nodes 0 leaf.slot) ≢ []
+  pub some_after : following (before_end old.keys o) (items_in old.nodes 0 leaf.slot) ≢ []
+  pub gives : (next : Option ℕ) → GivesEntire o old new next (items_in old.nodes 0 leaf.slot) (items_in new.nodes 0 leaf.slot)
+  pub filled : HALF_FULL ≤ length (entries_at new.nodes leaf.slot)
+  pub stored : IsStored old new leaf.slot None
+  pub keys : KeysStay old.keys new.keys
+
+-- It was written over, or nothing was changed.
+abbrev pub WritesInLeaf : Store → Store → RaisedLeaf → Overwrite → Bool → Type 0
+WritesInLeaf old new leaf o done = if done then IsWrittenInLeaf old new leaf o else (new ≡ old)

@@ -3,7 +3,7 @@ use Rattle.std.specs.Prelude.{◌≡◌, ◌⊎◌, ◌≤◌, ◌↔◌, ◌/�
 use Rattle.std.specs.List.{All, AllZip, Contains}
 use Rattle.keys.specs.Key.{IsBytes, IsBefore}
 use Rattle.keys.specs.Head.{head_of}
-use Rattle.tree.specs.declared.entry.NodeEntry.{NodeEntry}
+use Rattle.boundaries.specs.declared.entry.NodeEntry.{NodeEntry}
 
 -- the bytes of keys, of those that are known
 abbrev pub KeyBytes : Type 0

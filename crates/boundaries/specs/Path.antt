@@ -2,10 +2,10 @@
 use Rattle.std.specs.Prelude.{◌≡◌, ◌&&◌, true, false, ◌∷◌, Option, Some, ℕ, zero, suc, ◌+◌, ◌-◌, Bool, not, List, [], ◌++◌, take, drop, filter, slice_get, option_map, unwrap_or, length}
 use Rattle.std.specs.List.{flat_map}
 use Rattle.arena.specs.Arena.{Arena}
-use Rattle.tree.specs.declared.entry.NodeEntry.{NodeEntry}
-use Rattle.tree.specs.declared.node.Node.{Node}
-use Rattle.tree.specs.Item.{Item}
-use Rattle.tree.specs.Subtree.{entries_at, items_in}
+use Rattle.boundaries.specs.declared.entry.NodeEntry.{NodeEntry}
+use Rattle.boundaries.specs.declared.node.Node.{Node}
+use Rattle.boundaries.specs.Item.{Item}
+use Rattle.boundaries.specs.Subtree.{entries_at, items_in}
 
 -- those below the bound come first
 abbrev pub IsPartitioned : {X : Type 0} → (X → Bool) → List X → Type 0
@@ -47,24 +47,23 @@ index_in is_below entries = length (filter (λ e. is_below e.key) entries) - 1
 abbrev pub child_in : (ℕ → Bool) → List NodeEntry → ℕ
 child_in is_below entries = unwrap_or (option_map (λ e. e.child) (slice_get entries (index_in is_below entries))) 0
 
-module _ {N : ℕ} where
-  -- the slot of the leaf
-  abbrev pub leaf_in : Arena (Node N) → ℕ → ℕ → (ℕ → Bool) → ℕ
-  leaf_in nodes zero slot is_below = slot
-  leaf_in nodes (suc height) slot is_below = leaf_in nodes height (child_in is_below (entries_at nodes slot)) is_below
+-- the slot of the leaf
+abbrev pub leaf_in : Arena Node → ℕ → ℕ → (ℕ → Bool) → ℕ
+leaf_in nodes zero slot is_below = slot
+leaf_in nodes (suc height) slot is_below = leaf_in nodes height (child_in is_below (entries_at nodes slot)) is_below
 
-  -- the items before the leaf's
-  abbrev pub before_leaf : Arena (Node N) → ℕ → ℕ → (ℕ → Bool) → List Item
-  before_leaf nodes zero slot is_below = []
-  before_leaf nodes (suc height) slot is_below =
-      let entries = entries_at nodes slot in
-      flat_map (λ e. items_in nodes height e.child) (take (index_in is_below entries) entries)
-      ++ before_leaf nodes height (child_in is_below entries) is_below
+-- the items before the leaf's
+abbrev pub before_leaf : Arena Node → ℕ → ℕ → (ℕ → Bool) → List Item
+before_leaf nodes zero slot is_below = []
+before_leaf nodes (suc height) slot is_below =
+    let entries = entries_at nodes slot in
+    flat_map (λ e. items_in nodes height e.child) (take (index_in is_below entries) entries)
+    ++ before_leaf nodes height (child_in is_below entries) is_below
 
-  -- the items after the leaf's
-  abbrev pub after_leaf : Arena (Node N) → ℕ → ℕ → (ℕ → Bool) → List Item
-  after_leaf nodes zero slot is_below = []
-  after_leaf nodes (suc height) slot is_below =
-      let entries = entries_at nodes slot in
-      after_leaf nodes height (child_in is_below entries) is_below
-      ++ flat_map (λ e. items_in nodes height e.child) (drop (index_in is_below entries + 1) entries)
+-- the items after the leaf's
+abbrev pub after_leaf : Arena Node → ℕ → ℕ → (ℕ → Bool) → List Item
+after_leaf nodes zero slot is_below = []
+after_leaf nodes (suc height) slot is_below =
+    let entries = entries_at nodes slot in
+    after_leaf nodes height (child_in is_below entries) is_below
+    ++ flat_map (λ e. items_in nodes height e.child) (drop (index_in is_below entries + 1) entries)

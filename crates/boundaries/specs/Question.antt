@@ -1,69 +1,108 @@
 -- What answers a question: the leaf to which it leads, or else the keys. This project's own.
-use Rattle.std.specs.Prelude.{◌≡◌, ◌≢◌, ◌≤◌, ◌<ℤ◌, ◌↔◌, ◌++◌, ℕ, ℤ, Bool, false, List, [], length, Option, Some, IfSome, IsTrue}
+use Rattle.std.specs.Prelude.{◌≡◌, ◌≢◌, ◌≤◌, ◌<ℤ◌, ◌↔◌, ◌++◌, ℕ, ℤ, Bool, true, false, List, [], ◌∷◌, drop, length, Option, Some, IfSome, IsTrue}
 use Rattle.std.specs.List.{All, Any}
-use Rattle.arena.specs.Arena.{Arena, IsLive}
-use Rattle.tree.specs.declared.node.Node.{Node}
-use Rattle.tree.specs.declared.approach.Approach.{Approach}
-use Rattle.tree.specs.declared.approach.Approach.TheVariants.{Leaf, Clear, Open}
-use Rattle.tree.specs.declared.approach.LeafHint.{LeafHint}
-use Rattle.tree.specs.Finding.{IsHeadFor}
-use Rattle.tree.specs.Heads.{KeyBytes, IsCommonPrefixAt}
-use Rattle.tree.specs.Item.{Item}
-use Rattle.tree.specs.Node.{all_heads_of}
-use Rattle.tree.specs.Path.{IsPartitioned, from_last, items_below}
-use Rattle.tree.specs.ReachedLeaf.{CanReach}
-use Rattle.tree.specs.Subtree.{entries_at, items_in}
+use Rattle.arena.specs.Arena.{IsLive, key_at}
+use Rattle.keys.specs.Key.{IsBytes}
+use Rattle.keys.specs.declared.range.Range.{Range}
+use Rattle.boundaries.specs.declared.approach.Approach.{Approach}
+use Rattle.boundaries.specs.declared.approach.Approach.TheVariants.{Leaf, Clear, Open}
+use Rattle.boundaries.specs.declared.approach.Hint.{Hint}
+use Rattle.boundaries.specs.declared.approach.Rest.{Rest}
+use Rattle.boundaries.specs.declared.approach.Rest.TheVariants as rest
+use Rattle.boundaries.specs.declared.key_bound.KeyBound.{KeyBound}
+use Rattle.boundaries.specs.declared.lookup.Look.{Look}
+use Rattle.boundaries.specs.declared.node.Node.{Node}
+use Rattle.boundaries.specs.declared.question.Question.{Question}
+use Rattle.boundaries.specs.declared.store.Store.{Store}
+use Rattle.boundaries.specs.Bound.{Keys, bytes_at, is_below}
+use Rattle.boundaries.specs.Finding.{CanStep, HasHead, IsHeadFor}
+use Rattle.boundaries.specs.Item.{Item, item_of}
+use Rattle.boundaries.specs.Node.{all_heads_of, entries_of}
+use Rattle.boundaries.specs.Path.{IsPartitioned, from_last, items_below}
+use Rattle.boundaries.specs.Position.{CanSearch, IsFirstKnown, IsSearchable}
+use Rattle.boundaries.specs.Subtree.{entries_at, items_in}
+use Rattle.arena.specs.Arena.{header_at}
+
+-- the bounds of a question: right after the begin of its range, and right before the end
+abbrev pub bound_after : Question → KeyBound
+bound_after q = record { key = q.begin; up_to = true }
+
+abbrev pub bound_before : Question → KeyBound
+bound_before q = record { key = q.end; up_to = false }
+
+-- whether an item is below each
+abbrev pub begun : Keys → Question → ℕ → Bool
+begun keys q = is_below keys (bound_after q)
+
+abbrev pub before_end : Keys → Question → ℕ → Bool
+before_end keys q = is_below keys (bound_before q)
+
+-- the question for a query
+pub record AsksFor (query : Range × ℤ) (q : Question) : Type 0 where
+  pub begin : q.begin.now ≡ query.0.begin
+  pub end : q.end.now ≡ query.0.end
+  pub version : q.version ≡ query.1
 
 -- a subtree that a question can be asked of: both bounds go through its items, and some are below the first one
-pub record IsAsked {N : ℕ} (nodes : Arena (Node N)) (least height slot : ℕ) (bytes : KeyBytes) (p q : ℕ → Bool) : Type 0 where
-  pub can_reach : CanReach bytes p nodes least height slot
-  pub to : IsPartitioned (λ x. q x.key) (items_in nodes height slot)
-  pub some_below : items_below p (items_in nodes height slot) ≢ []
+pub record IsAsked (store : Store) (height slot : ℕ) (q : Question) : Type 0 where
+  pub searchable : IsSearchable store (bound_after q) height slot
+  pub to : IsPartitioned (λ x. before_end store.keys q x.key) (items_in store.nodes height slot)
+  pub some_below : items_below (begun store.keys q) (items_in store.nodes height slot) ≢ []
 
--- A version of the items before the second bound, of those before the first one the last alone, is above this one.
-abbrev pub Exceeds : (ℕ → Bool) → (ℕ → Bool) → ℤ → List Item → Type 0
-Exceeds p q v items = Any (λ x. v <ℤ x.version) (from_last p (Some q) items)
+-- A version of the items before the end, of those not after the begin the last alone, is above the question's.
+abbrev pub Exceeds : Keys → Question → List Item → Type 0
+Exceeds keys q items = Any (λ x. q.version <ℤ x.version) (from_last (begun keys q) (Some (before_end keys q)) items)
 
--- The answer for some items, if there is one: whether they exceed a version. It holds whatever items come before and after them.
--- If `clear` holds, no later item comes before the second bound.
-abbrev pub IsAnswer : (ℕ → Bool) → (ℕ → Bool) → ℤ → Bool → List Item → Option Bool → Type 0
-IsAnswer p q v clear items result =
-    (before after : List Item) → (IsTrue clear → All (λ x. q x.key ≡ false) after)
-    → IsPartitioned (λ x. p x.key) (before ++ (items ++ after)) → IsPartitioned (λ x. q x.key) (before ++ (items ++ after))
-    → IfSome result (λ answered. IsTrue answered ↔ Exceeds p q v (before ++ (items ++ after)))
+-- The answer for some items, if there is one: whether they exceed a version. It holds whatever items come before and after them, if
+-- of those after them none comes before the end, where the rest is clear.
+abbrev pub IsAnswer : Keys → Question → Rest → List Item → Option Bool → Type 0
+IsAnswer keys q r items result =
+    (before after : List Item) → (r ≡ rest.Clear → All (λ x. before_end keys q x.key ≡ false) after)
+    → IsPartitioned (λ x. begun keys q x.key) (before ++ (items ++ after))
+    → IsPartitioned (λ x. before_end keys q x.key) (before ++ (items ++ after))
+    → IfSome result (λ answered. IsTrue answered ↔ Exceeds keys q (before ++ (items ++ after)))
 
--- a leaf that has entries, with what is known of its first key
-pub record IsLeafHint {N : ℕ} (nodes : Arena (Node N)) (bytes : KeyBytes) (p : ℕ → Bool) (target : List ℕ) (hint : LeafHint) : Type 0 where
-  pub live : IsLive nodes hint.leaf
-  pub some : 1 ≤ length (entries_at nodes hint.leaf)
-  pub known : IsCommonPrefixAt bytes p target (Some hint.common_prefix_len) (entries_at nodes hint.leaf) 0
+-- what is known of the items from an entry of a node on
+abbrev pub IsRestAt : Store → Node → ℕ → Question → Rest → Type 0
+IsRestAt store node index q r = r ≡ rest.Clear → All (λ e. before_end store.keys q e.key ≡ false) (drop index (entries_of node))
+
+-- a node that was searched by the begin of a question, whose head is this
+pub record IsSearched (store : Store) (node : Node) (q : Question) (known : ℕ) (head : Option ℕ) : Type 0 where
+  pub can_step : CanStep store.keys (bound_after q) node known
+  pub head : HasHead store.keys (bound_after q) head node
+
+-- a subtree that has entries, with what is known of its first key
+pub record IsHint (store : Store) (q : Question) (hint : Hint) : Type 0 where
+  pub live : IsLive store.nodes hint.slot
+  pub some : 1 ≤ length (entries_at store.nodes hint.slot)
+  pub known : IsFirstKnown store (bound_after q) hint.slot hint.common_prefix_len
 
 -- A leaf of a subtree, whose items are partitioned twice. The answer for them is the answer for the subtree's.
-pub record IsFor {N : ℕ} (nodes : Arena (Node N)) (height slot : ℕ) (bytes : KeyBytes) (p q : ℕ → Bool) (target : List ℕ)
-    (v : ℤ) (clear : Bool) (hint : LeafHint) : Type 0 where
-  pub hint_is : IsLeafHint nodes bytes p target hint
-  pub from : IsPartitioned (λ x. p x.key) (items_in nodes 0 hint.leaf)
-  pub to : IsPartitioned (λ x. q x.key) (items_in nodes 0 hint.leaf)
-  pub some_below : items_below p (items_in nodes 0 hint.leaf) ≢ []
-  pub describes : (result : Option Bool) → IsAnswer p q v hint.clear (items_in nodes 0 hint.leaf) result
-      → IsAnswer p q v clear (items_in nodes height slot) result
+pub record IsFor (store : Store) (height slot : ℕ) (r : Rest) (q : Question) (hint : Hint) : Type 0 where
+  pub hint_is : IsHint store q hint
+  pub asked : IsAsked store 0 hint.slot q
+  pub describes : (result : Option Bool) → IsAnswer store.keys q hint.rest (items_in store.nodes 0 hint.slot) result
+      → IsAnswer store.keys q r (items_in store.nodes height slot) result
 
 -- where a question leads from a subtree on
-abbrev pub IsApproach : {N : ℕ} → Arena (Node N) → ℕ → ℕ → KeyBytes → (ℕ → Bool) → (ℕ → Bool) → List ℕ → ℤ → Bool → Approach
-    → Type 0
-IsApproach nodes height slot bytes p q target v clear (Leaf hint) = IsFor nodes height slot bytes p q target v clear hint
-IsApproach nodes height slot bytes p q target v clear Clear = IsAnswer p q v clear (items_in nodes height slot) (Some false)
-IsApproach nodes height slot bytes p q target v clear Open = Unit {0}
+abbrev pub IsApproach : Store → ℕ → ℕ → Rest → Question → Approach → Type 0
+IsApproach store height slot r q (Leaf hint) = IsFor store height slot r q hint
+IsApproach store height slot r q Clear = IsAnswer store.keys q r (items_in store.nodes height slot) (Some false)
+IsApproach store height slot r q Open = Unit {0}
 
 -- that it leads to such a leaf, if it does to one
-abbrev pub IsLeading : {N : ℕ} → Arena (Node N) → KeyBytes → (ℕ → Bool) → List ℕ → Approach → Type 0
-IsLeading nodes bytes p target (Leaf hint) = IsLeafHint nodes bytes p target hint
-IsLeading nodes bytes p target Clear = Unit {0}
-IsLeading nodes bytes p target Open = Unit {0}
+abbrev pub IsLeading : Store → Question → Approach → Type 0
+IsLeading store q (Leaf hint) = IsHint store q hint
+IsLeading store q Clear = Unit {0}
+IsLeading store q Open = Unit {0}
 
--- what the first look gives at the leaf to which a question leads
-abbrev pub IsLooked : {N : ℕ} → Arena (Node N) → KeyBytes → List ℕ → Approach → Option ℕ → Type 0
-IsLooked nodes bytes target (Leaf hint) from_head =
-    IfSome (all_heads_of nodes hint.leaf) (IsHeadFor bytes target hint.common_prefix_len from_head)
-IsLooked nodes bytes target Clear from_head = Unit {0}
-IsLooked nodes bytes target Open from_head = Unit {0}
+-- the head of a question's begin at the leaf to which it leads
+abbrev pub IsLookedAt : Store → Question → Approach → Option ℕ → Type 0
+IsLookedAt store q (Leaf hint) head =
+    IfSome (header_at store.nodes hint.slot) (λ node. IsHeadFor store.keys (bound_after q) node hint.common_prefix_len head)
+IsLookedAt store q Clear head = Unit {0}
+IsLookedAt store q Open head = Unit {0}
+
+-- what the first look gives there
+abbrev pub IsLooked : Store → Question → Look → Type 0
+IsLooked store q look = IsLookedAt store q look.approach look.head

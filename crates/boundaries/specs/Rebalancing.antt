@@ -1,120 +1,114 @@
 -- What must hold where nodes are changed, and the ones above them made right. This project's own.
-use Rattle.std.specs.Prelude.{◌≡◌, ◌≢◌, ◌≤◌, ◌<◌, ◌+◌, ◌*◌, ◌-◌, ◌∷◌, ℕ, List, [], length, nat_eq, Bool, Option, Some, IfSome, IsTrue}
+use Rattle.std.specs.Prelude.{◌≡◌, ◌≢◌, ◌≤◌, ◌<◌, ◌+◌, ◌∷◌, ℕ, suc, List, [], length, nat_eq, Option, Some, IfSome}
 use Rattle.std.specs.List.{All, IsDistinct}
 use Rattle.std.specs.FinMap as map_of
-use Rattle.arena.specs.Arena.{Arena, IsLive, spare_of}
-use Rattle.tree.specs.declared.entry.NodeEntry.{NodeEntry}
-use Rattle.tree.specs.declared.node.Node.{Node}
-use Rattle.tree.specs.Heads.{AllAreHeads, AreHeads, AreHeadsBeside, IsKnown, KeyBytes}
-use Rattle.tree.specs.Node.{all_heads_of, entries_of, key_heads_of, keys_of}
-use Rattle.tree.specs.Children.{child_at, slot_taken, slots_with, Changes, IsFamilyAt, IsKeyless}
-use Rattle.tree.specs.Splice.{AreHalfFull}
-use Rattle.tree.specs.Subtree.{entries_at, slots_in, IsSubtree}
-use Rattle.tree.specs.Tree.{least_of}
+use Rattle.arena.specs.Arena.{Arena, IsLive, header_at, key_at, spare_of}
+use Rattle.boundaries.specs.declared.entry.NodeEntry.{NodeEntry}
+use Rattle.boundaries.specs.declared.node.Node.{Node}
+use Rattle.boundaries.specs.declared.node.TheConstants.{FAN_OUT, HALF_FULL}
+use Rattle.boundaries.specs.declared.node.splice.Splice.{Splice}
+use Rattle.boundaries.specs.declared.store.Store.{Store}
+use Rattle.boundaries.specs.Bound.{Keys}
+use Rattle.boundaries.specs.Children.{child_at, slot_taken, slots_with, Changes, IsFamilyAt, IsKeyless}
+use Rattle.boundaries.specs.Heads.{AllAreHeads, AreHeads, KeyBytes}
+use Rattle.boundaries.specs.Node.{all_heads_of, entries_of, key_heads_of}
+use Rattle.boundaries.specs.Splice.{AreHalfFull, CanSplice}
+use Rattle.boundaries.specs.Store.{AreHeaded}
+use Rattle.boundaries.specs.Subtree.{entries_at, slots_in, IsSubtree}
 
-module _ {N : ℕ} where
-  -- The node at a slot, which is too full for the entries that replace those from one index up to another, and so is split. It may be
-  -- known that their keys begin as all others do, with their heads.
-  pub record CanSplit (bytes : KeyBytes) (nodes : Arena (Node N)) (slot from to : ℕ) (new : List NodeEntry) (heads : List ℕ)
-      (have_prefix : Bool) : Type 0 where
-    pub fan_out : 4 ≤ N
-    pub live : IsLive nodes slot
-    pub keyless : IsKeyless nodes
-    pub room : 0 < spare_of nodes 0
-    pub ordered : from ≤ to
-    pub within : to ≤ length (entries_at nodes slot)
-    pub few_new : 2 * length new ≤ N
-    pub many : N < from + length new + (length (entries_at nodes slot) - to)
-    pub headed : AllAreHeads bytes (all_heads_of nodes)
-    pub known : All (IsKnown bytes) (keys_of new)
-    pub same_len : length heads ≡ length new
-    pub beside : IsTrue have_prefix → IfSome (all_heads_of nodes slot) (λ own. AreHeadsBeside bytes own (keys_of new) heads)
+-- a store whose nodes may be changed
+pub record IsSound (store : Store) : Type 0 where
+  pub keyless : IsKeyless store.nodes
+  pub headed : AreHeaded store
 
-  -- A node is stored at a slot, and its right neighbour, if any, at one that was spare.
-  pub record IsStored (bytes : KeyBytes) (old new : Arena (Node N)) (slot : ℕ) (added : Option ℕ) : Type 0 where
-    pub live : IsLive new slot
-    pub live_added : IfSome added (λ s. IsLive new s)
-    pub changes : Changes old new (slot ∷ []) (slot ∷ slot_taken added)
-    pub taken : spare_of old 0 ≤ spare_of new 0 + 1
-    pub filled : IfSome added (λ s. AreHalfFull N (entries_at new slot) (entries_at new s))
-    pub headed : AllAreHeads bytes (all_heads_of new)
+-- The node at a slot, of which entries may be replaced. There is room for a second node.
+pub record CanSpliceAt (store : Store) (slot : ℕ) (splice : Splice) : Type 0 where
+  pub sound : IsSound store
+  pub live : IsLive store.nodes slot
+  pub room : 0 < spare_of store.nodes 0
+  pub splices : IfSome (header_at store.nodes slot) (λ node. CanSplice store.keys node splice)
 
-  -- A node is placed at a slot that was spare, with what it knows of keys.
-  pub record IsPlaced (old new : Arena (Node N)) (node : Node N) (slot : ℕ) : Type 0 where
-    pub entries : entries_at new slot ≡ entries_of node
-    pub live : IsLive new slot
-    pub changes : Changes old new [] (slot ∷ [])
-    pub headed : (bytes : KeyBytes) → AreHeads bytes (key_heads_of node) → AllAreHeads bytes (all_heads_of old)
-        → AllAreHeads bytes (all_heads_of new)
+-- The keys and what is removed stay as they are.
+pub record KeepsKeys (old new : Store) : Type 0 where
+  pub keys : new.keys ≡ old.keys
+  pub removed : new.removed ≡ old.removed
 
-  -- The node at a slot, of which the child at an index was split from the one that is added.
-  pub record CanInsertChild (bytes : KeyBytes) (nodes : Arena (Node N)) (slot index added : ℕ) : Type 0 where
-    pub fan_out : 4 ≤ N
-    pub live : IsLive nodes slot
-    pub within : index < length (entries_at nodes slot)
-    pub some : 0 < length (entries_at nodes (child_at (entries_at nodes slot) index))
-    pub some_added : 0 < length (entries_at nodes added)
-    pub keyless : IsKeyless nodes
-    pub room : 0 < spare_of nodes 0
-    pub headed : AllAreHeads bytes (all_heads_of nodes)
+-- A node is stored at a slot, and its right neighbour, if any, at one that was spare.
+pub record IsStored (old new : Store) (slot : ℕ) (added : Option ℕ) : Type 0 where
+  pub live : IsLive new.nodes slot
+  pub live_added : IfSome added (λ s. IsLive new.nodes s)
+  pub changes : Changes old.nodes new.nodes (slot ∷ []) (slot ∷ slot_taken added)
+  pub taken : spare_of old.nodes 0 ≤ spare_of new.nodes 0 + 1
+  pub filled : IfSome added (λ s. AreHalfFull (entries_at new.nodes slot) (entries_at new.nodes s))
+  pub headed : AreHeaded new
 
-  -- the node at a slot, of which the child at an index has changed
-  pub record CanRebalance (bytes : KeyBytes) (nodes : Arena (Node N)) (slot index : ℕ) : Type 0 where
-    pub fan_out : 4 ≤ N
-    pub live : IsLive nodes slot
-    pub within : index < length (entries_at nodes slot)
-    pub several : 2 ≤ length (entries_at nodes slot)
-    pub keyless : IsKeyless nodes
-    pub family : (height : ℕ) × IsFamilyAt nodes (least_of N) height slot index (index + 1)
-    pub headed : AllAreHeads bytes (all_heads_of nodes)
+-- A node is placed at a slot that was spare, with what it knows of keys.
+pub record IsPlaced (old new : Arena Node) (node : Node) (slot : ℕ) : Type 0 where
+  pub entries : entries_at new slot ≡ entries_of node
+  pub live : IsLive new slot
+  pub changes : Changes old new [] (slot ∷ [])
+  pub headed : (bytes : KeyBytes) → AreHeads bytes (key_heads_of node) → AllAreHeads bytes (all_heads_of old)
+      → AllAreHeads bytes (all_heads_of new)
 
-  -- the same if that child has enough entries
-  pub record CanRaise (bytes : KeyBytes) (nodes : Arena (Node N)) (slot index : ℕ) : Type 0 where
-    pub rebalance : CanRebalance bytes nodes slot index
-    pub filled : least_of N ≤ length (entries_at nodes (child_at (entries_at nodes slot) index))
+-- The node at a slot, of which the child at an index was split from the one that is added.
+pub record CanInsertChild (store : Store) (slot index added : ℕ) : Type 0 where
+  pub sound : IsSound store
+  pub live : IsLive store.nodes slot
+  pub within : index < length (entries_at store.nodes slot)
+  pub some : 0 < length (entries_at store.nodes (child_at (entries_at store.nodes slot) index))
+  pub some_added : 0 < length (entries_at store.nodes added)
+  pub room : 0 < spare_of store.nodes 0
 
-  -- the node at a slot, of which the child at an index and the next one are merged, or share their entries evenly
-  pub record CanMerge (bytes : KeyBytes) (nodes : Arena (Node N)) (slot index : ℕ) : Type 0 where
-    pub fan_out : 4 ≤ N
-    pub live : IsLive nodes slot
-    pub within : index + 1 < length (entries_at nodes slot)
-    pub filled : least_of N ≤ length (entries_at nodes (child_at (entries_at nodes slot) index))
-        + length (entries_at nodes (child_at (entries_at nodes slot) (index + 1)))
-    pub keyless : IsKeyless nodes
-    pub family : (height : ℕ) × IsFamilyAt nodes (least_of N) height slot index (index + 2)
-    pub headed : AllAreHeads bytes (all_heads_of nodes)
+-- the node at a slot, of which the child at an index has changed
+pub record CanRebalance (store : Store) (slot index : ℕ) : Type 0 where
+  pub sound : IsSound store
+  pub live : IsLive store.nodes slot
+  pub within : index < length (entries_at store.nodes slot)
+  pub several : 2 ≤ length (entries_at store.nodes slot)
+  pub family : (height : ℕ) × IsFamilyAt store.nodes HALF_FULL height slot index (index + 1)
 
-  -- the nodes of two slots
-  pub record AreTwo (bytes : KeyBytes) (nodes : Arena (Node N)) (first second : ℕ) : Type 0 where
-    pub live_first : IsLive nodes first
-    pub live_second : IsLive nodes second
-    pub apart : first ≢ second
-    pub keyless : IsKeyless nodes
-    pub headed : AllAreHeads bytes (all_heads_of nodes)
+-- the same if that child has enough entries
+pub record CanRaise (store : Store) (slot index : ℕ) : Type 0 where
+  pub rebalance : CanRebalance store slot index
+  pub filled : HALF_FULL ≤ length (entries_at store.nodes (child_at (entries_at store.nodes slot) index))
 
-  -- The entries of a node that was made right: there is one less at most. No spare slot was taken.
-  pub record LosesOneAtMost (bytes : KeyBytes) (old new : Arena (Node N)) (was now : List NodeEntry) : Type 0 where
-    pub few_less : length was ≤ length now + 1
-    pub spare : spare_of old 0 ≤ spare_of new 0
-    pub headed : AllAreHeads bytes (all_heads_of new)
+-- the node at a slot, of which the child at an index and the next one are merged, or share their entries evenly
+pub record CanMerge (store : Store) (slot index : ℕ) : Type 0 where
+  pub sound : IsSound store
+  pub live : IsLive store.nodes slot
+  pub within : index + 1 < length (entries_at store.nodes slot)
+  pub filled : HALF_FULL ≤ length (entries_at store.nodes (child_at (entries_at store.nodes slot) index))
+      + length (entries_at store.nodes (child_at (entries_at store.nodes slot) (index + 1)))
+  pub family : (height : ℕ) × IsFamilyAt store.nodes HALF_FULL height slot index (index + 2)
 
-  -- a root and the right neighbour that it was split from
-  pub record CanGrow (bytes : KeyBytes) (nodes : Arena (Node N)) (height slot added : ℕ) : Type 0 where
-    pub fan_out : 4 ≤ N
-    pub few : N ≤ 65536
-    pub low : height < 63
-    pub first : IsSubtree nodes (least_of N) height slot
-    pub second : IsSubtree nodes (least_of N) height added
-    pub filled : (least_of N ≤ length (entries_at nodes slot)) × (least_of N ≤ length (entries_at nodes added))
-    pub distinct : IsDistinct nat_eq (slots_with nodes height slot (Some added))
-    pub linked : map_of.len nodes.records ≡ length (slots_with nodes height slot (Some added))
-    pub keyless : IsKeyless nodes
-    pub room : 0 < spare_of nodes 0
-    pub headed : AllAreHeads bytes (all_heads_of nodes)
+-- the nodes of two slots
+pub record AreTwo (store : Store) (first second : ℕ) : Type 0 where
+  pub sound : IsSound store
+  pub live_first : IsLive store.nodes first
+  pub live_second : IsLive store.nodes second
+  pub apart : first ≢ second
 
-  -- a root that may have a single child
-  pub record CanShrink (nodes : Arena (Node N)) (height slot : ℕ) : Type 0 where
-    pub subtree : IsSubtree nodes (least_of N) height slot
-    pub distinct : IsDistinct nat_eq (slots_in nodes height slot)
-    pub linked : map_of.len nodes.records ≡ length (slots_in nodes height slot)
-    pub keyless : IsKeyless nodes
+-- A node that was made right: it has one entry less at most. No spare slot was taken.
+pub record LosesOneAtMost (old new : Store) (slot : ℕ) : Type 0 where
+  pub few_less : length (entries_at old.nodes slot) ≤ length (entries_at new.nodes slot) + 1
+  pub spare : spare_of old.nodes 0 ≤ spare_of new.nodes 0
+  pub headed : AreHeaded new
+  pub keeps : KeepsKeys old new
+
+-- a root and the right neighbour that it was split from
+pub record CanGrow (store : Store) (height slot added : ℕ) : Type 0 where
+  pub sound : IsSound store
+  pub low : height < 63
+  pub first : IsSubtree store.nodes HALF_FULL height slot
+  pub second : IsSubtree store.nodes HALF_FULL height added
+  pub filled : AreHalfFull (entries_at store.nodes slot) (entries_at store.nodes added)
+  pub distinct : IsDistinct nat_eq (slots_with store.nodes height slot (Some added))
+  pub linked : map_of.len store.nodes.records ≡ length (slots_with store.nodes height slot (Some added))
+  pub room : 0 < spare_of store.nodes 0
+
+-- a root that may have a single child
+pub record CanShrink (store : Store) (height slot : ℕ) : Type 0 where
+  pub sound : IsSound store
+  pub subtree : IsSubtree store.nodes HALF_FULL height slot
+  pub distinct : IsDistinct nat_eq (slots_in store.nodes height slot)
+  pub linked : map_of.len store.nodes.records ≡ length (slots_in store.nodes height slot)

@@ -1,12 +1,12 @@
 //! The way of a question: down a tree to the leaf that answers it, or to a subtree that decides the
 //! answer.
 
-ghost use Rattle.std.specs.Prelude.{◌≡◌, ◌<◌, ◌+◌, ◌-◌, length};
+ghost use Rattle.std.specs.Prelude.{◌<◌, length};
 ghost use Rattle.boundaries.specs.Finding.{HasHead};
-ghost use Rattle.boundaries.specs.Node.{entries_of};
-ghost use Rattle.boundaries.specs.Path.{index_in};
-ghost use Rattle.boundaries.specs.Question.{bound_before, IsApproach, IsAsked, IsHint};
-ghost use Rattle.boundaries.specs.Question.{IsRestAt};
+ghost use Rattle.boundaries.specs.Node.{IsHeaded, entries_of};
+ghost use Rattle.boundaries.specs.Path.{IsPartitioned};
+ghost use Rattle.boundaries.specs.Question.{before_end, bound_before, IsApproach, IsAsked};
+ghost use Rattle.boundaries.specs.Question.{IsHint, IsRestAt};
 
 use crate::node::Node;
 use crate::question::Question;
@@ -108,6 +108,8 @@ fn rest_at(
     head: Option<u32>,
 ) -> Rest
     requires headed { IsHeaded store.now.keys node.now }
+    requires to { IsPartitioned (λ e. before_end store.now.keys question.now e.key)
+        (entries_of node.now) }
     requires within { index < length (entries_of node.now) }
     requires head { HasHead store.now.keys (bound_before question.now) head node.now }
     ensures rest { IsRestAt store.now node.now index question.now result }

@@ -1,16 +1,16 @@
 //! The boundaries of a step function.
 
-ghost use Rattle.std.specs.Prelude.{◌≡◌, ℕ, ◌+◌, ◌*◌, ◌<◌, ◌≤◌, ◌≤ℤ◌, ◌↔◌, List, [], ◌∷◌, length};
-ghost use Rattle.std.specs.Prelude.{slice_get, IsTrue, IfOk, IfSome, IsSomeAnd, None, OnOk};
-ghost use Rattle.std.specs.Prelude.{IsOkUnless, unwrap_or};
+ghost use Rattle.std.specs.Prelude.{◌≡◌, ℕ, ◌+◌, ◌*◌, ◌≤◌, ◌≤ℤ◌, ◌↔◌, List, [], ◌∷◌, length, None};
+ghost use Rattle.std.specs.Prelude.{slice_get, IsTrue, IfOk, IfSome, IsSomeAnd, OnOk, IsOkUnless};
 ghost use Rattle.std.specs.List.{All, AllZip};
 ghost use Rattle.arena.specs.Arena.{wanted_of, HasRoomFor};
 ghost use Rattle.keys.specs.Key.{IsBytes};
 ghost use Rattle.keys.specs.Range.{Holds, IsEmpty};
 ghost use Rattle.boundaries.specs.Boundary.{AreBoundaries, Exceeds, value_at};
-ghost use Rattle.boundaries.specs.Stored.{spare_in, each_length};
-ghost use Rattle.boundaries.specs.Writing.{written, written_to};
+ghost use Rattle.boundaries.specs.Stored.{IsCleared, IsWrittenOver, spare_in, each_length};
+ghost use Rattle.boundaries.specs.Written.{written};
 ghost use Rattle.boundaries.specs.declared.question.TheConstants.{SIDE};
+ghost use Rattle.boundaries.specs.declared.boundary_list.TheConstants.{MAX_BOUNDARIES};
 
 use crate::entry::NodeEntry;
 use crate::greatest_version::greatest;
@@ -201,7 +201,7 @@ impl Boundaries {
         requires keys { HasRoomFor (spare_in self.old)
             (length new.now.start.now ∷ length new.now.end.now ∷ []) }
         requires nodes { length self.old.boundaries + 2 ≤ self.old.room }
-        ensures written { result ≡ None → IsOverwritten new.now self.old self.new }
+        ensures written { result ≡ None → IsWrittenOver new.now self.old self.new }
         ensures cleared { IfSome result (IsCleared new.now self.old self.new) }
         ensures room { self.new.room ≡ self.old.room }
     {

@@ -1,11 +1,8 @@
 //! The way down a tree by what its nodes know of the bytes of keys.
 
-ghost use Rattle.std.specs.Prelude.{◌≡◌, ◌<◌, length};
-ghost use Rattle.boundaries.specs.Bound.{is_below};
-ghost use Rattle.boundaries.specs.Finding.{IsStep};
-ghost use Rattle.boundaries.specs.Path.{after_leaf, first_key, leaf_in};
-ghost use Rattle.boundaries.specs.Position.{CanSearch, IsChildPosition};
-ghost use Rattle.boundaries.specs.Subtree.{entries_at};
+ghost use Rattle.std.specs.Prelude.{◌<◌, length};
+ghost use Rattle.boundaries.specs.Node.{entries_of};
+ghost use Rattle.boundaries.specs.Position.{CanSearch, IsChildPosition, IsFoundLeaf};
 
 use crate::entry::key_at;
 use crate::key_bound::KeyBound;
@@ -40,8 +37,9 @@ impl Position {
 
 /// Finds the leaf that has the last boundary below the bound.
 pub fn find(store: &Store, height: usize, bound: KeyBound<'_>, position: Position) -> Position
-    requires can_search { CanSearch store.now height bound position }
-    ensures found { IsFoundLeaf store.now height bound position result }
+    requires can_search { CanSearch store.now bound height position.slot
+        position.common_prefix_len }
+    ensures found { IsFoundLeaf store.now bound height position result }
 {
     if height == 0 {
         return position;

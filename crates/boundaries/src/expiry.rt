@@ -66,7 +66,7 @@ impl<'a> Expiring<'a> {
 impl<'a> LeafChange for Expiring<'a> {
     ghost bound_of = { λ t. t.bound };
 
-    ghost wants = { λ t items. Unit {0} };
+    ghost wants = { λ t keys items. Unit {0} };
 
     ghost gives = { λ t done. GivesUnexpired t.bound t.count t.edge t.before done.removal };
 
@@ -94,7 +94,7 @@ impl<'a> LeafChange for Expiring<'a> {
         LeafOutcome::Changed
     }
 
-    ghost part = { λ t before items following wanted. wanted };
+    ghost part = { λ t keys before items following wanted. wanted };
 }
 
 // Looks at the entries of a leaf from one index up to another, and returns the result of a removal.

@@ -1,11 +1,12 @@
 //! The greatest version from the last boundary below one bound up to another one. Subtrees that
 //! have none above a version are passed over.
 
-ghost use Rattle.std.specs.Prelude.{◌≡◌, Some};
+ghost use Rattle.std.specs.Prelude.{None, Some};
 ghost use Rattle.boundaries.specs.Bound.{is_below};
-ghost use Rattle.boundaries.specs.Item.{IsMost, version_of};
+ghost use Rattle.boundaries.specs.Greatest.{AreNested, IsSought};
+ghost use Rattle.boundaries.specs.Item.{IsMost, item_version, version_of};
 ghost use Rattle.boundaries.specs.Path.{from_last, items_below};
-ghost use Rattle.boundaries.specs.Position.{CanReach, IsSought};
+ghost use Rattle.boundaries.specs.Position.{CanReach};
 ghost use Rattle.boundaries.specs.Subtree.{items_in};
 
 use crate::entry::NodeEntry;
@@ -33,8 +34,8 @@ pub fn greatest(
 ) -> i64
     requires from { CanReach store.now from root.height root.slot }
     requires to { CanReach store.now to root.height root.slot }
-    requires nested { AreNested from to }
-    ensures most { IsMost least (from_last (is_below store.now.keys from)
+    requires nested { AreNested store.now.keys from to }
+    ensures most { IsMost item_version least (from_last (is_below store.now.keys from)
         (Some (is_below store.now.keys to)) (items_in store.now.nodes root.height root.slot))
         result }
 {
@@ -61,8 +62,8 @@ fn greatest_between(
 ) -> i64
     requires from { IsSought store.now from height slot }
     requires to { IsSought store.now to height slot }
-    requires nested { AreNested from.bound to.bound }
-    ensures most { IsMost least (from_last (is_below store.now.keys from.bound)
+    requires nested { AreNested store.now.keys from.bound to.bound }
+    ensures most { IsMost item_version least (from_last (is_below store.now.keys from.bound)
         (Some (is_below store.now.keys to.bound)) (items_in store.now.nodes height slot)) result }
 {
     let node = store.nodes.header_ref(slot);
@@ -107,7 +108,7 @@ fn greatest_from(
     least: i64,
 ) -> i64
     requires from { IsSought store.now from height slot }
-    ensures most { IsMost least (from_last (is_below store.now.keys from.bound) None
+    ensures most { IsMost item_version least (from_last (is_below store.now.keys from.bound) None
         (items_in store.now.nodes height slot)) result }
 {
     let node = store.nodes.header_ref(slot);
@@ -131,7 +132,7 @@ fn greatest_from(
 // Returns the greatest of this version and those of a subtree's boundaries below the bound.
 fn greatest_to(store: &Store, slot: Slot, height: usize, to: Sought<'_>, least: i64) -> i64
     requires to { IsSought store.now to height slot }
-    ensures most { IsMost least (items_below (is_below store.now.keys to.bound)
+    ensures most { IsMost item_version least (items_below (is_below store.now.keys to.bound)
         (items_in store.now.nodes height slot)) result }
 {
     let node = store.nodes.header_ref(slot);
@@ -154,7 +155,7 @@ fn greatest_to(store: &Store, slot: Slot, height: usize, to: Sought<'_>, least: 
 
 // Returns the greatest of this version and those of the entries.
 fn greatest_of(entries: &[NodeEntry], least: i64) -> i64
-    ensures most { IsMost least entries.now result }
+    ensures most { IsMost version_of least entries.now result }
 {
     let mut most = least;
     for entry in entries {

@@ -1,9 +1,9 @@
 //! Bounds in the order of keys: what is sought among boundaries.
 
-ghost use Rattle.std.specs.Prelude.{◌≡◌, ◌/◌, true, false, take};
+ghost use Rattle.std.specs.Prelude.{◌≡◌, ◌/◌, ◌↔◌, true, false, take, IsTrue};
 ghost use Rattle.keys.specs.Key.{IsBytes};
 ghost use Rattle.boundaries.specs.Bound.{bytes_at, is_below};
-ghost use Rattle.boundaries.specs.Heads.{AreCommon, EndsCommon, head_after};
+ghost use Rattle.boundaries.specs.Heads.{IsCommonPrefixLen, head_after};
 
 use arena::{Arena, Slot};
 use keys::{common_prefix_len, head_after};
@@ -24,16 +24,14 @@ pub struct KeyBound<'a> {
 impl<'a> KeyBound<'a> {
     /// Returns the bound right after a key.
     pub fn after(key: &'a [u8]) -> Self
-        ensures key { result.key.now ≡ key.now }
-        ensures up_to { result.up_to ≡ true }
+        ensures bound { result ≡ record { key = key; up_to = true } }
     {
         KeyBound { key, up_to: true }
     }
 
     /// Returns the bound right before a key.
     pub fn before(key: &'a [u8]) -> Self
-        ensures key { result.key.now ≡ key.now }
-        ensures up_to { result.up_to ≡ false }
+        ensures bound { result ≡ record { key = key; up_to = false } }
     {
         KeyBound { key, up_to: false }
     }
@@ -63,7 +61,7 @@ impl<'a> KeyBound<'a> {
     /// Returns the length of the common prefix of the bound's key and that of a slot.
     #[inline(always)]
     pub fn common_prefix_len(self, keys: &Keys, slot: Slot) -> usize
-        ensures common { AreCommon result (bytes_at keys.now slot) self.key.now }
+        ensures common { IsCommonPrefixLen result (bytes_at keys.now slot) self.key.now }
     {
         common_prefix_len(bytes_of(keys, slot), self.key)
     }
@@ -71,7 +69,8 @@ impl<'a> KeyBound<'a> {
     /// Returns whether the bound's key and that of a slot agree on the first n bytes.
     #[inline(always)]
     pub fn begins_as(self, keys: &Keys, slot: Slot, count: usize) -> bool
-        ensures same { EndsCommon result count (bytes_at keys.now slot) self.key.now }
+        ensures same { IsTrue result
+            ↔ (take count (bytes_at keys.now slot) ≡ take count self.key.now) }
     {
         first(bytes_of(keys, slot), count) == first(self.key, count)
     }

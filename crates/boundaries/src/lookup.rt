@@ -9,7 +9,8 @@ ghost use Rattle.keys.specs.Range.{IsEmpty};
 ghost use Rattle.boundaries.specs.Bound.{is_below};
 ghost use Rattle.boundaries.specs.Finding.{CanFind, IsLowerBound};
 ghost use Rattle.boundaries.specs.Question.{bound_after, bound_before, AsksFor, Exceeds, IsAnswer};
-ghost use Rattle.boundaries.specs.Question.{IsApproach, IsAsked, IsHint, IsLooked, IsSearched};
+ghost use Rattle.boundaries.specs.Question.{IsApproach, IsAsked, IsHint, IsLeading, IsLooked};
+ghost use Rattle.boundaries.specs.Question.{IsLookedAt, IsSearched};
 ghost use Rattle.boundaries.specs.Subtree.{items_in};
 ghost use Rattle.boundaries.specs.declared.question.TheConstants.{SIDE};
 
@@ -155,8 +156,7 @@ fn leaf_answer(
 ) -> Option<bool>
     requires asked { IsAsked store.now 0 hint.slot question.now }
     requires hint { IsHint store.now question.now hint }
-    requires head { IsLooked store.now question.now
-        (record { approach = Approach.Leaf hint; head = head }) }
+    requires head { IsLookedAt store.now question.now (Approach.Leaf hint) head }
     ensures answered { IsAnswer store.now.keys question.now hint.rest
         (items_in store.now.nodes 0 hint.slot) result }
 {

@@ -1,11 +1,16 @@
 //! A version is written on a range: the boundaries there are replaced by one or two.
 
-ghost use Rattle.std.specs.Prelude.{◌≡◌, ◌<◌, ◌≤◌, true, false, take};
+ghost use Rattle.std.specs.Prelude.{◌≡◌, ◌<◌, ◌↔◌, [], length, take, slice_get, None, Some};
+ghost use Rattle.std.specs.Prelude.{IsTrue};
+ghost use Rattle.arena.specs.Arena.{IsLive};
 ghost use Rattle.keys.specs.Key.{IsBefore};
 ghost use Rattle.keys.specs.Range.{IsEmpty};
+ghost use Rattle.boundaries.specs.Bound.{bytes_at};
 ghost use Rattle.boundaries.specs.EntryRun.{CanClearRun, IsRunCleared};
-ghost use Rattle.boundaries.specs.Overwrite.{GivesWritten, IsPartOfPartitioned, part_of_part};
-ghost use Rattle.boundaries.specs.Overwrite.{bound_from, bound_to};
+ghost use Rattle.boundaries.specs.Overwrite.{CanBeWritten, GivesWritten, part_of_part};
+ghost use Rattle.boundaries.specs.Overwrite.{before_start, bound_from, bound_past, bound_to};
+ghost use Rattle.boundaries.specs.Subtree.{entries_at};
+ghost use Rattle.boundaries.specs.declared.entry.NodeEntry.{NodeEntry};
 
 use crate::descent::Position;
 use crate::key_bound::{KeyBound, bytes_of};
@@ -56,24 +61,21 @@ impl<'a> Overwrite<'a> {
 
     /// Returns the bound right before the start.
     pub fn from(&self) -> KeyBound<'a>
-        ensures key { result.key.now ≡ self.now.start.now }
-        ensures up_to { result.up_to ≡ false }
+        ensures bound { result ≡ bound_from self.now }
     {
         KeyBound::before(self.start)
     }
 
     /// Returns the bound right before the end.
     pub fn to(&self) -> KeyBound<'a>
-        ensures key { result.key.now ≡ self.now.end.now }
-        ensures up_to { result.up_to ≡ false }
+        ensures bound { result ≡ bound_to self.now }
     {
         KeyBound::before(self.end)
     }
 
     /// Returns the bound right after the end.
     pub fn past(&self) -> KeyBound<'a>
-        ensures key { result.key.now ≡ self.now.end.now }
-        ensures up_to { result.up_to ≡ true }
+        ensures bound { result ≡ bound_past self.now }
     {
         KeyBound::after(self.end)
     }
@@ -91,7 +93,7 @@ pub struct Overwriting<'a, 'b> {
 impl<'a, 'b> LeafChange for Overwriting<'a, 'b> {
     ghost bound_of = { λ o. bound_to o.new.now };
 
-    ghost wants = { λ o items. Unit {0} };
+    ghost wants = { λ o. CanBeWritten o.new.now };
 
     ghost gives = { λ o done. GivesWritten o.new.now done.at_end };
 
@@ -126,11 +128,19 @@ impl<'a, 'b> LeafChange for Overwriting<'a, 'b> {
         })
     }
 
-    ghost part = { λ o before items following wanted. wanted };
+    ghost part = { λ o keys before items following wanted. record {
+      part = part_of_part (before_start keys o.new.now) before items following wanted.part;
+      room = wanted.room;
+    } };
 }
 
 // Returns whether a leaf has the first boundary of all: that at the empty key.
-fn has_first(store: &Store, slot: Slot) -> bool {
+fn has_first(store: &Store, slot: Slot) -> bool
+    requires live { IsLive store.now.nodes slot }
+    requires some { 0 < length (entries_at store.now.nodes slot) }
+    ensures first { (e : NodeEntry) → slice_get (entries_at store.now.nodes slot) 0 ≡ Some e
+        → IsTrue result ↔ (bytes_at store.now.keys e.key ≡ []) }
+{
     let entries = store.nodes.header_ref(slot).entries();
     bytes_of(&store.keys, entries[0].key).is_empty()
 }

@@ -4,6 +4,7 @@ ghost use Rattle.std.specs.Prelude.{◌≡◌, ◌∷◌, ◌++◌, [], true, fa
 ghost use Rattle.keys.specs.Hash.{IsHashOf};
 ghost use Rattle.keys.specs.Key.{IsBefore};
 ghost use Rattle.keys.specs.Range.{IsEmpty};
+ghost use Rattle.boundaries.specs.Question.{bound_after, bound_before, AsksFor};
 
 use crate::key_bound::KeyBound;
 use crate::query::RangeQuery;
@@ -36,9 +37,7 @@ impl<'a> Question<'a> {
     pub fn of(query: RangeQuery<'a>) -> Self
         requires filled { ¬ IsEmpty query.range }
         requires hash { IsHashOf query.range query.hash }
-        ensures begin { result.begin.now ≡ query.entry.range.begin }
-        ensures end { result.end.now ≡ query.entry.range.end }
-        ensures version { result.version ≡ query.entry.version }
+        ensures asks { AsksFor (query.entry.range, query.entry.version) result }
     {
         let begin = query.range.begin();
         let end = query.range.end();
@@ -61,16 +60,14 @@ impl<'a> Question<'a> {
     /// Returns the bound right after the begin. The last boundary below it has the version at the
     /// begin.
     pub fn from(&self) -> KeyBound<'a>
-        ensures key { result.key.now ≡ self.now.begin.now }
-        ensures up_to { result.up_to ≡ true }
+        ensures bound { result ≡ bound_after self.now }
     {
         KeyBound::after(self.begin)
     }
 
     /// Returns the bound right before the end.
     pub fn to(&self) -> KeyBound<'a>
-        ensures key { result.key.now ≡ self.now.end.now }
-        ensures up_to { result.up_to ≡ false }
+        ensures bound { result ≡ bound_before self.now }
     {
         KeyBound::before(self.end)
     }

@@ -2,16 +2,17 @@
 //! children are merged or share their entries evenly, where that is due.
 
 ghost use Rattle.std.specs.Prelude.{◌≡◌, ◌≤◌, ◌<◌, ◌+◌, ◌⊎◌, ◌++◌, ◌∷◌, ℕ, [], length, take, drop};
-ghost use Rattle.std.specs.Prelude.{Some};
+ghost use Rattle.std.specs.Prelude.{None};
 ghost use Rattle.boundaries.specs.Children.{Changes, IsFamilyAt, IsLinked, IsRebalancedAt};
 ghost use Rattle.boundaries.specs.Children.{child_at, entries_at_both, DescribesWritten};
 ghost use Rattle.boundaries.specs.Children.{HasRaisedEntry};
 ghost use Rattle.boundaries.specs.Rebalancing.{AreTwo, CanInsertChild, CanMerge, CanRaise};
-ghost use Rattle.boundaries.specs.Rebalancing.{CanRebalance, CanSplit, IsStored, LosesOneAtMost};
+ghost use Rattle.boundaries.specs.Rebalancing.{CanRebalance, CanSpliceAt, IsStored, KeepsKeys};
+ghost use Rattle.boundaries.specs.Rebalancing.{LosesOneAtMost};
 ghost use Rattle.boundaries.specs.Splice.{AreHalfFull, spliced};
 ghost use Rattle.boundaries.specs.Store.{AreHeaded};
 ghost use Rattle.boundaries.specs.Subtree.{entries_at};
-ghost use Rattle.boundaries.specs.declared.node.TheConstants.{FAN_OUT};
+ghost use Rattle.boundaries.specs.declared.node.TheConstants.{FAN_OUT, HALF_FULL};
 
 use crate::entry::NodeEntry;
 use crate::node::{FAN_OUT, HALF_FULL, Splice};
@@ -31,6 +32,7 @@ impl Store {
             (drop (index + 1) (entries_at self.old.nodes slot))
             (entries_at_both self.new.nodes slot result) }
         ensures stored { IsStored self.old self.new slot result }
+        ensures keeps { KeepsKeys self.old self.new }
     {
         let node = self.nodes.header_ref(slot);
         let new = [
@@ -65,6 +67,7 @@ impl Store {
         ensures stored { IsStored self.old self.new slot result }
         ensures fits { length (spliced splice (entries_at self.old.nodes slot)) ≤ FAN_OUT
             → result ≡ None }
+        ensures keeps { KeepsKeys self.old self.new }
     {
         let node = self.nodes.header_mut(slot);
         if splice.from + splice.new.len() <= FAN_OUT - (node.len() - splice.to) {
@@ -80,8 +83,8 @@ impl Store {
     pub fn rebalance_child(&mut self, slot: Slot, index: usize)
         requires can_rebalance { CanRebalance self.old slot index }
         ensures rebalanced { (height : ℕ)
-            → IsFamilyAt self.old.nodes height slot index (index + 1)
-            → IsRebalancedAt self.old.nodes self.new.nodes height slot }
+            → IsFamilyAt self.old.nodes HALF_FULL height slot index (index + 1)
+            → IsRebalancedAt self.old.nodes self.new.nodes HALF_FULL height slot }
         ensures rest { LosesOneAtMost self.old self.new slot }
     {
         let child = self.nodes.header_ref(slot).entries()[index].child;
@@ -99,9 +102,9 @@ impl Store {
     pub fn raise_entry(&mut self, slot: Slot, index: usize, leaf: RaisedLeaf) -> LeafOutcome
         requires can_raise { CanRaise self.old slot index }
         ensures rebalanced { (height : ℕ)
-            → IsFamilyAt self.old.nodes height slot index (index + 1)
+            → IsFamilyAt self.old.nodes HALF_FULL height slot index (index + 1)
             → DescribesWritten self.old.nodes height slot index leaf.version
-            → IsRebalancedAt self.old.nodes self.new.nodes height slot }
+            → IsRebalancedAt self.old.nodes self.new.nodes HALF_FULL height slot }
         ensures rest { LosesOneAtMost self.old self.new slot }
         ensures outcome { (result ≡ LeafOutcome.Changed)
             ⊎ ((result ≡ LeafOutcome.Raised leaf)
@@ -125,8 +128,8 @@ impl Store {
     fn merge_or_redistribute(&mut self, slot: Slot, index: usize)
         requires can_merge { CanMerge self.old slot index }
         ensures rebalanced { (height : ℕ)
-            → IsFamilyAt self.old.nodes height slot index (index + 2)
-            → IsRebalancedAt self.old.nodes self.new.nodes height slot }
+            → IsFamilyAt self.old.nodes HALF_FULL height slot index (index + 2)
+            → IsRebalancedAt self.old.nodes self.new.nodes HALF_FULL height slot }
         ensures rest { LosesOneAtMost self.old self.new slot }
     {
         let entries = self.nodes.header_ref(slot).entries();
@@ -158,6 +161,7 @@ impl Store {
         ensures changes { Changes self.old.nodes self.new.nodes (first ∷ second ∷ [])
             (first ∷ []) }
         ensures headed { AreHeaded self.new }
+        ensures keeps { KeepsKeys self.old self.new }
     {
         let right = self.nodes.header(second);
         let left = self.nodes.header_mut(first);
@@ -177,6 +181,7 @@ impl Store {
         ensures changes { Changes self.old.nodes self.new.nodes (first ∷ second ∷ [])
             (first ∷ second ∷ []) }
         ensures headed { AreHeaded self.new }
+        ensures keeps { KeepsKeys self.old self.new }
     {
         let left = self.nodes.header_ref(first).len();
         if left > half {

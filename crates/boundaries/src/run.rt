@@ -1,8 +1,9 @@
 //! The run of a leaf's entries that is written over, and what comes in its place.
 
-ghost use Rattle.std.specs.Prelude.{◌≡◌, ◌≤◌, ◌+◌, ◌-◌, ◌<◌, length, None};
-ghost use Rattle.boundaries.specs.EntryRun.{CanFindRun, CanWriteRun, IsRun, IsRunWritten};
+ghost use Rattle.std.specs.Prelude.{◌≡◌, ◌≤◌, ◌+◌, ◌-◌, length, None};
+ghost use Rattle.boundaries.specs.EntryRun.{CanFindRun, CanWriteRun, IsRunBefore, IsRunWritten};
 ghost use Rattle.boundaries.specs.Rebalancing.{IsStored};
+ghost use Rattle.boundaries.specs.Store.{KeysStay};
 ghost use Rattle.boundaries.specs.Subtree.{entries_at};
 ghost use Rattle.boundaries.specs.declared.node.TheConstants.{FAN_OUT};
 
@@ -31,7 +32,7 @@ pub struct EntryRun {
 /// Finds the run in the leaf that has the last boundary before the end.
 pub fn find_run(store: &Store, position: Position, new: &Overwrite<'_>) -> EntryRun
     requires can_find { CanFindRun store.now position new.now }
-    ensures run { IsRun store.now position.slot position.following new.now result }
+    ensures run { IsRunBefore store.now position.slot position.following new.now result }
 {
     let keys = &store.keys;
     let leaf = store.nodes.header_ref(position.slot);
@@ -70,6 +71,7 @@ pub fn write_run(
     requires can_write { CanWriteRun store.old slot new.now run }
     ensures written { IsRunWritten store.old store.new slot new.now run result }
     ensures stored { IsStored store.old store.new slot result }
+    ensures keys { KeysStay store.old.keys store.new.keys }
     ensures fits { run.begin + 2 + (length (entries_at store.old.nodes slot) - run.end) ≤ FAN_OUT
         → result ≡ None }
 {

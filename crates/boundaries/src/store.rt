@@ -1,15 +1,16 @@
 //! What boundaries are stored in.
 
-ghost use Rattle.std.specs.Prelude.{◌≡◌, ◌<◌, ◌≤◌, ◌+◌, ℕ, [], ◌++◌, length, nat_eq, None, Some};
+ghost use Rattle.std.specs.Prelude.{◌≡◌, ◌<◌, ◌≤◌, ◌+◌, ◌++◌, ℕ, [], length, nat_eq};
 ghost use Rattle.std.specs.List.{All, Contains, IsDistinct};
 ghost use Rattle.std.specs.FinMap as finite;
-ghost use Rattle.arena.specs.Arena.{IsLive, key_at, record_at, size_of, spare_of};
+ghost use Rattle.arena.specs.Arena.{IsLive, record_at, spare_of};
 ghost use Rattle.boundaries.specs.Children.{IsKeyless};
 ghost use Rattle.boundaries.specs.Heads.{AllAreHeads, IsKnown, KeyBytes};
 ghost use Rattle.boundaries.specs.Item.{Describes};
-ghost use Rattle.boundaries.specs.Node.{all_heads_of};
-ghost use Rattle.boundaries.specs.Rebalancing.{IsPlaced};
+ghost use Rattle.boundaries.specs.Node.{all_heads_of, keys_of};
+ghost use Rattle.boundaries.specs.Rebalancing.{IsPlaced, KeepsKeys};
 ghost use Rattle.boundaries.specs.Subtree.{entries_at, items_in, IsSubtree};
+ghost use Rattle.boundaries.specs.declared.node.TheConstants.{FAN_OUT};
 
 use crate::entry::NodeEntry;
 use crate::key_bound::Keys;
@@ -33,8 +34,7 @@ impl Store {
         requires keyless { IsKeyless self.old.nodes }
         requires room { 0 < spare_of self.old.nodes 0 }
         ensures placed { IsPlaced self.old.nodes self.new.nodes node result }
-        ensures keys { self.new.keys ≡ self.old.keys }
-        ensures removed { self.new.removed ≡ self.old.removed }
+        ensures keeps { KeepsKeys self.old self.new }
     {
         self.nodes.place(node, &[]).unwrap()
     }

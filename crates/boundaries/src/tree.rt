@@ -3,13 +3,12 @@
 ghost use Rattle.std.specs.Prelude.{◌≡◌, map, None, Some};
 ghost use Rattle.boundaries.specs.Bound.{is_below};
 ghost use Rattle.boundaries.specs.Children.{items_with};
-ghost use Rattle.boundaries.specs.Item.{item_of};
-ghost use Rattle.boundaries.specs.Items.{IsLastVersion};
-ghost use Rattle.boundaries.specs.Overwrite.{bound_to, GivesWritten};
+ghost use Rattle.boundaries.specs.Item.{item_version};
+ghost use Rattle.boundaries.specs.Items.{IsLast};
+ghost use Rattle.boundaries.specs.Overwrite.{bound_to, CanOverwrite, GivesWritten};
 ghost use Rattle.boundaries.specs.Path.{first_key, following, items_below};
 ghost use Rattle.boundaries.specs.Position.{CanReach};
-ghost use Rattle.boundaries.specs.Rebalancing.{CanGrow, CanShrink};
-ghost use Rattle.boundaries.specs.Store.{AreHeaded};
+ghost use Rattle.boundaries.specs.Rebalancing.{CanGrow, CanShrink, KeepsKeys};
 ghost use Rattle.boundaries.specs.Subtree.{items_in};
 ghost use Rattle.boundaries.specs.Walk.{CanChangeTree, IsChangedTree, IsNewTree, items_of_tree};
 
@@ -75,8 +74,8 @@ impl Tree {
     /// isn't.
     pub fn version_and_next(&self, bound: KeyBound<'_>) -> (i64, Option<Slot>)
         requires can_reach { CanReach self.now.store bound self.now.root.height self.now.root.slot }
-        ensures last { IsLastVersion result.0 (items_below (is_below self.now.store.keys bound)
-            (items_of_tree self.now)) }
+        ensures last { IsLast result.0 (map item_version
+            (items_below (is_below self.now.store.keys bound) (items_of_tree self.now))) }
         ensures next { result.1 ≡ first_key None (following (is_below self.now.store.keys bound)
             (items_of_tree self.now)) }
     {
@@ -96,7 +95,7 @@ impl Tree {
         ensures changed { IsChangedTree (C.bound_of change.old)
             (C.gives change.old change.new self.old.store self.new.store) self.old self.new }
     {
-        let Root { slot, height } = self.root;
+        let height = self.root.height;
         let start = self.root.position();
         let outcome = change_leaf(&mut self.store, height, start, change, &mut self.path_cache);
         self.raised = None;
@@ -104,12 +103,7 @@ impl Tree {
             LeafOutcome::Same => {}
             LeafOutcome::Raised(leaf) => self.raised = Some(leaf),
             LeafOutcome::Changed => self.root = shrink(&mut self.store, self.root),
-            LeafOutcome::Split(added) => {
-                self.root = Root {
-                    slot: grow(&mut self.store, slot, added),
-                    height: height + 1,
-                }
-            }
+            LeafOutcome::Split(added) => self.root = grow(&mut self.store, self.root, added),
         }
     }
 
@@ -132,14 +126,15 @@ impl Tree {
     }
 }
 
-// Puts a new root over the old one and its right neighbour, and returns its slot.
-fn grow(store: &mut Store, root: Slot, added: Slot) -> Slot
-    requires can_grow { CanGrow store.old height root added }
-    ensures items { items_in store.new.nodes (suc height) result
-        ≡ items_with store.old.nodes height root (Some added) }
-    ensures tree { IsNewTree store.old store.new result (suc height) None }
+// Puts a new root over the old one and its right neighbour.
+fn grow(store: &mut Store, root: Root, added: Slot) -> Root
+    requires can_grow { CanGrow store.old root.height root.slot added }
+    ensures items { items_in store.new.nodes result.height result.slot
+        ≡ items_with store.old.nodes root.height root.slot (Some added) }
+    ensures tree { IsNewTree store.old store.new result.slot result.height None }
+    ensures keeps { KeepsKeys store.old store.new }
 {
-    let mut node = Node::of(store.entry_for(root));
+    let mut node = Node::of(store.entry_for(root.slot));
     let new = Splice {
         from: 1,
         to: 1,
@@ -147,7 +142,10 @@ fn grow(store: &mut Store, root: Slot, added: Slot) -> Slot
         heads: None,
     };
     node.splice(&store.keys, new);
-    store.place(node)
+    Root {
+        slot: store.place(node),
+        height: root.height + 1,
+    }
 }
 
 // Makes the only child of a root the root.
@@ -155,8 +153,8 @@ fn shrink(store: &mut Store, root: Root) -> Root
     requires can_shrink { CanShrink store.old root.height root.slot }
     ensures items { items_in store.new.nodes result.height result.slot
         ≡ items_in store.old.nodes root.height root.slot }
-    ensures tree { AreHeaded store.old
-        → IsNewTree store.old store.new result.slot result.height None }
+    ensures tree { IsNewTree store.old store.new result.slot result.height None }
+    ensures keeps { KeepsKeys store.old store.new }
 {
     let entries = store.nodes.header_ref(root.slot).entries();
     if root.height == 0 || entries.len() > 1 {

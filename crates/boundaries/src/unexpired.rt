@@ -6,6 +6,7 @@ ghost use Rattle.boundaries.specs.Counted.{IsCounted, items_from};
 ghost use Rattle.boundaries.specs.Item.{item_of};
 ghost use Rattle.boundaries.specs.Items.{unexpired};
 ghost use Rattle.boundaries.specs.Subtree.{entries_at, items_in, IsSubtree};
+ghost use Rattle.boundaries.specs.declared.node.TheConstants.{HALF_FULL};
 
 use crate::entry::NodeEntry;
 use crate::store::Store;
@@ -42,7 +43,7 @@ impl Unexpired {
 
 /// Counts the boundaries that a sweep of all of them would leave at this edge. It takes no memory.
 pub fn count_unexpired(store: &Store, root: Root, edge: i64) -> usize
-    requires subtree { IsSubtree store.now.nodes root.height root.slot }
+    requires subtree { IsSubtree store.now.nodes HALF_FULL root.height root.slot }
     requires few { length (items_in store.now.nodes root.height root.slot) < 2 ^ 64 }
     ensures count { result
         ≡ length (unexpired edge edge (items_in store.now.nodes root.height root.slot)) }
@@ -64,7 +65,7 @@ fn count_in(
     edge: i64,
     before: Unexpired,
 ) -> Unexpired
-    requires subtree { IsSubtree store.now.nodes height slot }
+    requires subtree { IsSubtree store.now.nodes HALF_FULL height slot }
     requires within { index ≤ length (entries_at store.now.nodes slot) }
     requires few { before.count + length
         (items_from store.now.nodes height (drop index (entries_at store.now.nodes slot)))

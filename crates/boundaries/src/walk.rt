@@ -1,7 +1,8 @@
 //! How a tree is changed: a walk to a leaf, a change of the leaf where it lies, and the rebalancing
 //! of the nodes above it.
 
-ghost use Rattle.std.specs.Prelude.{◌≡◌, ◌++◌, ℕ, List, Option, map};
+ghost use Rattle.std.specs.Prelude.{◌≡◌, ◌++◌, ℕ, List, Option};
+ghost use Rattle.boundaries.specs.Bound.{Keys, is_below};
 ghost use Rattle.boundaries.specs.Item.{Item};
 ghost use Rattle.boundaries.specs.Children.{items_with};
 ghost use Rattle.boundaries.specs.Subtree.{items_in};
@@ -45,7 +46,7 @@ pub trait LeafChange {
     ghost bound_of: { Self → BoundValue };
 
     // What is wanted of the items of the leaf.
-    ghost wants: { Self → List Item → Type 0 };
+    ghost wants: { Self → Keys → List Item → Type 0 };
 
     // What the change makes of them: itself and the store before and after, the key of the first
     // item after them, the items before, and the items now.
@@ -71,9 +72,9 @@ pub trait LeafChange {
         ensures bound { bound_of self.new ≡ bound_of self.old };
 
     // What is wanted of items is wanted of a part of them.
-    ghost part: { (change : Self) (before items following : List Item)
-        → wants change (before ++ (items ++ following))
-        → wants change items };
+    ghost part: { (change : Self) (keys : Keys) (before items following : List Item)
+        → wants change keys (before ++ (items ++ following))
+        → wants change keys items };
 }
 
 /// Changes a leaf of a subtree, and rebalances the nodes above it. Takes at most one slot at each
@@ -88,7 +89,7 @@ pub fn change_leaf<C: LeafChange>(
     requires can_change { CanChangeLeaf (C.bound_of change.old) (C.wants change.old) store.old
         height position }
     ensures changed { IsChanged store.old store.new height position.slot result }
-    ensures items { IsChangedWithin (C.bound_of change.old) store.old.keys
+    ensures items { IsChangedWithin (is_below store.old.keys (C.bound_of change.old))
         (C.gives change.old change.new store.old store.new) position.following
         (items_in store.old.nodes height position.slot)
         (items_with store.new.nodes height position.slot (added_by result)) }

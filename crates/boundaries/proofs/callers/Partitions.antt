@@ -5,7 +5,7 @@ use Rattle.std.proofs.lemmas.Bool.{cases_Bool}
 use Rattle.std.proofs.lemmas.List.{append-nil, get_or-drop, get_or-take, get_or_append_left, length-append, length-drop, length-take, take-append-drop}
 use Rattle.std.proofs.lemmas.List.Filters.{length-filter_both}
 use Rattle.std.proofs.lemmas.List.Elements.{All-nil, All-cons, All-head, All-tail, All-weaker, filter-append, filter_passes, All-append}
-use Rattle.tree.specs.Path.{IsPartitioned}
+use Rattle.boundaries.specs.Path.{IsPartitioned}
 
 pub not_both : (a : Bool) → a ≡ true → a ≡ false → ⊥
 not_both a t f = cc

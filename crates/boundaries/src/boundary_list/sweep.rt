@@ -9,7 +9,7 @@ ghost use Rattle.keys.specs.declared.key.TheConstants.{MAX_KEY_LENGTH};
 ghost use Rattle.boundaries.specs.Bound.{bytes_at};
 ghost use Rattle.boundaries.specs.Boundary.{AreBoundaries, first_key, last_version};
 ghost use Rattle.boundaries.specs.Stored.{spare_in};
-ghost use Rattle.boundaries.specs.Sweeping.{left_from, passed_to, swept, unexpired, unexpired_all};
+ghost use Rattle.boundaries.specs.Swept.{left_from, passed_to, swept, unexpired, unexpired_all};
 
 use super::Boundaries;
 use crate::expiry::{Expiring, Removal};

@@ -6,7 +6,7 @@ ghost use Rattle.std.specs.Prelude.{slice_index, slice_set, Some, IfSome, IsTrue
 ghost use Rattle.std.specs.Int.{w32, to_be_bytes};
 ghost use Rattle.std.specs.List.{All, Contains};
 ghost use Rattle.arena.specs.Arena.{key_at};
-ghost use Rattle.boundaries.specs.Heads.{HasPrefix, IsHeadBeside, IsKnown, Begins};
+ghost use Rattle.boundaries.specs.Heads.{HasPrefix, IsHeadBeside, IsKnown, Begins, head_at};
 ghost use Rattle.boundaries.specs.Node.{IsHeaded, entries_of, key_heads_of, keys_of};
 ghost use Rattle.boundaries.specs.declared.node.TheConstants.{FAN_OUT};
 
@@ -153,7 +153,10 @@ impl Node {
     }
 
     // Returns the head of a key after the common prefix.
-    fn head_in(&self, keys: &Keys, key: Slot) -> u32 {
+    fn head_in(&self, keys: &Keys, key: Slot) -> u32
+        ensures head { result
+            ≡ head_at (key_at keys.now) (key_heads_of self.now).prefix_len key }
+    {
         short_head(bytes_of(keys, key), self.prefix_len())
     }
 

@@ -42,15 +42,15 @@ impl Node {
             ≡ length (entries_of self.now) }
         ensures count { IsLowerBound (is_below keys.now bound) self.now result }
     {
-        match head {
-            Some(own) => {
-                let below = heads_below(&self.heads, own);
-                self.lower_bound_from(keys, below, bound, head)
-            }
+        let Some(own) = head else {
             // All keys are below that begin in the same way.
-            None if self.heads[0] != 0 => self.len(),
-            None => self.lower_bound_from(keys, 0, bound, None),
-        }
+            if self.heads[0] != 0 {
+                return self.len();
+            }
+            return self.lower_bound_from(keys, 0, bound, None);
+        };
+        let below = heads_below(&self.heads, own);
+        self.lower_bound_from(keys, below, bound, Some(own))
     }
 
     /// Returns the head of the bound's key after the prefix of all keys, if it has that prefix,

@@ -46,11 +46,16 @@ impl Node {
         ensures step { IsStep keys.now bound self.now result }
     {
         let head = self.head_for(keys, bound, common_prefix_len);
-        match head {
-            Some(own) if self.falls_after(guess, own) => {
-                self.step_to(keys, guess, bound, common_prefix_len, head)
-            }
-            _ => self.step_by(keys, bound, common_prefix_len, head),
+        let Some(own) = head else {
+            return self.step_by(keys, bound, common_prefix_len, None);
+        };
+        if !self.falls_after(guess, own) {
+            return self.step_by(keys, bound, common_prefix_len, Some(own));
+        }
+        let known = self.common_prefix_len_in(keys, guess, bound, common_prefix_len, Some(own));
+        Step {
+            index: guess,
+            common_prefix_len: known,
         }
     }
 
@@ -83,39 +88,43 @@ impl Node {
         ensures step { IsStep keys.now bound self.now result }
     {
         let index = self.lower_bound_by_head(keys, bound, head) - 1;
-        self.step_to(keys, index, bound, common_prefix_len, head)
+        let known = self.common_prefix_len_in(keys, index, bound, common_prefix_len, head);
+        Step {
+            index,
+            common_prefix_len: known,
+        }
     }
 
-    // Returns the step to the entry at an index, which is below the bound. `common_prefix_len` is
-    // that of the first key.
+    // Returns how many bytes the key at an index, which is below the bound, and the bound's begin
+    // with in common. `common_prefix_len` is the same of the first key.
     #[inline(always)]
-    fn step_to(
+    fn common_prefix_len_in(
         &self,
         keys: &Keys,
         index: usize,
         bound: KeyBound<'_>,
         common_prefix_len: usize,
         head: Option<u32>,
-    ) -> Step
+    ) -> usize
         requires can_step { CanStep keys.now bound self.now common_prefix_len }
         requires within { index < length (entries_of self.now) }
         requires is_below { (e : NodeEntry) → slice_get (entries_of self.now) index ≡ Some e
             → IsTrue (is_below keys.now bound e.key) }
         requires head { IsHeadFor keys.now bound self.now common_prefix_len head }
-        ensures index { result.index ≡ index }
-        ensures known { IsKnownAt keys.now bound self.now index result.common_prefix_len }
+        ensures known { IsKnownAt keys.now bound self.now index result }
     {
-        let common_prefix_len = match head {
-            _ if index == 0 => common_prefix_len,
-            Some(head) if head != self.heads[index] => {
-                self.prefix_len() + same_head_bytes(self.heads[index], head)
-            }
-            None if self.heads[0] != 0 => common_prefix_len,
-            _ => bound.common_prefix_len(keys, self.entries[index].key),
-        };
-        Step {
-            index,
-            common_prefix_len,
+        if index == 0 {
+            return common_prefix_len;
         }
+        let Some(head) = head else {
+            if self.heads[0] != 0 {
+                return common_prefix_len;
+            }
+            return bound.common_prefix_len(keys, self.entries[index].key);
+        };
+        if self.heads[index] == head {
+            return bound.common_prefix_len(keys, self.entries[index].key);
+        }
+        self.prefix_len() + same_head_bytes(self.heads[index], head)
     }
 }

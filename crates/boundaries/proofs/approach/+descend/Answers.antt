@@ -1,17 +1,16 @@
 use Rattle.std.proofs.Common.{rules, ◌≡◌, ◌≤◌, ℕ, ◌+◌, ◌-◌, Bool, false, List, length, filter, get_or, Option, Some, refl, arith}
 use Rattle.std.proofs.lemmas.Option.{slice_get_read}
-use Rattle.tree.proofs.Words.{NodeEntry, CanStep, IsAnswer, entries_of, items_in, least_of}
-use Rattle.tree.proofs.Approaches.{approach_wider}
-use Rattle.tree.proofs.Above.{at_most_tested}
-use Rattle.tree.proofs.FirstKeys.{knows_child}
-use Rattle.tree.proofs.Frames.{IsRight}
-use Rattle.tree.proofs.Looks.{IsLook, can_step_at, look_answers, child_is, child_partitioned, child_reached}
-use Rattle.tree.proofs.Placing.{entries_from_header}
-use Rattle.tree.proofs.QuestionAnswers.{clears_after, answered_by_child, answered_by_entry}
-use Rattle.tree.proofs.AnsweredKeys.{known_some_below, last_passes, some_pass}
-use Rattle.tree.proofs.approach.+descend.Given.{Over}
-use Rattle.tree.proofs.approach.+descend.Goals as goal
-use Rattle.tree.proofs.approach.+descend.Goals.{After-entries-entries, After-is_clear-clear}
+use Rattle.boundaries.proofs.Words.{NodeEntry, CanStep, IsAnswer, entries_of, items_in, least_of}
+use Rattle.boundaries.proofs.Approaches.{approach_wider}
+use Rattle.boundaries.proofs.Above.{at_most_tested}
+use Rattle.boundaries.proofs.FirstKeys.{knows_child}
+use Rattle.boundaries.proofs.Frames.{IsRight}
+use Rattle.boundaries.proofs.Looks.{IsLook, can_step_at, look_answers, child_is, child_partitioned, child_reached}
+use Rattle.boundaries.proofs.Placing.{entries_from_header}
+use Rattle.boundaries.proofs.QuestionAnswers.{clears_after, answered_by_child, answered_by_entry}
+use Rattle.boundaries.proofs.AnsweredKeys.{known_some_below, last_passes, some_pass}
+use Rattle.boundaries.proofs.approach.+descend.Goals as goal
+use Rattle.boundaries.proofs.approach.+descend.Goals.{After-entries-entries, After-is_clear-clear}
 
 -- what is asked of the search in a node
 asked : (g : Over) (t : ℕ) (c : After-entries-entries g t)
@@ -40,14 +39,14 @@ module _ (g : Over) (t : ℕ) (c : After-is_clear-clear g t) where
   es = entries_of c.header_ref-node.result.now
 
   -- the two bounds of the node
-  look : IsLook c.args.nodes.now (least_of g.row.N) c.args.height c.args.slot p q es (length (filter (λ x. p x.key) es))
+  look : IsLook c.args.nodes.now (least_of FAN_OUT) c.args.height c.args.slot p q es (length (filter (λ x. p x.key) es))
       (length (filter (λ x. q x.key) es))
   look = search (rules, entries_from_header c.args.nodes.now _ _ c.header_ref-node.ensures.header)
 
   is : c.index-entries-step.result ≡ get_or es c.step_by-step.result.index c.index-entries-step.result
   is = rw (← c.entries-entries.ensures.entries) c.index-entries-step.is
 
-  child : IsRight c.args.nodes.now (least_of g.row.N) (c.args.height - 1) c.index-entries-step.result
+  child : IsRight c.args.nodes.now (least_of FAN_OUT) (c.args.height - 1) c.index-entries-step.result
   child = child_is _ _ _ _ _ _ _ _ _ look c.if-height-eq0.false _ _ c.step_by-step.ensures.step.within is
 
   -- What is told of its items is told of those of the node.
@@ -66,7 +65,7 @@ descend-requires g t c κs within_lives =
     let k = look g t at in
     let node = child g t at in
     let step = c.step_by-step.ensures.step in
-    let least_some : 1 ≤ least_of g.row.N = omega arith in
+    let least_some : 1 ≤ least_of FAN_OUT = omega arith in
     let can_reach = child_reached _ _ _ _ _ _ _ _ _ k c.if-height-eq0.false _ _ step.within (is g t at) c.requires.asked.can_reach
     least_some in
     let to = child_partitioned _ _ _ _ _ _ _ _ _ k c.if-height-eq0.false _ _ step.within (is g t at) _ c.requires.asked.to in

@@ -1,5 +1,5 @@
-use Rattle.tree.proofs.approach.+descend.Given as goal
+use Rattle.boundaries.proofs.approach.+descend.Given as goal
 
 -- A child's subtree is lower.
 abbrev pub decreases-descend : goal.decreases-descend
-decreases-descend g l = l.height
+decreases-descend l = l.height

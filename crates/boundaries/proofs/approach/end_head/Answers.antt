@@ -1,12 +1,12 @@
 use Rattle.std.proofs.Common.{rules, Some, IsTrue, sym, ◌∙◌, arith, leb-true}
-use Rattle.tree.proofs.Words.{HasPrefix, key_heads_of}
-use Rattle.tree.proofs.Headed.{key_heads_kept}
-use Rattle.tree.proofs.NearBounds.{has_prefix_too, common_prefix_near, fewer_equal}
-use Rattle.tree.proofs.callers.Partitions.{not_both}
-use Rattle.tree.proofs.approach.end_head.Goals as goal
+use Rattle.boundaries.proofs.Words.{HasPrefix, key_heads_of}
+use Rattle.boundaries.proofs.Headed.{key_heads_kept}
+use Rattle.boundaries.proofs.NearBounds.{has_prefix_too, common_prefix_near, fewer_equal}
+use Rattle.boundaries.proofs.callers.Partitions.{not_both}
+use Rattle.boundaries.proofs.approach.end_head.Goals as goal
 
 pub head_given-requires : goal.head_given-requires
-head_given-requires g c =
+head_given-requires c =
     let question = c.args.question.now in
     let can_step = c.requires.searched.can_step in
     let bytes = g.P.Bound.bytes question.from in

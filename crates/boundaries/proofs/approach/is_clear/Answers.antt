@@ -1,11 +1,11 @@
 use Rattle.std.proofs.Common.{◌+◌, arith}
 use Rattle.std.proofs.lemmas.Option.{slice_get_within}
-use Rattle.tree.specs.Node.{entries_of}
-use Rattle.tree.proofs.AnsweredKeys.{next_fails}
-use Rattle.tree.proofs.approach.is_clear.Goals as goal
+use Rattle.boundaries.specs.Node.{entries_of}
+use Rattle.boundaries.proofs.AnsweredKeys.{next_fails}
+use Rattle.boundaries.proofs.approach.is_clear.Goals as goal
 
 pub returns-then-question-clause-next : goal.returns-then-question-clause-next
-returns-then-question-clause-next g c = λ _ e there.
+returns-then-question-clause-next c = λ _ e there.
     let question = c.args.question.now in
     let searched = c.requires.searched.can_step.can_find in
     let fails = next_fails (g.P.Bound.below question.from) _ _ e searched.partitioned c.requires.last_below there in

@@ -1,12 +1,12 @@
 use Rattle.std.proofs.Common.{◌≡◌, ◌+◌, ◌∷◌, ◌++◌, List, take, drop, refl, sym, ap, get_or, ◌∙◌}
-use Rattle.tree.proofs.Words.{with_header, NodeEntry, entries_at, child_at}
-use Rattle.tree.proofs.ChangedLeaf.{put_stored}
-use Rattle.tree.proofs.Placing.{entries_from_header, put_entries}
-use Rattle.tree.proofs.Sharing.{child_is}
-use Rattle.tree.proofs.children.insert_child.Goals as goal
+use Rattle.boundaries.proofs.Words.{with_header, NodeEntry, entries_at, child_at}
+use Rattle.boundaries.proofs.ChangedLeaf.{put_stored}
+use Rattle.boundaries.proofs.Placing.{entries_from_header, put_entries}
+use Rattle.boundaries.proofs.Sharing.{child_is}
+use Rattle.boundaries.proofs.children.insert_child.Goals as goal
 
 pub returns : goal.returns
-returns g c =
+returns c =
     let b = with_header a slot now in
     let listed = c.entries.ensures.entries
     ∙ sym (entries_from_header a slot c.header_ref-node.result.now c.header_ref-node.ensures.header) in

@@ -4,45 +4,44 @@ use Rattle.std.proofs.lemmas.List.{length-set}
 use Rattle.std.proofs.lemmas.Int.{ints, to_z-of_z}
 use Rattle.std.proofs.lemmas.Option.{slice_get-get_or}
 use Rattle.arena.specs.Arena.{with_header}
-use Rattle.tree.specs.declared.entry.NodeEntry.{NodeEntry}
-use Rattle.tree.specs.Node.{entries_of}
-use Rattle.tree.specs.Subtree.{entries_at}
-use Rattle.tree.specs.Tree.{least_of}
-use Rattle.tree.proofs.Headed.{headed_at}
-use Rattle.tree.proofs.KnownKeys.{headed_header}
-use Rattle.tree.proofs.LeafChange.{key_heads_stays}
-use Rattle.tree.proofs.Placing.{entries_from_header, put_entries, put_others}
-use Rattle.tree.proofs.Sharing.{child_is}
-use Rattle.tree.proofs.Storing.{entry_put}
-use Rattle.tree.proofs.children.raise_entry.Given.{Over}
-use Rattle.tree.proofs.children.raise_entry.Goals as goal
-use Rattle.tree.proofs.children.raise_entry.Goals.{After-index-entries-index}
+use Rattle.boundaries.specs.declared.entry.NodeEntry.{NodeEntry}
+use Rattle.boundaries.specs.Node.{entries_of}
+use Rattle.boundaries.specs.Subtree.{entries_at}
+use Rattle.boundaries.specs.Tree.{least_of}
+use Rattle.boundaries.proofs.Headed.{headed_at}
+use Rattle.boundaries.proofs.KnownKeys.{headed_header}
+use Rattle.boundaries.proofs.LeafChange.{key_heads_stays}
+use Rattle.boundaries.proofs.Placing.{entries_from_header, put_entries, put_others}
+use Rattle.boundaries.proofs.Sharing.{child_is}
+use Rattle.boundaries.proofs.Storing.{entry_put}
+use Rattle.boundaries.proofs.children.raise_entry.Goals as goal
+use Rattle.boundaries.proofs.children.raise_entry.Goals.{After-index-entries-index}
 
 -- the entry that was read
-read_is : (g : Over) (c : After-index-entries-index g) → c.index-entries-index.result
+read_is : (c : After-index-entries-index) → c.index-entries-index.result
     ≡ get_or (entries_at c.args.nodes.now c.args.slot) c.args.index c.index-entries-index.result
-read_is g c =
+read_is c =
     let read = entries_from_header c.args.nodes.now c.args.slot c.header_ref.result.now c.header_ref.ensures.header in
     rw (read, ← c.entries.ensures.entries) c.index-entries-index.is
 
 -- Where a greater version is there, the entry is made right from the child.
 pub returns-then-entry-leaf : goal.returns-then-entry-leaf
-returns-then-entry-leaf g c = record {
+returns-then-entry-leaf c = record {
   rebalanced = λ height family describes. c.rebalance_child.ensures.rebalanced height family;
   rest = c.rebalance_child.ensures.rest;
   outcome = inl refl;
 }
 
 pub returns : goal.returns
-returns g c =
+returns c =
     let a = c.args.nodes.now in
     let slot = c.args.slot in
     let es = entries_at a slot in
     let can = c.requires.can_raise.rebalance in
     let d = c.index-entries-index.result in
-    let d_is = read_is g (goal.at.returns g c).After-index-entries-index in
+    let d_is = read_is g (goal.at.returns c).After-index-entries-index in
     let child = child_is es c.args.index d can.within ∙ ap (λ e. e.child) (sym d_is) in
-    let filled : least_of g.row.N ≤ length (entries_at a d.child) = rw child at c.requires.can_raise.filled in
+    let filled : least_of FAN_OUT ≤ length (entries_at a d.child) = rw child at c.requires.can_raise.filled in
     let below : d.version ≤ℤ c.args.leaf.version = grind (arith, ints, c.if-entry-leaf.false) in
     let there : slice_get es c.args.index ≡ Some d = slice_get-get_or es c.args.index d can.within ∙ ap Some (sym d_is) in
     let old = c.header_mut.result.now in

@@ -1,41 +1,40 @@
 use Rattle.std.proofs.Common.{◌≡◌, ◌≤◌, ◌-◌, length, get_or, refl, sym, ap, ◌∙◌, arith, rules}
 use Rattle.std.proofs.lemmas.List.{length-set}
 use Rattle.arena.specs.Arena.{with_header}
-use Rattle.tree.specs.declared.entry.NodeEntry.{NodeEntry}
-use Rattle.tree.specs.Subtree.{entries_at}
-use Rattle.tree.specs.Tree.{least_of}
-use Rattle.tree.proofs.KnownKeys.{headed_header}
-use Rattle.tree.proofs.Placing.{entries_from_header, put_entries}
-use Rattle.tree.proofs.Rebalancing.{filled_pair, widened}
-use Rattle.tree.proofs.Storing.{child_live, entry_put}
-use Rattle.tree.proofs.children.rebalance_child.Given.{Over}
-use Rattle.tree.proofs.children.rebalance_child.Goals as goal
-use Rattle.tree.proofs.children.rebalance_child.Goals.{After-index-entries-index}
+use Rattle.boundaries.specs.declared.entry.NodeEntry.{NodeEntry}
+use Rattle.boundaries.specs.Subtree.{entries_at}
+use Rattle.boundaries.specs.Tree.{least_of}
+use Rattle.boundaries.proofs.KnownKeys.{headed_header}
+use Rattle.boundaries.proofs.Placing.{entries_from_header, put_entries}
+use Rattle.boundaries.proofs.Rebalancing.{filled_pair, widened}
+use Rattle.boundaries.proofs.Storing.{child_live, entry_put}
+use Rattle.boundaries.proofs.children.rebalance_child.Goals as goal
+use Rattle.boundaries.proofs.children.rebalance_child.Goals.{After-index-entries-index}
 
 -- the child at the index
-child_is : (g : Over) (c : After-index-entries-index g)
+child_is : (c : After-index-entries-index)
     → (get_or c.entries.result.now c.args.index c.index-entries-index.result).child
     ≡ (get_or (entries_at c.args.nodes.now c.args.slot) c.args.index c.index-entries-index.result).child
-child_is g c =
+child_is c =
     let read = entries_from_header c.args.nodes.now c.args.slot c.header_ref.result.now c.header_ref.ensures.header in
     rw (c.entries.ensures.entries, read) refl
 
 pub header_ref-requires-2 : goal.header_ref-requires-2
-header_ref-requires-2 g c = record {
+header_ref-requires-2 c = record {
   live = child_live c.index-entries-index.result c.requires.can_rebalance
-      (child_is g (goal.at.header_ref-requires-2 g c).After-index-entries-index);
+      (child_is g (goal.at.header_ref-requires-2 c).After-index-entries-index);
 }
 
 pub returns-then-len-least : goal.returns-then-len-least
-returns-then-len-least g c =
+returns-then-len-least c =
     let a = c.args.nodes.now in
     let slot = c.args.slot in
-    let L = least_of g.row.N in
+    let L = least_of FAN_OUT in
     let node = c.set_with_head.new.self in
     let set = c.set_with_head.ensures in
     let can = c.requires.can_rebalance in
     let x = (get_or c.entries.result.now c.args.index c.index-entries-index.result).child in
-    let x_is = child_is g (goal.at.returns-then-len-least g c).After-index-entries-index in
+    let x_is = child_is g (goal.at.returns-then-len-least c).After-index-entries-index in
     let child = c.header_ref-2 in
     let len = ap length (entries_from_header a x child.result.now child.ensures.header) ∙ sym c.len.ensures.len in
     let filled : L ≤ length (entries_at a x) = omega (arith, len, c.if-len-least.true) in
@@ -53,8 +52,8 @@ returns-then-len-least g c =
     }
 
 pub merge_or_redistribute-requires : goal.merge_or_redistribute-requires
-merge_or_redistribute-requires g c =
-    let L = least_of g.row.N in
+merge_or_redistribute-requires c =
+    let L = least_of FAN_OUT in
     let j_is : j ≡ i - 1 = c.saturating_sub.ensures in (
       search rules,
       record {
@@ -71,7 +70,7 @@ merge_or_redistribute-requires g c =
     open c use {args.{nodes.{now as a}, slot, index as i}, requires.{can_rebalance as can}, saturating_sub.{result as j}}
 
 pub returns : goal.returns
-returns g c = record {
+returns c = record {
   rebalanced = λ height family.
       c.merge_or_redistribute.ensures.rebalanced height (widened _ _ height _ _ _ family c.saturating_sub.ensures);
   rest = c.merge_or_redistribute.ensures.rest;

@@ -1,13 +1,13 @@
 use Rattle.std.proofs.Common.{rules, length, refl, ap, arith}
 use Rattle.arena.specs.Arena.{with_header}
-use Rattle.tree.proofs.Headed.{headed_at}
-use Rattle.tree.proofs.KnownKeys.{headed_header}
-use Rattle.tree.proofs.Neighbours.{left_entries, left_live, both_changes}
-use Rattle.tree.proofs.Placing.{entries_from_header, put_moves}
-use Rattle.tree.proofs.children.split.Goals as goal
+use Rattle.boundaries.proofs.Headed.{headed_at}
+use Rattle.boundaries.proofs.KnownKeys.{headed_header}
+use Rattle.boundaries.proofs.Neighbours.{left_entries, left_live, both_changes}
+use Rattle.boundaries.proofs.Placing.{entries_from_header, put_moves}
+use Rattle.boundaries.proofs.children.split.Goals as goal
 
 pub splice_apart-right-requires : goal.splice_apart-right-requires
-splice_apart-right-requires g c =
+splice_apart-right-requires c =
     let len = ap length (entries_from_header c.args.nodes.now c.args.slot node header) in (
       search rules,
       (
@@ -26,7 +26,7 @@ splice_apart-right-requires g c =
     open c use {requires.{can_split as can}, header_mut.{result.{now as node}, ensures.{header}}}
 
 pub place-requires : goal.place-requires
-place-requires g c =
+place-requires c =
     let a = c.args.nodes.now in
     let now = c.splice_apart-right.new.self in
     let put = put_moves a (with_header a c.args.slot now) c.args.slot now refl c.requires.can_split.live
@@ -34,7 +34,7 @@ place-requires g c =
     (search rules, (put.keyless, omega (arith, c.requires.can_split.room, put.live, put.spare)))
 
 pub returns : goal.returns
-returns g c =
+returns c =
     let b = with_header old slot split.new.self in
     let changes = both_changes old b w slot c.place.result split.new.self refl then.changes can.live can.keyless in
     let here = left_entries old b w slot c.place.result split.new.self refl then.changes in
@@ -50,7 +50,7 @@ returns g c =
           left = omega (arith, split.ensures.filled.left, ap length here);
           right = omega (arith, split.ensures.filled.right, ap length then.entries);
         };
-        headed = then.headed (g.P.Bound.bytes c.args.bound.now) split.ensures.headed.right
+        headed = then.headed (key_at c.args.keys.now) split.ensures.headed.right
             (headed_header _ old b slot split.new.self refl can.headed split.ensures.headed.left);
       };
     }

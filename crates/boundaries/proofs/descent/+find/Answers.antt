@@ -1,19 +1,18 @@
 use Rattle.std.proofs.Common.{rules, ℕ, get_or, ◌≤◌, ◌∙◌, ap, sym, arith}
-use Rattle.tree.proofs.Words.{index_in, least_of}
-use Rattle.tree.proofs.Found.{IsFound, found, found_subtree, found_partitioned, found_leaf}
-use Rattle.tree.proofs.FirstKeys.{known_below, some_below}
-use Rattle.tree.proofs.Looks.{can_step_at}
-use Rattle.tree.proofs.Keys.{key_after_child}
-use Rattle.tree.proofs.descent.+find.Given.{Over}
-use Rattle.tree.proofs.descent.+find.Goals as goal
-use Rattle.tree.proofs.descent.+find.Goals.{After-index-entries-step}
+use Rattle.boundaries.proofs.Words.{index_in, least_of}
+use Rattle.boundaries.proofs.Found.{IsFound, found, found_subtree, found_partitioned, found_leaf}
+use Rattle.boundaries.proofs.FirstKeys.{known_below, some_below}
+use Rattle.boundaries.proofs.Looks.{can_step_at}
+use Rattle.boundaries.proofs.Keys.{key_after_child}
+use Rattle.boundaries.proofs.descent.+find.Goals as goal
+use Rattle.boundaries.proofs.descent.+find.Goals.{After-index-entries-step}
 
 pub step-step-requires : goal.step-step-requires
 step-step-requires g t c = search (rules, can_step_at c.requires.can_reach c.header_ref-node.ensures.header c.requires.known)
 
 -- the child at which the search goes on
 child_found : (g : Over) (t : ℕ) (c : After-index-entries-step g t)
-    → IsFound c.args.nodes.now (least_of g.row.N) c.args.height c.args.slot (g.P.Bound.below c.args.bound.now)
+    → IsFound c.args.nodes.now (least_of FAN_OUT) c.args.height c.args.slot (is_below c.args.keys.now c.args.bound)
     (get_or c.entries-entries.result.now c.step-step.result.index c.index-entries-step.result).child
 child_found g t c =
     found _ _ c.args.height c.args.slot _ _ _ c.step-step.result.index c.index-entries-step.result c.if-height-eq0.false
@@ -22,9 +21,9 @@ child_found g t c =
 
 pub find-requires : goal.find-requires
 find-requires g t c κs within =
-    let some : 1 ≤ least_of g.row.N = omega arith in
+    let some : 1 ≤ least_of FAN_OUT = omega arith in
     let f = child_found g t (goal.at.find-requires g t c).After-index-entries-step in
-    let known = known_below _ _ _ _ _ _ f (g.P.Bound.bytes c.args.bound.now) (g.P.Bound.target c.args.bound.now)
+    let known = known_below _ _ _ _ _ _ f (key_at c.args.keys.now) (c.args.bound.key.now)
     c.step-step.result.common_prefix_len _ c.step-step.result.index c.header_ref-node.ensures.header
     c.step-step.ensures.step.index_is c.step-step.ensures.step.knows in
     search (rules, known, found_subtree _ _ _ _ _ _ f, some_below _ _ _ _ _ _ f some, found_partitioned _ _ _ _ _ _ f)

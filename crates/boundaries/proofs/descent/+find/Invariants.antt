@@ -1,4 +1,4 @@
-use Rattle.tree.proofs.descent.+find.Given as goal
+use Rattle.boundaries.proofs.descent.+find.Given as goal
 
 abbrev pub decreases-find : goal.decreases-find
-decreases-find g l = l.height
+decreases-find l = l.height

@@ -2,8 +2,8 @@ use Rattle.std.proofs.Common.{rules, ◌≡◌, ◌∙◌, ◌&&◌, int_lt, ref
 use Rattle.std.proofs.Math.Bool.{and-false}
 use Rattle.std.proofs.lemmas.Int.{to_z-of_z}
 use Rattle.std.proofs.lemmas.List.{drop_all}
-use Rattle.tree.proofs.Removing.{one_found, one_passed}
-use Rattle.tree.proofs.expiry.has_expired.Goals as goal
+use Rattle.boundaries.proofs.Removing.{one_found, one_passed}
+use Rattle.boundaries.proofs.expiry.has_expired.Goals as goal
 
 pub loop-entry-init : goal.loop-entry-init
 loop-entry-init c = refl

@@ -1,6 +1,6 @@
 use Rattle.std.proofs.Common.{◌≡◌, drop, map}
-use Rattle.tree.proofs.Words.{item_of, expired}
-use Rattle.tree.proofs.expiry.has_expired.Given as goal
+use Rattle.boundaries.proofs.Words.{item_of, expired}
+use Rattle.boundaries.proofs.expiry.has_expired.Given as goal
 
 -- those that go are behind the entries so far
 abbrev pub invariant-loop-entry : goal.invariant-loop-entry

@@ -1,7 +1,7 @@
 use Rattle.std.proofs.Common.{rules, w64}
 use Rattle.std.proofs.lemmas.Int.{to_z-of_z}
-use Rattle.tree.proofs.Removing.{last_at}
-use Rattle.tree.proofs.expiry.look_at.Goals as goal
+use Rattle.boundaries.proofs.Removing.{last_at}
+use Rattle.boundaries.proofs.expiry.look_at.Goals as goal
 
 pub returns-clause-last : goal.returns-clause-last
 returns-clause-last c =

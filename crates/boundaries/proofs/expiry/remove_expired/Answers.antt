@@ -3,25 +3,25 @@ use Rattle.std.proofs.Math.Bool.{and-false}
 use Rattle.std.proofs.lemmas.Int.{to_z-of_z}
 use Rattle.std.proofs.lemmas.List.{length-map, map-append}
 use Rattle.std.proofs.lemmas.Option.{slice_get_read}
-use Rattle.tree.proofs.Words.{item_of, entries_of}
-use Rattle.tree.proofs.Removing.{one_stays, one_goes, not_below, is_below, all_kept, all_expired}
-use Rattle.tree.proofs.expiry.remove_expired.Goals as goal
+use Rattle.boundaries.proofs.Words.{item_of, entries_of}
+use Rattle.boundaries.proofs.Removing.{one_stays, one_goes, not_below, is_below, all_kept, all_expired}
+use Rattle.boundaries.proofs.expiry.remove_expired.Goals as goal
 
 pub push-requires : goal.push-requires
-push-requires g c =
+push-requires c =
     let inv = c.loop-index.invariant.removal in
     let taken = length-map c.loop-index.taken.items item_of in
     omega (arith, taken, c.entries.ensures.most, inv.same_length, inv.counted, c.requires.within)
 
 pub loop-index-init : goal.loop-index-init
-loop-index-init g c = record {
+loop-index-init c = record {
   removal = rw c.requires.none_taken
       record { counted = omega arith; same_length = refl; ahead = refl; stayed = refl; went = refl };
   headed = λ bytes h. h;
 }
 
 pub loop-index-preserved : goal.loop-index-preserved
-loop-index-preserved g c =
+loop-index-preserved c =
     let now = entries_of c.loop-index.node in
     let edge = to_z w64 (of_z w64 c.args.edge) in
     let last = to_z w64 c.loop-index.last-bits in
@@ -58,11 +58,11 @@ loop-index-preserved g c =
     ]
 
 pub returns-clause-kept : goal.returns-clause-kept
-returns-clause-kept g c =
+returns-clause-kept c =
     rw (to_z-of_z w64 c.args.edge c.ranges.edge, to_z-of_z w64 c.args.before c.ranges.before) at
     (all_kept c.loop-index.invariant.removal c.requires.within (omega arith) _ c.remove.ensures.entries)
 
 pub returns-clause-taken : goal.returns-clause-taken
-returns-clause-taken g c =
+returns-clause-taken c =
     rw (to_z-of_z w64 c.args.edge c.ranges.edge, to_z-of_z w64 c.args.before c.ranges.before) at
     (all_expired c.loop-index.invariant.removal c.requires.within (omega arith))

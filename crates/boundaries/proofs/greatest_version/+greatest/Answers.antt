@@ -1,17 +1,16 @@
 use Rattle.std.proofs.Common.{ℕ, ◌-◌, ◌≤◌, true, false, option_map, arith, rules}
 use Rattle.std.proofs.lemmas.Option.{IfSome_then}
-use Rattle.tree.proofs.Words.{Item, Describes, IsGreatestWith, below_from, below_to, items_in, least_of}
-use Rattle.tree.proofs.FromLast.{from_last_of}
-use Rattle.tree.proofs.Looks.{IsLook, can_find_at, look_of, ask_any, look_ordered, leaf_from_last}
-use Rattle.tree.proofs.Halves.{AreHalves, left_items, right_items, middle_items, left_from_last, right_before, left_is, right_is, middle_describes, left_reached, right_reached, apart, in_one, in_two}
-use Rattle.tree.proofs.GreatestParts.{IsPeak-leaf}
-use Rattle.tree.proofs.Most.{most_with, most_between, most_of_parts, most_passed}
-use Rattle.tree.proofs.greatest_version.+greatest.Given.{Over}
-use Rattle.tree.proofs.greatest_version.+greatest.Goals as goal
-use Rattle.tree.proofs.greatest_version.+greatest.Goals.{After-saturating_sub-first, After-index-entries-last, After-is_above-3, then-is_above, else-is_above}
+use Rattle.boundaries.proofs.Words.{Item, Describes, IsGreatestWith, below_from, below_to, items_in, least_of}
+use Rattle.boundaries.proofs.FromLast.{from_last_of}
+use Rattle.boundaries.proofs.Looks.{IsLook, can_find_at, look_of, ask_any, look_ordered, leaf_from_last}
+use Rattle.boundaries.proofs.Halves.{AreHalves, left_items, right_items, middle_items, left_from_last, right_before, left_is, right_is, middle_describes, left_reached, right_reached, apart, in_one, in_two}
+use Rattle.boundaries.proofs.GreatestParts.{IsPeak-leaf}
+use Rattle.boundaries.proofs.Most.{most_with, most_between, most_of_parts, most_passed}
+use Rattle.boundaries.proofs.greatest_version.+greatest.Goals as goal
+use Rattle.boundaries.proofs.greatest_version.+greatest.Goals.{After-saturating_sub-first, After-index-entries-last, After-is_above-3, then-is_above, else-is_above}
 
 look : (g : Over) (t : ℕ) (c : After-saturating_sub-first g t)
-    → IsLook c.args.nodes.now (least_of g.row.N) c.args.height c.args.slot
+    → IsLook c.args.nodes.now (least_of FAN_OUT) c.args.height c.args.slot
     (below_from (option_map (λ p. g.P.Bound.below p.now) c.args.from))
     (below_to (option_map (λ q. g.Q.Bound.below q.now) c.args.to)) c.entries-entries.result.now
     c.begin_of-begin.result c.end_of-end.result
@@ -52,7 +51,7 @@ returns-then-height-eq0 g t c =
 
 -- the two children that the search goes on in
 abbrev halves : (g : Over) (t : ℕ) (c : After-index-entries-last g t)
-    → AreHalves c.args.nodes.now (least_of g.row.N) c.args.height c.args.slot
+    → AreHalves c.args.nodes.now (least_of FAN_OUT) c.args.height c.args.slot
     (below_from (option_map (λ p. g.P.Bound.below p.now) c.args.from))
     (below_to (option_map (λ q. g.Q.Bound.below q.now) c.args.to))
 halves g t c = record {
@@ -86,7 +85,7 @@ slice_bounds-greatest_of-start-2 g t c =
 pub greatest-requires : goal.greatest-requires
 greatest-requires g t c κs within =
     let h = halves g t (goal.at.greatest-requires g t c).After-index-entries-last in
-    let some : 1 ≤ least_of g.row.N = omega arith in
+    let some : 1 ≤ least_of FAN_OUT = omega arith in
     let from = IfSome_then c.args.from c.requires.from (λ p can. left_reached h can some) in
     let to = IfSome_then c.args.to c.requires.to (λ q can. left_reached h can some) in
     search (rules, (left_is h).subtree, from, to, c.requires.nested)
@@ -94,14 +93,14 @@ greatest-requires g t c κs within =
 pub greatest-most-requires : goal.greatest-most-requires
 greatest-most-requires g t c κs within =
     let h = halves g t (goal.at.greatest-most-requires g t c).After-index-entries-last in
-    let some : 1 ≤ least_of g.row.N = omega arith in
+    let some : 1 ≤ least_of FAN_OUT = omega arith in
     let from = IfSome_then c.args.from c.requires.from (λ p can. left_reached h can some) in
     search (rules, (left_is h).subtree, from, ask_any c.args.from (λ _. Unit {0}) (λ _. tt))
 
 pub greatest-most-requires-then-is_above-2 : goal.greatest-most-requires-then-is_above-2
 greatest-most-requires-then-is_above-2 g t c κs within =
     let h = halves g t (goal.at.greatest-most-requires-then-is_above-2 g t c).After-index-entries-last in
-    let some : 1 ≤ least_of g.row.N = omega arith in
+    let some : 1 ≤ least_of FAN_OUT = omega arith in
     search (rules, (right_is h).subtree, IfSome_then c.args.to c.requires.to (λ q can. right_reached h can some))
 
 pub returns-then-not-is_above : goal.returns-then-not-is_above

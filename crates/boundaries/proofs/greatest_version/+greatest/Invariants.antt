@@ -1,4 +1,4 @@
-use Rattle.tree.proofs.greatest_version.+greatest.Given as goal
+use Rattle.boundaries.proofs.greatest_version.+greatest.Given as goal
 
 abbrev pub decreases-greatest : goal.decreases-greatest
-decreases-greatest g l = l.height
+decreases-greatest l = l.height

@@ -1,6 +1,6 @@
 use Rattle.std.proofs.Common.{◌≡◌, ℕ, ◌+◌, ◌<◌, List, get_or, length, slice_set, take, take_all, refl, arith, length-set, ◌∙◌}
 use Rattle.std.proofs.lemmas.List.{take_more, take_more_set}
-use Rattle.tree.proofs.node.copy_few.Goals as goal
+use Rattle.boundaries.proofs.node.copy_few.Goals as goal
 
 module _ {X : Type 0} (xs : List X) where
   -- one element more is copied

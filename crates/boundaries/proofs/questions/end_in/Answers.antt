@@ -1,11 +1,11 @@
 use Rattle.std.proofs.Common.{rules, sym, ◌∙◌, arith}
-use Rattle.tree.specs.Node.{entries_of, key_heads_of}
-use Rattle.tree.proofs.Headed.{key_heads_kept}
-use Rattle.tree.proofs.NearBounds.{no_more}
-use Rattle.tree.proofs.questions.end_in.Goals as goal
+use Rattle.boundaries.specs.Node.{entries_of, key_heads_of}
+use Rattle.boundaries.proofs.Headed.{key_heads_kept}
+use Rattle.boundaries.proofs.NearBounds.{no_more}
+use Rattle.boundaries.proofs.questions.end_in.Goals as goal
 
 pub returns-then-question : goal.returns-then-question
-returns-then-question g c =
+returns-then-question c =
     let es = entries_of c.args.node.now in
     let question = c.args.question.now in
     let more = no_more _ _ question.nested es in
@@ -14,7 +14,7 @@ returns-then-question g c =
     record { count = record { within = begin.within; count_is = omega (arith, begin.count_is, more, fewer) } }
 
 pub lower_bound_from-requires : goal.lower_bound_from-requires
-lower_bound_from-requires g c =
+lower_bound_from-requires c =
     let question = c.args.question.now in
     let find = c.requires.searched.can_step.can_find in
     let headed = key_heads_kept (g.P.Bound.bytes question.from) (g.Q.Bound.bytes question.to)

@@ -1,10 +1,10 @@
 use Rattle.std.proofs.Common.{rules}
-use Rattle.tree.proofs.Headed.{headed_at}
-use Rattle.tree.proofs.Placing.{entries_from_header}
-use Rattle.tree.proofs.questions.look_at.Goals as goal
+use Rattle.boundaries.proofs.Headed.{headed_at}
+use Rattle.boundaries.proofs.Placing.{entries_from_header}
+use Rattle.boundaries.proofs.questions.look_at.Goals as goal
 
 pub head_for-requires : goal.head_for-requires
-head_for-requires g c =
+head_for-requires c =
     let header = c.header_ref-leaf.ensures.header in
     let at = rw c.in-Leaf.is at c.requires.leading in
     let read = entries_from_header c.args.nodes.now c.in-Leaf.hint.leaf c.header_ref-leaf.result.now header in
@@ -14,4 +14,4 @@ head_for-requires g c =
     (search rules, (headed, (some, (λ e text there is count inside le. ((known e there).1 text is count inside).0 le))))
 
 pub returns-clause-looked : goal.returns-clause-looked
-returns-clause-looked g c = rw (c.in-Leaf.is, c.header_ref-leaf.ensures.header) c.head_for.ensures.head
+returns-clause-looked c = rw (c.in-Leaf.is, c.header_ref-leaf.ensures.header) c.head_for.ensures.head

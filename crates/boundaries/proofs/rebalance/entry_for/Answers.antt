@@ -1,13 +1,13 @@
 use Rattle.std.proofs.Common.{◌≡◌, ◌<◌, ◌∷◌, refl, drop-cons, length, drop, sym, ◌∙◌, rules, w64, arith}
 use Rattle.std.proofs.lemmas.Int.{to_z-of_z}
-use Rattle.tree.proofs.Words.{entries_at}
-use Rattle.tree.proofs.Placing.{entries_from_header}
-use Rattle.tree.proofs.Describing.{describes_items}
-use Rattle.tree.proofs.Headed.{known_at}
-use Rattle.tree.proofs.rebalance.entry_for.Goals as goal
+use Rattle.boundaries.proofs.Words.{entries_at}
+use Rattle.boundaries.proofs.Placing.{entries_from_header}
+use Rattle.boundaries.proofs.Describing.{describes_items}
+use Rattle.boundaries.proofs.Headed.{known_at}
+use Rattle.boundaries.proofs.rebalance.entry_for.Goals as goal
 
 pub returns : goal.returns
-returns g c =
+returns c =
     let here = entries_from_header a c.args.child _ c.header_ref-node.ensures.header in
     let same : entries_at a c.args.child ≡ xs = here ∙ sym c.entries.ensures.entries in
     let some : 0 < length xs = rw (← same) c.requires.some in

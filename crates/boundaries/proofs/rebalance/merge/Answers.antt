@@ -1,16 +1,16 @@
 use Rattle.std.proofs.Common.{[], append-nil, refl, sym, ◌∙◌, take_all, arith, rules}
 use Rattle.std.proofs.lemmas.List.{drop_all}
-use Rattle.tree.proofs.Words.{entries_of}
+use Rattle.boundaries.proofs.Words.{entries_of}
 use Rattle.arena.specs.Arena.{with_header}
-use Rattle.tree.proofs.Frames.{entries_same, live_same}
-use Rattle.tree.proofs.Changing.{changes_if_moves, moves_trans, moves_released}
-use Rattle.tree.proofs.Placing.{entries_from_header, put_entries, put_live, put_others, put_moves, moves_first, moves_second, released_spare}
-use Rattle.tree.proofs.Headed.{headed_at, headed_released}
-use Rattle.tree.proofs.KnownKeys.{headed_header}
-use Rattle.tree.proofs.rebalance.merge.Goals as goal
+use Rattle.boundaries.proofs.Frames.{entries_same, live_same}
+use Rattle.boundaries.proofs.Changing.{changes_if_moves, moves_trans, moves_released}
+use Rattle.boundaries.proofs.Placing.{entries_from_header, put_entries, put_live, put_others, put_moves, moves_first, moves_second, released_spare}
+use Rattle.boundaries.proofs.Headed.{headed_at, headed_released}
+use Rattle.boundaries.proofs.KnownKeys.{headed_header}
+use Rattle.boundaries.proofs.rebalance.merge.Goals as goal
 
 pub release-requires : goal.release-requires
-release-requires g c =
+release-requires c =
     let b = with_header a c.args.first merged in
     let kept = put_others a b c.args.first merged refl c.args.second (λ same. two.apart (sym same)) in
     record { live = live_same a b c.args.second kept two.live_second }
@@ -18,7 +18,7 @@ release-requires g c =
     open c use {args.{nodes.{now as a}}, insert_with_heads.{new.{self as merged}}, requires.{two}}
 
 pub insert_with_heads-requires : goal.insert_with_heads-requires
-insert_with_heads-requires g c =
+insert_with_heads-requires c =
     let a = c.args.nodes.now in
     let two = c.requires.two in
     let first_was = entries_from_header a c.args.first _ c.header_mut-left.ensures.header in
@@ -29,7 +29,7 @@ insert_with_heads-requires g c =
     (search rules, (omega (arith, c.len.ensures.len), (room, record { left = first; right = second })))
 
 pub returns : goal.returns
-returns g c =
+returns c =
     let b = with_header a c.args.first merged in
     let first_was = entries_from_header a x _ c.header_mut-left.ensures.header in
     let second_was = entries_from_header a y _ c.header-right.ensures.header in

@@ -1,16 +1,15 @@
 use Rattle.std.proofs.Common.{◌≡◌, ◌≢◌, ℕ, ◌+◌, ◌-◌, ◌/◌, ◌<◌, ◌≤◌, List, [], ◌∷◌, ◌++◌, Some, append-nil, append_assoc, length, length-append, length-drop, length-take, take, drop, take-append-drop, take_all, refl, sym, ap, ◌∙◌, arith, rules}
 use Rattle.std.proofs.lemmas.List.{drop_all}
-use Rattle.tree.specs.Splice.{AreHalfFull}
-use Rattle.tree.specs.Rebalancing.{AreTwo}
-use Rattle.tree.proofs.Words.{Arena, AllAreHeads, AreHeads, NodeEntry, IsLive, KeyBytes, Node, all_heads_of, entries_at, entries_of, header_at, key_heads_of, record_at, with_header}
-use Rattle.tree.proofs.Frames.{entries_same, live_same}
-use Rattle.tree.proofs.Changing.{Moves, changes_if_moves, moves_trans}
-use Rattle.tree.proofs.Placing.{entries_from_header, moves_first, moves_second, put_entries, put_live, put_others, put_moves}
-use Rattle.tree.proofs.Headed.{headed_at}
-use Rattle.tree.proofs.KnownKeys.{headed_header}
-use Rattle.tree.proofs.rebalance.redistribute.Given as given
-use Rattle.tree.proofs.rebalance.redistribute.Goals as goal
-use Rattle.tree.proofs.rebalance.redistribute.Goals.{After-len}
+use Rattle.boundaries.specs.Splice.{AreHalfFull}
+use Rattle.boundaries.specs.Rebalancing.{AreTwo}
+use Rattle.boundaries.proofs.Words.{Arena, AllAreHeads, AreHeads, NodeEntry, IsLive, KeyBytes, Node, all_heads_of, entries_at, entries_of, header_at, key_heads_of, record_at, with_header}
+use Rattle.boundaries.proofs.Frames.{entries_same, live_same}
+use Rattle.boundaries.proofs.Changing.{Moves, changes_if_moves, moves_trans}
+use Rattle.boundaries.proofs.Placing.{entries_from_header, moves_first, moves_second, put_entries, put_live, put_others, put_moves}
+use Rattle.boundaries.proofs.Headed.{headed_at}
+use Rattle.boundaries.proofs.KnownKeys.{headed_header}
+use Rattle.boundaries.proofs.rebalance.redistribute.Goals as goal
+use Rattle.boundaries.proofs.rebalance.redistribute.Goals.{After-len}
 
 -- entries that are shared evenly
 record AreShared (N : ℕ) (l r u v : List NodeEntry) : Type 0 where
@@ -44,8 +43,8 @@ moved_left N n half l r u v many count half_is below u_is v_is =
     (simp (u_is, all, none, append-nil, length-append, length-take) (omega arith))
 
 -- A node is put in its place, and then another one.
-module _ {N : ℕ} {bytes : KeyBytes} {a : Arena (Node N)} {x y : ℕ} (two : AreTwo bytes a x y) (u : Node N) where
-  abbrev b : Arena (Node N)
+module _ {bytes : KeyBytes} {a : Arena Node} {x y : ℕ} (two : AreTwo bytes a x y) (u : Node) where
+  abbrev b : Arena Node
   b = with_header a x u
 
   kept : record_at b y ≡ record_at a y
@@ -54,31 +53,31 @@ module _ {N : ℕ} {bytes : KeyBytes} {a : Arena (Node N)} {x y : ℕ} (two : Ar
   live : IsLive b y
   live = live_same a b y kept two.live_second
 
-  read : {node : Node N} → header_at b y ≡ Some node → entries_of node ≡ entries_at a y
+  read : {node : Node} → header_at b y ≡ Some node → entries_of node ≡ entries_at a y
   read {node} header = sym (entries_from_header b y node header) ∙ entries_same a b y kept
 
   headed : AreHeads bytes (key_heads_of u) → AllAreHeads bytes (all_heads_of b)
   headed = headed_header bytes a b x u refl two.headed
 
-  headed_still : {node : Node N} → header_at b y ≡ Some node → AreHeads bytes (key_heads_of u) → AreHeads bytes (key_heads_of node)
+  headed_still : {node : Node} → header_at b y ≡ Some node → AreHeads bytes (key_heads_of u) → AreHeads bytes (key_heads_of node)
   headed_still {node} header own = headed_at bytes b y node (headed own) header
 
-  first_is : (v : Node N) → entries_at (with_header b y v) x ≡ entries_of u
+  first_is : (v : Node) → entries_at (with_header b y v) x ≡ entries_of u
   first_is v = entries_same b (with_header b y v) x (put_others b _ y v refl x two.apart) ∙ put_entries a b x u refl
 
   put_first : Moves a b (x ∷ []) (x ∷ [])
   put_first = put_moves a b x u refl two.live_first two.keyless
 
-  put_second : (v : Node N) → Moves b (with_header b y v) (y ∷ []) (y ∷ [])
+  put_second : (v : Node) → Moves b (with_header b y v) (y ∷ []) (y ∷ [])
   put_second v = put_moves b _ y v refl live put_first.keyless
 
-swapped : {N : ℕ} {bytes : KeyBytes} {a : Arena (Node N)} {x y : ℕ} → AreTwo bytes a x y → AreTwo bytes a y x
+swapped : {bytes : KeyBytes} {a : Arena Node} {x y : ℕ} → AreTwo bytes a x y → AreTwo bytes a y x
 swapped {N} {bytes} {a} {x} {y} two =
     let apart : y ≢ x = λ same. two.apart (sym same) in
     search (rules, two.live_first, two.live_second, two.keyless, two.headed)
 
 -- how many entries both have
-module _ (g : given.Over) (c : After-len g) where
+module _ (c : After-len) where
   left_is : c.len-left.result ≡ length (entries_at c.args.nodes.now c.args.first)
   left_is = c.len-left.ensures.len ∙ ap length (sym (entries_from_header c.args.nodes.now c.args.first _ c.header_ref.ensures.header))
 
@@ -86,14 +85,14 @@ module _ (g : given.Over) (c : After-len g) where
   right_is = c.len.ensures.len ∙ ap length (sym (entries_from_header c.args.nodes.now c.args.second _ c.header_ref-2.ensures.header))
 
 pub header_mut-requires-then-left-half : goal.header_mut-requires-then-left-half
-header_mut-requires-then-left-half g c = record { live = live c.requires.two c.take_out-moved.new.self }
+header_mut-requires-then-left-half c = record { live = live c.requires.two c.take_out-moved.new.self }
 
 pub header_mut-requires-3 : goal.header_mut-requires-3
-header_mut-requires-3 g c = record { live = live (swapped c.requires.two) c.take_out-moved-2.new.self }
+header_mut-requires-3 c = record { live = live (swapped c.requires.two) c.take_out-moved-2.new.self }
 
 pub insert_with_heads-requires : goal.insert_with_heads-requires
-insert_with_heads-requires g c =
-    let s = (goal.at.insert_with_heads-requires g c).After-len in
+insert_with_heads-requires c =
+    let s = (goal.at.insert_with_heads-requires c).After-len in
     let own = headed_still c.requires.two _ header given.headed.left in (
       search rules,
       (
@@ -110,10 +109,10 @@ insert_with_heads-requires g c =
     open c use {header_mut-then-left-half.{ensures.{header}}}
 
 pub insert_with_heads-requires-2 : goal.insert_with_heads-requires-2
-insert_with_heads-requires-2 g c =
+insert_with_heads-requires-2 c =
     let two = swapped c.requires.two in
     let seen = read two _ header in
-    let left_is = left_is g (goal.at.insert_with_heads-requires-2 g c).After-len in
+    let left_is = left_is g (goal.at.insert_with_heads-requires-2 c).After-len in
     let own = headed_still two _ header given.headed.left in (
       search rules,
       (
@@ -129,12 +128,12 @@ insert_with_heads-requires-2 g c =
     open c use {len-left.{ensures as left}, len.{ensures as right}, take_out-moved-2.{ensures as given}, header_mut-3.{ensures.{header}}}
 
 pub returns-then-left-half : goal.returns-then-left-half
-returns-then-left-half g c =
-    let s = (goal.at.returns-then-left-half g c).After-len in
+returns-then-left-half c =
+    let s = (goal.at.returns-then-left-half c).After-len in
     let b = with_header a x u in
     let here = entries_from_header a x _ c.header_mut.ensures.header in
     let there = read two u c.header_mut-then-left-half.ensures.header in
-    let done = moved_right g.row.N c.len-left.result _ (entries_at a x) (entries_at a y) _ _
+    let done = moved_right FAN_OUT c.len-left.result _ (entries_at a x) (entries_at a y) _ _
     (rw (← left_is g s) at many) (left_is g s) (ap (λ n. (c.len-left.result + n) / 2) (right_is g s)) c.if-left-half.true
     (first_is two u v ∙ rw (← here) at given.entries)
     (put_entries b (with_header b y v) y v refl ∙ rw (there, given.taken, ← here) at put.entries) in
@@ -151,13 +150,13 @@ returns-then-left-half g c =
     open c use {insert_with_heads.{new.{self as v}, ensures as put}}
 
 pub returns : goal.returns
-returns g c =
-    let s = (goal.at.returns g c).After-len in
+returns c =
+    let s = (goal.at.returns c).After-len in
     let two = swapped given_two in
     let b = with_header a y u in
     let here = entries_from_header a y _ c.header_mut-2.ensures.header in
     let there = read two u c.header_mut-3.ensures.header in
-    let done = moved_left g.row.N c.len-left.result _ (entries_at a x) (entries_at a y) _ _
+    let done = moved_left FAN_OUT c.len-left.result _ (entries_at a x) (entries_at a y) _ _
     (rw (← left_is g s) at many) (left_is g s) (ap (λ n. (c.len-left.result + n) / 2) (right_is g s)) c.if-left-half.false
     (put_entries b (with_header b x v) x v refl ∙ rw (there, given.taken, ← here) at put.entries)
     (first_is two u v ∙ rw (← here) at given.entries) in

@@ -1,17 +1,16 @@
 use Rattle.std.proofs.Common.{rules, ◌∙◌, sym, refl, Some, arith}
 use Rattle.std.proofs.lemmas.Bool.{leb-true}
-use Rattle.tree.specs.Finding.{CanFind}
-use Rattle.tree.specs.Heads.{HasPrefix, IsTargetHead}
-use Rattle.tree.specs.Node.{entries_of, key_heads_of}
-use Rattle.tree.proofs.Headed.{key_heads_kept}
-use Rattle.tree.proofs.NearBounds.{has_prefix_too, no_more}
-use Rattle.tree.proofs.WrittenLeaf.{none_if}
-use Rattle.tree.proofs.remembered.find_run.Goals.{then-ends_above, else-ends_above, After-head}
-use Rattle.tree.proofs.remembered.find_run.Given as given
-use Rattle.tree.proofs.remembered.find_run.Goals as goal
+use Rattle.boundaries.specs.Finding.{CanFind}
+use Rattle.boundaries.specs.Heads.{HasPrefix, IsTargetHead}
+use Rattle.boundaries.specs.Node.{entries_of, key_heads_of}
+use Rattle.boundaries.proofs.Headed.{key_heads_kept}
+use Rattle.boundaries.proofs.NearBounds.{has_prefix_too, no_more}
+use Rattle.boundaries.proofs.WrittenLeaf.{none_if}
+use Rattle.boundaries.proofs.remembered.find_run.Goals.{then-ends_above, else-ends_above, After-head}
+use Rattle.boundaries.proofs.remembered.find_run.Goals as goal
 
 -- the targets of both bounds begin as all keys do
-module _ (g : given.Over) (c : After-head g) where
+module _ (c : After-head) where
   open c use {args.{leaf.{now as leaf}, new.{now as new}}, requires.{can_find}}
 
   end_head : IsTargetHead (g.Q.Bound.bytes new.to.now) (key_heads_of leaf) (g.Q.Bound.target new.to.now) c.head-end_head.result
@@ -45,17 +44,17 @@ module _ (g : given.Over) (c : After-head g) where
   }
 
 pub lower_bound_back-begin-requires : goal.lower_bound_back-begin-requires
-lower_bound_back-begin-requires g c =
-    let h = (goal.at.lower_bound_back-begin-requires g c).After-head in
+lower_bound_back-begin-requires c =
+    let h = (goal.at.lower_bound_back-begin-requires c).After-head in
     let more = no_more _ _ c.args.new.now.nested (entries_of c.args.leaf.now) in
     (omega (arith, c.requires.can_find.few), (from_known g h, (begin_head g h, (c.lower_bound_by_head-end.ensures.count.within, omega arith))))
 
 pub overflow_sub-end : goal.overflow_sub-end
-overflow_sub-end g c = omega (arith, no_more _ _ c.args.new.now.nested (entries_of c.args.leaf.now))
+overflow_sub-end c = omega (arith, no_more _ _ c.args.new.now.nested (entries_of c.args.leaf.now))
 
 pub returns : goal.returns
-returns g c =
-    let h = (goal.at.returns g c).After-head in
+returns c =
+    let h = (goal.at.returns c).After-head in
     let more = no_more _ _ c.args.new.now.nested (entries_of c.args.leaf.now) in
     record {
       run = record {

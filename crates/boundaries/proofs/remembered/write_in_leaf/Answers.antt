@@ -1,23 +1,22 @@
 use Rattle.std.proofs.Common.{rules, ◌-◌, ◌≡◌, ◌∙◌, inl, ap, sym, None, ◌++◌, ◌∷◌, get_or, length, length-append, w64, take, drop, map, arith, unwrap_or}
 use Rattle.std.proofs.lemmas.Int.{ints, to_z-of_z}
 use Rattle.std.proofs.lemmas.List.{length-drop, length-map, length-take-le}
-use Rattle.tree.specs.Item.{item_of}
-use Rattle.tree.specs.Node.{entries_of}
-use Rattle.tree.specs.EntryRun.{CanFindRun}
-use Rattle.tree.specs.Subtree.{entries_at}
-use Rattle.tree.specs.Tree.{ended_by}
-use Rattle.tree.proofs.Headed.{headed_at}
-use Rattle.tree.proofs.Leaves.{entries_of_partitioned}
-use Rattle.tree.proofs.Placing.{entries_from_header}
-use Rattle.tree.proofs.RunWritten.{last_read, taken_out, entire_run}
-use Rattle.tree.proofs.WrittenLeaf.{some_item, items_parted, ended_in_leaf}
-use Rattle.tree.proofs.LeafChange.{parted}
-use Rattle.tree.proofs.remembered.write_in_leaf.Goals.{After-header_ref-node}
-use Rattle.tree.proofs.remembered.write_in_leaf.Given as given
-use Rattle.tree.proofs.remembered.write_in_leaf.Goals as goal
+use Rattle.boundaries.specs.Item.{item_of}
+use Rattle.boundaries.specs.Node.{entries_of}
+use Rattle.boundaries.specs.EntryRun.{CanFindRun}
+use Rattle.boundaries.specs.Subtree.{entries_at}
+use Rattle.boundaries.specs.Tree.{ended_by}
+use Rattle.boundaries.proofs.Headed.{headed_at}
+use Rattle.boundaries.proofs.Leaves.{entries_of_partitioned}
+use Rattle.boundaries.proofs.Placing.{entries_from_header}
+use Rattle.boundaries.proofs.RunWritten.{last_read, taken_out, entire_run}
+use Rattle.boundaries.proofs.WrittenLeaf.{some_item, items_parted, ended_in_leaf}
+use Rattle.boundaries.proofs.LeafChange.{parted}
+use Rattle.boundaries.proofs.remembered.write_in_leaf.Goals.{After-header_ref-node}
+use Rattle.boundaries.proofs.remembered.write_in_leaf.Goals as goal
 
 -- the entries of the leaf, among which the run is sought
-module _ (g : given.Over) (c : After-header_ref-node g) where
+module _ (c : After-header_ref-node) where
   read : entries_at c.args.nodes.now c.args.leaf.slot ≡ entries_of c.header_ref-node.result.now
   read = entries_from_header c.args.nodes.now c.args.leaf.slot _ c.header_ref-node.ensures.header
 
@@ -37,12 +36,12 @@ module _ (g : given.Over) (c : After-header_ref-node g) where
       }
 
 pub find_run-requires : goal.find_run-requires
-find_run-requires g c =
-    (omega (arith, c.requires.can_write.few), can_find g (goal.at.find_run-requires g c).After-header_ref-node)
+find_run-requires c =
+    (omega (arith, c.requires.can_write.few), can_find g (goal.at.find_run-requires c).After-header_ref-node)
 
 pub returns : goal.returns
-returns g c =
-    let h = (goal.at.returns g c).After-header_ref-node in
+returns c =
+    let h = (goal.at.returns c).After-header_ref-node in
     let can = can_find g h in
     let new = c.args.new.now in
     let p = g.P.Bound.below new.from.now in

@@ -1,17 +1,17 @@
 use Rattle.std.proofs.Common.{rules, refl, ◌∙◌, arith}
-use Rattle.tree.specs.Tree.{least_of}
-use Rattle.tree.proofs.Rebalancing.{live_subtree}
-use Rattle.tree.proofs.RaisedLeaves.{raised_tree, root_can}
-use Rattle.tree.proofs.root.change.Goals as goal
+use Rattle.boundaries.specs.Tree.{least_of}
+use Rattle.boundaries.proofs.Rebalancing.{live_subtree}
+use Rattle.boundaries.proofs.RaisedLeaves.{raised_tree, root_can}
+use Rattle.boundaries.proofs.root.change.Goals as goal
 
 pub common_prefix_len_at-requires : goal.common_prefix_len_at-requires
-common_prefix_len_at-requires g c =
+common_prefix_len_at-requires c =
     let can = c.requires.can_change in
-    let live = live_subtree _ (least_of g.row.N) c.args.root.now.height c.args.root.now.slot can.changeable.rooted.subtree in
+    let live = live_subtree _ (least_of FAN_OUT) c.args.root.now.height c.args.root.now.slot can.changeable.rooted.subtree in
     (search rules, (live, (can.changeable.some, rw c.leaf_bound.ensures.leaf_bound can.headed)))
 
 pub change_leaf-requires : goal.change_leaf-requires
-change_leaf-requires g c =
+change_leaf-requires c =
     let can = c.requires.can_change in
     let tree = can.changeable in
     let known = rw c.leaf_bound.ensures.leaf_bound at c.common_prefix_len_at.ensures.known in (
@@ -28,7 +28,7 @@ change_leaf-requires g c =
     )
 
 pub grow-requires : goal.grow-requires
-grow-requires g c =
+grow-requires c =
     let can = c.requires.can_change.changeable in
     let put = c.in-Split.ensures.changed in (
       search rules,
@@ -48,7 +48,7 @@ grow-requires g c =
     )
 
 pub shrink-requires : goal.shrink-requires
-shrink-requires g c =
+shrink-requires c =
     let put = c.in-Changed.ensures.changed in (
       search rules,
       record {
@@ -60,7 +60,7 @@ shrink-requires g c =
     )
 
 pub returns-in-Split : goal.returns-in-Split
-returns-in-Split g c =
+returns-in-Split c =
     let tree = c.grow.ensures.tree in
     record {
       items = rw c.grow.ensures.items c.in-Split.ensures.items;
@@ -73,7 +73,7 @@ returns-in-Split g c =
     }
 
 pub returns-in-Changed : goal.returns-in-Changed
-returns-in-Changed g c =
+returns-in-Changed c =
     let tree = c.shrink.ensures.tree _ c.in-Changed.ensures.changed.headed in
     record {
       items = rw c.shrink.ensures.items c.in-Changed.ensures.items;
@@ -86,7 +86,7 @@ returns-in-Changed g c =
     }
 
 pub returns-in-Same : goal.returns-in-Same
-returns-in-Same g c =
+returns-in-Same c =
     let put = c.in-Same.ensures.changed in
     let can = c.requires.can_change.changeable in
     record {
@@ -100,7 +100,7 @@ returns-in-Same g c =
     }
 
 pub returns-in-Raised : goal.returns-in-Raised
-returns-in-Raised g c = record {
+returns-in-Raised c = record {
   items = c.in-Raised.ensures.items;
   tree = raised_tree _ c.requires.can_change.changeable.rooted c.in-Raised.ensures.changed;
 }

@@ -2,20 +2,20 @@ use Rattle.std.proofs.Common.{arith, add-one, rules, ◌≡◌, List, [], ◌∷
 use Rattle.std.specs.List.{All}
 use Rattle.std.proofs.lemmas.List.{append-nil}
 use Rattle.std.proofs.lemmas.List.Elements.{All-nil, All-cons}
-use Rattle.tree.specs.declared.entry.NodeEntry.{NodeEntry}
-use Rattle.tree.specs.Heads.{IsKnown}
-use Rattle.tree.specs.Node.{entries_of, keys_of}
-use Rattle.tree.specs.Subtree.{slots_in}
-use Rattle.tree.specs.Children.{slots_of}
-use Rattle.tree.specs.Tree.{least_of}
-use Rattle.tree.proofs.Changing.{moves_if_changes}
-use Rattle.tree.proofs.Replacing.{both_right}
-use Rattle.tree.proofs.Rooting.{grown}
-use Rattle.tree.proofs.root.grow.Goals as goal
+use Rattle.boundaries.specs.declared.entry.NodeEntry.{NodeEntry}
+use Rattle.boundaries.specs.Heads.{IsKnown}
+use Rattle.boundaries.specs.Node.{entries_of, keys_of}
+use Rattle.boundaries.specs.Subtree.{slots_in}
+use Rattle.boundaries.specs.Children.{slots_of}
+use Rattle.boundaries.specs.Tree.{least_of}
+use Rattle.boundaries.proofs.Changing.{moves_if_changes}
+use Rattle.boundaries.proofs.Replacing.{both_right}
+use Rattle.boundaries.proofs.Rooting.{grown}
+use Rattle.boundaries.proofs.root.grow.Goals as goal
 
 pub compute_heads-requires : goal.compute_heads-requires
-compute_heads-requires g c =
-    let bytes = g.P.Bound.bytes c.args.bound.now in
+compute_heads-requires c =
+    let bytes = key_at c.args.keys.now in
     let first = c.entry_for.result in
     let second = c.entry_for-2.result in
     let es : List NodeEntry = first ∷ second ∷ [] in
@@ -27,7 +27,7 @@ compute_heads-requires g c =
     (search rules, rw node known)
 
 pub returns : goal.returns
-returns g c =
+returns c =
     let a = c.args.nodes.now in
     let h = c.args.root.height in
     let first = c.entry_for in
@@ -36,7 +36,7 @@ returns g c =
     let es : List NodeEntry = first.result ∷ second.result ∷ [] in
     let node : entries_of c.compute_heads.new.self ≡ es =
     c.compute_heads.ensures.entries ∙ (rw c.of-node.ensures.entries at c.splice.ensures.entries) in
-    let right = both_right a (least_of g.row.N) h c.args.root.slot c.args.added first.result second.result first.ensures.child
+    let right = both_right a (least_of FAN_OUT) h c.args.root.slot c.args.added first.result second.result first.ensures.child
     second.ensures.child can.first can.second can.filled first.ensures.describes second.ensures.describes in
     let slots : slots_of a h es ≡ slots_in a h c.args.root.slot ++ slots_in a h c.args.added =
     simp (first.ensures.child, second.ensures.child, append-nil) in
@@ -48,7 +48,7 @@ returns g c =
       tree = record {
         rooted = rw add-one root.1;
         spare = c.place.ensures.placed.changes.spare;
-        headed = c.place.ensures.placed.headed (g.P.Bound.bytes c.args.bound.now) c.compute_heads.ensures.headed can.headed;
+        headed = c.place.ensures.placed.headed (key_at c.args.keys.now) c.compute_heads.ensures.headed can.headed;
         raised_is = tt;
       };
     }

@@ -1,30 +1,30 @@
 use Rattle.std.proofs.Common.{◌<◌, rules, ◌≡◌, ◌∙◌, length, filter, take, drop, map, ◌++◌, None, sym, ap, refl, arith}
 use Rattle.std.specs.Prelude.{not}
 use Rattle.std.proofs.Math.Seq.{drop-append_seam, take-append_seam}
-use Rattle.tree.proofs.Words.{Item, following, after_leaf, first_key, item_of, items_in}
-use Rattle.tree.specs.declared.entry.NodeEntry.{NodeEntry}
-use Rattle.tree.specs.Node.{entries_of}
-use Rattle.tree.specs.Subtree.{entries_at}
-use Rattle.tree.proofs.Found.{entries_read}
-use Rattle.tree.proofs.Headed.{headed_at}
-use Rattle.tree.proofs.Keys.{following-parts, filter-items, first_key-append}
-use Rattle.tree.proofs.Leaves.{IsLeaf, last_passing}
-use Rattle.tree.proofs.root.last_and_next.Goals as goal
+use Rattle.boundaries.proofs.Words.{Item, following, after_leaf, first_key, item_of, items_in}
+use Rattle.boundaries.specs.declared.entry.NodeEntry.{NodeEntry}
+use Rattle.boundaries.specs.Node.{entries_of}
+use Rattle.boundaries.specs.Subtree.{entries_at}
+use Rattle.boundaries.proofs.Found.{entries_read}
+use Rattle.boundaries.proofs.Headed.{headed_at}
+use Rattle.boundaries.proofs.Keys.{following-parts, filter-items, first_key-append}
+use Rattle.boundaries.proofs.Leaves.{IsLeaf, last_passing}
+use Rattle.boundaries.proofs.root.last_and_next.Goals as goal
 
 pub lower_bound-count-requires : goal.lower_bound-count-requires
-lower_bound-count-requires g c =
+lower_bound-count-requires c =
     let found = c.reach-reached.ensures.reached in
     let header = c.header_ref-leaf.result.now in
     let h = c.header_ref-leaf.ensures.header in
     let read = entries_read c.args.nodes.now c.reach-reached.result.leaf header (entries_of header) h refl in
     let some = rw read at found.some in
     let positive : 0 < length (entries_of header) = omega (arith, some) in
-    let headed = headed_at (g.P.Bound.bytes c.args.bound.now) c.args.nodes.now _ header c.requires.can_reach.headed h in
+    let headed = headed_at (key_at c.args.keys.now) c.args.nodes.now _ header c.requires.can_reach.headed h in
     search (rules, headed, rw read at found.partitioned, positive, rw read at found.knows)
 
 pub returns : goal.returns
-returns g c =
-    let is_below = g.P.Bound.below c.args.bound.now in
+returns c =
+    let is_below = is_below c.args.keys.now c.args.bound in
     let nodes = c.args.nodes.now in
     let found = c.reach-reached.ensures.reached in
     let es = entries_at nodes c.reach-reached.result.leaf in

@@ -1,18 +1,17 @@
 use Rattle.std.proofs.Common.{rules, ℕ, Bool, true, ◌≡◌, ◌∙◌, [], None, refl, ap, subst, append-nil, arith}
-use Rattle.tree.specs.declared.walk.LeafOutcome.TheVariants.{Raised}
-use Rattle.tree.specs.Item.{item_of}
-use Rattle.tree.specs.Overwrite.{IsPartOfPartitioned}
-use Rattle.tree.specs.Subtree.{items_in}
-use Rattle.tree.specs.Walk.{CanChange, IsChanged, IsRaisedAt, IsRaisedIn}
-use Rattle.tree.proofs.ChangedLeaf.{leaf_stored}
-use Rattle.tree.proofs.RaisedLeaves.{part_of_raised, raised_tree, root_can, within_raised, written}
-use Rattle.tree.proofs.WrittenLeaf.{part_partitioned, raised}
-use Rattle.tree.proofs.root.overwrite.Goals.{In-Some, In-Some-write_in_leaf, in-Some+in_default-write_in_leaf, in_default}
-use Rattle.tree.proofs.root.overwrite.Given as given
-use Rattle.tree.proofs.root.overwrite.Goals as goal
+use Rattle.boundaries.specs.declared.walk.LeafOutcome.TheVariants.{Raised}
+use Rattle.boundaries.specs.Item.{item_of}
+use Rattle.boundaries.specs.Overwrite.{IsPartOfPartitioned}
+use Rattle.boundaries.specs.Subtree.{items_in}
+use Rattle.boundaries.specs.Walk.{CanChange, IsChanged, IsRaisedAt, IsRaisedIn}
+use Rattle.boundaries.proofs.ChangedLeaf.{leaf_stored}
+use Rattle.boundaries.proofs.RaisedLeaves.{part_of_raised, raised_tree, root_can, within_raised, written}
+use Rattle.boundaries.proofs.WrittenLeaf.{part_partitioned, raised}
+use Rattle.boundaries.proofs.root.overwrite.Goals.{In-Some, In-Some-write_in_leaf, in-Some+in_default-write_in_leaf, in_default}
+use Rattle.boundaries.proofs.root.overwrite.Goals as goal
 
 -- the leaf of the last write, in the tree as it is
-module _ (g : given.Over) (c : In-Some g) where
+module _ (c : In-Some) where
   open c use {args.{nodes.{now as nodes}, root.{now as root}, new.{now as new}}, requires.{can_change}, in-Some.{leaf}}
 
   abbrev p : ℕ → Bool
@@ -32,8 +31,8 @@ module _ (g : given.Over) (c : In-Some g) where
       part_of_raised leaf q root.height root.slot (root_can can_change.changeable) there ([], [], rw append-nil can_change.partitioned)
 
 pub write_in_leaf-requires : goal.write_in_leaf-requires
-write_in_leaf-requires g c =
-    let h = (goal.at.write_in_leaf-requires g c).In-Some in
+write_in_leaf-requires c =
+    let h = (goal.at.write_in_leaf-requires c).In-Some in
     let can = (first_part g h).0 in (
       search rules,
       (
@@ -54,10 +53,10 @@ write_in_leaf-requires g c =
     )
 
 -- the leaf once the run was written over
-changed : (g : given.Over) (c : In-Some-write_in_leaf g) → IsChanged (g.Q.Bound.bytes c.args.new.now.to.now) c.args.nodes.now
+changed : (c : In-Some-write_in_leaf) → IsChanged (g.Q.Bound.bytes c.args.new.now.to.now) c.args.nodes.now
     c.write_in_leaf.new.nodes 0 c.in-Some.leaf.slot (Raised c.in-Some.leaf)
-changed g c =
-    let h = (goal.at.In-Some-write_in_leaf g c).In-Some in
+changed c =
+    let h = (goal.at.In-Some-write_in_leaf c).In-Some in
     let leaf = c.in-Some.leaf in
     let new = c.args.new.now in
     let done = c.in-Some-write_in_leaf.ensures.written in
@@ -73,23 +72,23 @@ changed g c =
     (λ other is. subst (IsRaisedAt c.args.nodes.now c.write_in_leaf.new.nodes 0 leaf.slot) (let same : leaf ≡ other = cc in same) answered)
 
 pub returns-in-Some-write_in_leaf-clause-items : goal.returns-in-Some-write_in_leaf-clause-items
-returns-in-Some-write_in_leaf-clause-items g c =
-    let at = goal.at.returns-in-Some-write_in_leaf-clause-items g c in
+returns-in-Some-write_in_leaf-clause-items c =
+    let at = goal.at.returns-in-Some-write_in_leaf-clause-items c in
     let done = (c.in-Some-write_in_leaf.ensures.written).1 in
     within_raised c.in-Some.leaf (changed g at.In-Some-write_in_leaf) (q g at.In-Some) _ _ _
     (root_can c.requires.can_change.changeable) (there g at.In-Some) c.requires.can_change.partitioned (done.gives true None).some
     done.some_after done.gives
 
 pub returns-in-Some-write_in_leaf-clause-tree : goal.returns-in-Some-write_in_leaf-clause-tree
-returns-in-Some-write_in_leaf-clause-tree g c =
-    let at = goal.at.returns-in-Some-write_in_leaf-clause-tree g c in
+returns-in-Some-write_in_leaf-clause-tree c =
+    let at = goal.at.returns-in-Some-write_in_leaf-clause-tree c in
     let can = c.requires.can_change.changeable in
     rw c.in-Some.is (raised_tree c.in-Some.leaf can.rooted (written c.in-Some.leaf (changed g at.In-Some-write_in_leaf) _ _
     (root_can can) (there g at.In-Some)).changed)
 
 -- Where no run was written over, all is as it was.
 pub change-requires : goal.change-requires
-change-requires g c =
+change-requires c =
     let kept : (c.match-raised.nodes ≡ c.args.nodes.now) × (c.match-raised.taken.items ≡ c.args.taken.now.items) =
     elim c.match-raised.branch [
       | in-Some+in_default-write_in_leaf w ↦

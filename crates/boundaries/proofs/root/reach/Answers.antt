@@ -1,11 +1,11 @@
 use Rattle.std.proofs.Common.{refl, rules}
-use Rattle.tree.proofs.Leaves.{is_leaf, leaf_partitioned_by_keys}
-use Rattle.tree.proofs.Reaching.{found_leaf_in}
-use Rattle.tree.proofs.root.reach.Goals as goal
+use Rattle.boundaries.proofs.Leaves.{is_leaf, leaf_partitioned_by_keys}
+use Rattle.boundaries.proofs.Reaching.{found_leaf_in}
+use Rattle.boundaries.proofs.root.reach.Goals as goal
 
 pub returns : goal.returns
-returns g c =
-    let is_below = g.P.Bound.below c.args.bound.now in
+returns c =
+    let is_below = is_below c.args.keys.now c.args.bound in
     let can = c.requires.can_reach in
     let way = c.find.ensures.leaf in
     let found = rw (← way) at (found_leaf_in _ _ c.args.root.height c.args.root.slot is_below can.subtree can.partitioned) in

@@ -1,14 +1,14 @@
 use Rattle.std.proofs.Common.{arith, ◌≡◌, suc, ◌-◌, ◌∙◌, ap, length, get_or}
-use Rattle.tree.specs.Subtree.{items_in}
-use Rattle.tree.proofs.Changing.{moves_released}
-use Rattle.tree.proofs.Found.{entries_read}
-use Rattle.tree.proofs.Headed.{headed_released}
-use Rattle.tree.proofs.Placing.{released_spare}
-use Rattle.tree.proofs.Rooting.{only_one, shrunk}
-use Rattle.tree.proofs.root.shrink.Goals as goal
+use Rattle.boundaries.specs.Subtree.{items_in}
+use Rattle.boundaries.proofs.Changing.{moves_released}
+use Rattle.boundaries.proofs.Found.{entries_read}
+use Rattle.boundaries.proofs.Headed.{headed_released}
+use Rattle.boundaries.proofs.Placing.{released_spare}
+use Rattle.boundaries.proofs.Rooting.{only_one, shrunk}
+use Rattle.boundaries.proofs.root.shrink.Goals as goal
 
 pub returns : goal.returns
-returns g c =
+returns c =
     let a = c.args.nodes.now in
     let b = c.release.new.self in
     let slot = c.args.root.slot in

@@ -2,22 +2,21 @@ use Rattle.std.proofs.Common.{rules, ◌≡◌, ◌≤◌, ◌∙◌, ap, refl, 
 use Rattle.std.specs.List.{All}
 use Rattle.std.proofs.lemmas.Int.{to_z-of_z}
 use Rattle.std.proofs.lemmas.List.{length-take-le, map-append}
-use Rattle.tree.specs.declared.entry.NodeEntry.{NodeEntry}
-use Rattle.tree.specs.Heads.{KeyBytes, AreHeadsBeside, IsHeadBeside, IsKnown}
-use Rattle.tree.specs.Item.{item_of}
-use Rattle.tree.specs.Node.{key_heads_of, keys_of}
-use Rattle.tree.specs.Tree.{ended_by}
-use Rattle.tree.proofs.ChangedLeaf.{put_stored}
-use Rattle.tree.proofs.Headed.{headed_at}
-use Rattle.tree.proofs.NearBounds.{both_put, both_zipped, key_beside}
-use Rattle.tree.proofs.Overwriting.{entries_put, at_most_two, items_put}
-use Rattle.tree.proofs.Placing.{entries_from_header, put_entries}
-use Rattle.tree.proofs.run.write_run.Goals.{Joined-is_some, then-run, else-run, then-is_some, else-is_some}
-use Rattle.tree.proofs.run.write_run.Given as given
-use Rattle.tree.proofs.run.write_run.Goals as goal
+use Rattle.boundaries.specs.declared.entry.NodeEntry.{NodeEntry}
+use Rattle.boundaries.specs.Heads.{KeyBytes, AreHeadsBeside, IsHeadBeside, IsKnown}
+use Rattle.boundaries.specs.Item.{item_of}
+use Rattle.boundaries.specs.Node.{key_heads_of, keys_of}
+use Rattle.boundaries.specs.Tree.{ended_by}
+use Rattle.boundaries.proofs.ChangedLeaf.{put_stored}
+use Rattle.boundaries.proofs.Headed.{headed_at}
+use Rattle.boundaries.proofs.NearBounds.{both_put, both_zipped, key_beside}
+use Rattle.boundaries.proofs.Overwriting.{entries_put, at_most_two, items_put}
+use Rattle.boundaries.proofs.Placing.{entries_from_header, put_entries}
+use Rattle.boundaries.proofs.run.write_run.Goals.{Joined-is_some, then-run, else-run, then-is_some, else-is_some}
+use Rattle.boundaries.proofs.run.write_run.Goals as goal
 
 -- what comes in place of the run
-module _ (g : given.Over) (c : Joined-is_some g) where
+module _ (c : Joined-is_some) where
   open c use {args.{new.{now as new}, run}, requires.{can_write}, if-run.{entries.{now as put}}, item.{result as other}}
 
   abbrev bytes : KeyBytes
@@ -70,8 +69,8 @@ module _ (g : given.Over) (c : Joined-is_some g) where
       (items_put run.ended new.first other _ (map item_of (drop run.end es)) second))
 
 pub split-requires : goal.split-requires
-split-requires g c =
-    let j = (goal.at.split-requires g c).Joined-is_some in
+split-requires c =
+    let j = (goal.at.split-requires c).Joined-is_some in
     let can = c.requires.can_write in
     let there = ap length (entries_from_header c.args.nodes.now c.args.slot _ can.there) in
     let read = ap length (entries_from_header c.args.nodes.now c.args.slot _ c.header_ref.ensures.header) in (
@@ -93,13 +92,13 @@ split-requires g c =
     )
 
 pub returns-then-begin-entries-clause-written : goal.returns-then-begin-entries-clause-written
-returns-then-begin-entries-clause-written g c =
-    let j = (goal.at.returns-then-begin-entries-clause-written g c).Joined-is_some in
+returns-then-begin-entries-clause-written c =
+    let j = (goal.at.returns-then-begin-entries-clause-written c).Joined-is_some in
     rw (← map-append item_of) (written g j _ _ c.split.ensures.entries)
 
 pub splice_with_heads-requires : goal.splice_with_heads-requires
-splice_with_heads-requires g c =
-    let j = (goal.at.splice_with_heads-requires g c).Joined-is_some in
+splice_with_heads-requires c =
+    let j = (goal.at.splice_with_heads-requires c).Joined-is_some in
     let can = c.requires.can_write in
     let same : c.header_mut.result.now ≡ can.leaf = cc (can.there) in
     let read : c.header_ref.result.now ≡ c.header_mut.result.now = cc in
@@ -119,13 +118,13 @@ splice_with_heads-requires g c =
     )
 
 pub returns-clause-written : goal.returns-clause-written
-returns-clause-written g c =
-    let j = (goal.at.returns-clause-written g c).Joined-is_some in
+returns-clause-written c =
+    let j = (goal.at.returns-clause-written c).Joined-is_some in
     let put = put_entries c.args.nodes.now _ c.args.slot c.splice_with_heads.new.self refl in
     let read = entries_from_header c.args.nodes.now c.args.slot _ c.header_mut.ensures.header in
     written g j _ _ (put ∙ (rw (← read) at c.splice_with_heads.ensures.entries))
 
 pub returns-clause-stored : goal.returns-clause-stored
-returns-clause-stored g c =
+returns-clause-stored c =
     let can = c.requires.can_write in
     put_stored c.args.nodes.now c.args.slot _ (search rules) can.keyless can.headed c.splice_with_heads.ensures.headed

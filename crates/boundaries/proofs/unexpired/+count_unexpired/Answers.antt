@@ -1,12 +1,11 @@
 use Rattle.std.proofs.Common.{rules, w64, ◌≡◌, ℕ, ◌+◌, ◌-◌, ◌*◌, ◌<◌, ◌≤◌, ◌^◌, ◌++◌, List, drop, length, sym, ap, ap₂, subst, ◌∙◌, arith, get_or}
 use Rattle.std.proofs.lemmas.Int.{to_z-of_z}
 use Rattle.std.proofs.lemmas.List.{length-append}
-use Rattle.tree.proofs.Words.{NodeEntry, Item, IsCounted, items_from, entries_at, least_of}
-use Rattle.tree.proofs.Placing.{entries_from_header}
-use Rattle.tree.proofs.StillCounted.{both_counted, fewer_counted, items_of_root, next_items, children_are, steps_down}
-use Rattle.tree.proofs.unexpired.+count_unexpired.Given.{Over}
-use Rattle.tree.proofs.unexpired.+count_unexpired.Goals as goal
-use Rattle.tree.proofs.unexpired.+count_unexpired.Goals.{After-index-entries-index}
+use Rattle.boundaries.proofs.Words.{NodeEntry, Item, IsCounted, items_from, entries_at, least_of}
+use Rattle.boundaries.proofs.Placing.{entries_from_header}
+use Rattle.boundaries.proofs.StillCounted.{both_counted, fewer_counted, items_of_root, next_items, children_are, steps_down}
+use Rattle.boundaries.proofs.unexpired.+count_unexpired.Goals as goal
+use Rattle.boundaries.proofs.unexpired.+count_unexpired.Goals.{After-index-entries-index}
 
 module _ (g : Over) (t : ℕ) (c : After-index-entries-index g t) where
   -- the entries that were read
@@ -41,17 +40,17 @@ module _ (g : Over) (t : ℕ) (c : After-index-entries-index g t) where
 pub count_unexpired-counted-requires : goal.count_unexpired-counted-requires
 count_unexpired-counted-requires g t c κs within =
     let at = (goal.at.count_unexpired-counted-requires g t c).After-index-entries-index in
-    let children = children_are {N = g.row.N} c.args.nodes.now (least_of g.row.N) c.args.height c.args.slot c.if-height-eq0.false c.requires.subtree in
+    let children = children_are {N = FAN_OUT} c.args.nodes.now (least_of FAN_OUT) c.args.height c.args.slot c.if-height-eq0.false c.requires.subtree in
     let child = (rw (read g t at) at children) c.args.index c.index-entries-index.result (inside g t at) in
-    let down = steps_down c.args.height g.row.N c.args.index c.if-height-eq0.false in
-    let falls : (c.args.height - 1) * (g.row.N + 1) + (g.row.N - 0) < t = omega (arith, down) in
+    let down = steps_down c.args.height FAN_OUT c.args.index c.if-height-eq0.false in
+    let falls : (c.args.height - 1) * (FAN_OUT + 1) + (FAN_OUT - 0) < t = omega (arith, down) in
     let enough : c.args.before.count + length (below g t at) < 2 ^ 64 = omega (arith, few g t at) in
     search (rules, falls, child.subtree, enough)
 
 pub count_unexpired-requires : goal.count_unexpired-requires
 count_unexpired-requires g t c κs within =
     let at = (goal.at.count_unexpired-requires g t c).After-index-entries-index in
-    let falls : c.args.height * (g.row.N + 1) + (g.row.N - (c.args.index + 1)) < t =
+    let falls : c.args.height * (FAN_OUT + 1) + (FAN_OUT - (c.args.index + 1)) < t =
     omega (arith, inside g t at, c.entries-entries.ensures.most, ap length c.entries-entries.ensures.entries) in
     let inside_too : c.args.index + 1 ≤ length (entries_at c.args.nodes.now c.args.slot) = omega (arith, inside g t at, ap length (read g t at)) in
     let fewer = fewer_counted _ c.args.before c.count_unexpired-counted.result (below g t at) c.count_unexpired-counted.ensures.counted in

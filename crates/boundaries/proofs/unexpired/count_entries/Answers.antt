@@ -1,9 +1,9 @@
 use Rattle.std.proofs.Common.{rules, w64, ◌∷◌, ◌+◌, [], map, drop, arith}
 use Rattle.std.proofs.lemmas.Int.{to_z-of_z}
 use Rattle.std.proofs.lemmas.List.{drop_all, length-map, length-drop}
-use Rattle.tree.proofs.Words.{item_of}
-use Rattle.tree.proofs.StillCounted.{none_counted, more_counted, all_counted, next_entry}
-use Rattle.tree.proofs.unexpired.count_entries.Goals as goal
+use Rattle.boundaries.proofs.Words.{item_of}
+use Rattle.boundaries.proofs.StillCounted.{none_counted, more_counted, all_counted, next_entry}
+use Rattle.boundaries.proofs.unexpired.count_entries.Goals as goal
 
 pub loop-entry-init : goal.loop-entry-init
 loop-entry-init c = none_counted _ _ _

@@ -1,7 +1,7 @@
 use Rattle.std.proofs.Common.{drop, map}
-use Rattle.tree.proofs.Words.{item_of}
-use Rattle.tree.proofs.StillCounted.{IsStillCounted}
-use Rattle.tree.proofs.unexpired.count_entries.Given as goal
+use Rattle.boundaries.proofs.Words.{item_of}
+use Rattle.boundaries.proofs.StillCounted.{IsStillCounted}
+use Rattle.boundaries.proofs.unexpired.count_entries.Given as goal
 
 abbrev pub invariant-loop-entry : goal.invariant-loop-entry
 invariant-loop-entry l =

@@ -1,26 +1,25 @@
 use Rattle.std.proofs.Common.{◌≡◌, ◌+◌, ◌-◌, ℕ, suc, inl, inr, None, Bool, List, Option, length, get_or, take, drop, refl, sym, ap, ◌∙◌, arith, rules}
-use Rattle.tree.specs.declared.entry.NodeEntry.{NodeEntry}
-use Rattle.tree.specs.Item.{Item}
-use Rattle.tree.specs.Node.{entries_of}
-use Rattle.tree.specs.Path.{index_in}
-use Rattle.tree.specs.Subtree.{entries_at, items_in}
-use Rattle.tree.specs.declared.walk.LeafOutcome.TheVariants.{Same, Raised, Changed, Split}
-use Rattle.tree.specs.declared.walk.RaisedLeaf.{RaisedLeaf}
-use Rattle.tree.specs.Tree.{least_of}
-use Rattle.tree.specs.Children.{items_of}
-use Rattle.tree.specs.Walk.{CanChangeLeaf, IsChangedWithin, added_by}
-use Rattle.tree.proofs.callers.Times.{once_if_distinct}
-use Rattle.tree.proofs.ChangedLeaf.{unchanged}
-use Rattle.tree.proofs.FirstKeys.{known_below}
-use Rattle.tree.proofs.Headed.{headed_at}
-use Rattle.tree.proofs.Placing.{entries_from_header}
-use Rattle.tree.proofs.Found.{read_partitioned, found, found_partitioned}
-use Rattle.tree.proofs.Stepping.{IsAt, around, child_can, items_split}
-use Rattle.tree.proofs.Walking.{first_if, within_at}
-use Rattle.tree.proofs.Walked.{within_leaf, can_rebalance, can_insert, child_filled, family, raised_below, describes_written, step_rebalanced, changed_above, step_linked, linked_above}
-use Rattle.tree.proofs.walk.+change_leaf.Given.{Over}
-use Rattle.tree.proofs.walk.+change_leaf.Goals as goal
-use Rattle.tree.proofs.walk.+change_leaf.Goals.{After-index-entries-step, After-change_leaf, After-raise_entry, After-rebalance_child}
+use Rattle.boundaries.specs.declared.entry.NodeEntry.{NodeEntry}
+use Rattle.boundaries.specs.Item.{Item}
+use Rattle.boundaries.specs.Node.{entries_of}
+use Rattle.boundaries.specs.Path.{index_in}
+use Rattle.boundaries.specs.Subtree.{entries_at, items_in}
+use Rattle.boundaries.specs.declared.walk.LeafOutcome.TheVariants.{Same, Raised, Changed, Split}
+use Rattle.boundaries.specs.declared.walk.RaisedLeaf.{RaisedLeaf}
+use Rattle.boundaries.specs.Tree.{least_of}
+use Rattle.boundaries.specs.Children.{items_of}
+use Rattle.boundaries.specs.Walk.{CanChangeLeaf, IsChangedWithin, added_by}
+use Rattle.boundaries.proofs.callers.Times.{once_if_distinct}
+use Rattle.boundaries.proofs.ChangedLeaf.{unchanged}
+use Rattle.boundaries.proofs.FirstKeys.{known_below}
+use Rattle.boundaries.proofs.Headed.{headed_at}
+use Rattle.boundaries.proofs.Placing.{entries_from_header}
+use Rattle.boundaries.proofs.Found.{read_partitioned, found, found_partitioned}
+use Rattle.boundaries.proofs.Stepping.{IsAt, around, child_can, items_split}
+use Rattle.boundaries.proofs.Walking.{first_if, within_at}
+use Rattle.boundaries.proofs.Walked.{within_leaf, can_rebalance, can_insert, child_filled, family, raised_below, describes_written, step_rebalanced, changed_above, step_linked, linked_above}
+use Rattle.boundaries.proofs.walk.+change_leaf.Goals as goal
+use Rattle.boundaries.proofs.walk.+change_leaf.Goals.{After-index-entries-step, After-change_leaf, After-raise_entry, After-rebalance_child}
 
 pub change-requires : goal.change-requires
 change-requires g t c = (search rules, (search rules, rw c.if-height-eq0.true at c.requires.can_change))
@@ -39,7 +38,7 @@ step-step-requires g t c =
     let node = c.header_ref-node.result.now in
     let header = c.header_ref-node.ensures.header in
     let read = entries_from_header a c.args.slot node header in
-    let partitioned = read_partitioned a (least_of g.row.N) c.args.height c.args.slot _ node _ c.if-height-eq0.false
+    let partitioned = read_partitioned a (least_of FAN_OUT) c.args.height c.args.slot _ node _ c.if-height-eq0.false
     can.changeable.subtree can.searched.partitioned header refl in
     rw c.leaf_bound.ensures.leaf_bound (
       search rules,
@@ -96,7 +95,7 @@ module _ (g : Over) (t : ℕ) (c : After-index-entries-step g t) where
   can_change_child =
       let at = at_child in
       let a = c.args.nodes.now in
-      let L = least_of g.row.N in
+      let L = least_of FAN_OUT in
       let n = c.args.height in
       let can = c.requires.can_change in
       let node = c.header_ref-node.result.now in

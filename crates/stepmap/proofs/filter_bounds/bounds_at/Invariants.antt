@@ -1,5 +1,5 @@
 use Rattle.std.proofs.Common.{◌≡◌, map, take}
-use Rattle.filter.specs.Filter.{bound_in}
+use Rattle.stepmap.specs.Filter.{bound_in}
 use Rattle.stepmap.proofs.filter_bounds.bounds_at.Given as goal
 
 abbrev pub invariant-loop-hash : goal.invariant-loop-hash

@@ -1,8 +1,8 @@
 use Rattle.std.proofs.Common.{ℕ, List, sym, subst, arith}
 use Rattle.std.specs.Prelude.{◌≤ℤ◌}
 use Rattle.std.proofs.lemmas.Int.{ints}
-use Rattle.filter.specs.Filter.{bound}
-use Rattle.stepmap.proofs.SingleKeys.{single_holds}
+use Rattle.stepmap.specs.Filter.{bound}
+use Rattle.boundaries.proofs.callers.SingleKeys.{single_holds}
 use Rattle.stepmap.proofs.single.note.Goals as goal
 
 pub returns-in-Some-clause-on_range : goal.returns-in-Some-clause-on_range

@@ -1,25 +1,24 @@
 use Rattle.std.proofs.Common.{rules, Bool, false, IsTrue, ◌∷◌, ℕ, ◌≡◌, ◌≢◌, ◌≤◌, ◌<◌, ◌+◌, ◌-◌, ◌∙◌, ◌++◌, ap, sym, refl, List, [], length, filter, take, drop, map, arith, w64}
 use Rattle.std.proofs.lemmas.Int.{to_z-of_z}
-use Rattle.tree.proofs.Words.{with_header, NodeEntry, Item, item_of, entries_of, entries_at, GivesUnexpired, unexpired, expired}
-use Rattle.tree.proofs.ChangedLeaf.{leaf_can_step, leaf_changed, unchanged}
-use Rattle.tree.proofs.Headed.{headed_at}
-use Rattle.tree.proofs.LastRun.{leaf_unexpired, untouched}
-use Rattle.tree.proofs.Placing.{entries_from_header, put_entries}
-use Rattle.tree.proofs.Removing.{run}
-use Rattle.tree.proofs.WrittenLeaf.{items_parted, some_item}
-use Rattle.tree.proofs.expiry.ExpiringLeafChange.change.Given as given
-use Rattle.tree.proofs.expiry.ExpiringLeafChange.change.Goals as goal
-use Rattle.tree.proofs.expiry.ExpiringLeafChange.change.Goals.{After-has_expired}
+use Rattle.boundaries.proofs.Words.{with_header, NodeEntry, Item, item_of, entries_of, entries_at, GivesUnexpired, unexpired, expired}
+use Rattle.boundaries.proofs.ChangedLeaf.{leaf_can_step, leaf_changed, unchanged}
+use Rattle.boundaries.proofs.Headed.{headed_at}
+use Rattle.boundaries.proofs.LastRun.{leaf_unexpired, untouched}
+use Rattle.boundaries.proofs.Placing.{entries_from_header, put_entries}
+use Rattle.boundaries.proofs.Removing.{run}
+use Rattle.boundaries.proofs.WrittenLeaf.{items_parted, some_item}
+use Rattle.boundaries.proofs.expiry.ExpiringLeafChange.change.Goals as goal
+use Rattle.boundaries.proofs.expiry.ExpiringLeafChange.change.Goals.{After-has_expired}
 
 pub lower_bound-below-requires : goal.lower_bound-below-requires
-lower_bound-below-requires g c = (
+lower_bound-below-requires c = (
   omega (arith, c.requires.can_change.changeable.few),
   leaf_can_step c.requires.can_change c.header_ref-leaf.ensures.header,
 )
 
 -- Where no entry passes, no item does.
 pub returns-then-below-eq0-clause-items : goal.returns-then-below-eq0-clause-items
-returns-then-below-eq0-clause-items g c =
+returns-then-below-eq0-clause-items c =
     let can = leaf_can_step c.requires.can_change c.header_ref-leaf.ensures.header in
     let none = (items_parted (g.P.Bound.below c.args.self.now.bound.now) _ 0 can.can_find.partitioned
     (omega (arith, c.lower_bound-below.ensures.count.count_is, c.if-below-eq0.true))).0 in (
@@ -33,7 +32,7 @@ none_goes [] answered some said = refl
 none_goes (x ∷ out) answered some said = absurd (let t = some (λ e. absurd (cc)) in cc)
 
 -- where the run stands that is looked at
-module _ (g : given.Over) (c : After-has_expired g) where
+module _ (c : After-has_expired) where
   open c use {args.{self.{now.{bound, count, edge, before}}, nodes.{now as nodes}, slot, place}, min}
   open c use {header_ref-leaf.{result.{now as leaf}, ensures.{header}}}
   open c use {lower_bound-below.{result as below, ensures.{count as counts}}}
@@ -78,13 +77,13 @@ module _ (g : given.Over) (c : After-has_expired g) where
       )
 
 pub returns-then-not-has_expired-clause-changed : goal.returns-then-not-has_expired-clause-changed
-returns-then-not-has_expired-clause-changed g c =
+returns-then-not-has_expired-clause-changed c =
     unchanged _ c.args.nodes.now 0 c.args.slot c.requires.can_change.changeable c.requires.can_change.searched.headed
 
 -- Where none goes, all stay.
 pub returns-then-not-has_expired-clause-items : goal.returns-then-not-has_expired-clause-items
-returns-then-not-has_expired-clause-items g c =
-    let t = (goal.at.returns-then-not-has_expired-clause-items g c).After-has_expired in
+returns-then-not-has_expired-clause-items c =
+    let t = (goal.at.returns-then-not-has_expired-clause-items c).After-has_expired in
     let before_is = to_z-of_z w64 c.args.self.now.before (search rules) in
     let none = rw (to_z-of_z w64 c.args.self.now.edge (search rules), before_is, c.entries-2.ensures.entries) at
     (none_goes _ c.has_expired.result c.has_expired.ensures.expired.1 c.if-not-has_expired.true) in
@@ -93,18 +92,18 @@ returns-then-not-has_expired-clause-items g c =
     (rw (none, c.requires.can_change.none_taken) refl)
 
 pub lengthen_prefix-requires : goal.lengthen_prefix-requires
-lengthen_prefix-requires g c = (
+lengthen_prefix-requires c = (
   omega (arith, c.requires.can_change.changeable.few),
   c.remove_expired.ensures.headed _ (headed_at _ c.args.nodes.now c.args.slot c.header_mut-leaf.result.now
       c.requires.can_change.searched.headed c.header_mut-leaf.ensures.header),
 )
 
 pub returns-clause-changed : goal.returns-clause-changed
-returns-clause-changed g c = leaf_changed c.lengthen_prefix.new.self c.requires.can_change c.lengthen_prefix.ensures.headed
+returns-clause-changed c = leaf_changed c.lengthen_prefix.new.self c.requires.can_change c.lengthen_prefix.ensures.headed
 
 pub returns-clause-items : goal.returns-clause-items
-returns-clause-items g c =
-    let t = (goal.at.returns-clause-items g c).After-has_expired in
+returns-clause-items c =
+    let t = (goal.at.returns-clause-items c).After-has_expired in
     let old = c.args.nodes.now in
     let node = c.lengthen_prefix.new.self in
     let edge_is = to_z-of_z w64 c.args.self.now.edge (search rules) in

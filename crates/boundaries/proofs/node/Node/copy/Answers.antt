@@ -1,14 +1,14 @@
 use Rattle.std.proofs.Common.{arith, refl, ◌<◌, ◌≤◌, ap, length, get_or, length-take-le}
 use Rattle.std.proofs.lemmas.List.Elements.{All-contains}
 use Rattle.std.proofs.Math.Seq.{take-set-lt, map-set}
-use Rattle.tree.proofs.Words.{IsKnown, head_at, entries_of, key_heads_of, keys_of}
-use Rattle.tree.proofs.HeadAt.{entry_there}
-use Rattle.tree.proofs.HeadChanges.{head_there, headed_set, key_agrees, key_there}
-use Rattle.tree.proofs.Headed.{all_known}
-use Rattle.tree.proofs.node.Node.copy.Goals as goal
+use Rattle.boundaries.proofs.Words.{IsKnown, head_at, entries_of, key_heads_of, keys_of}
+use Rattle.boundaries.proofs.HeadAt.{entry_there}
+use Rattle.boundaries.proofs.HeadChanges.{head_there, headed_set, key_agrees, key_there}
+use Rattle.boundaries.proofs.Headed.{all_known}
+use Rattle.boundaries.proofs.node.Node.copy.Goals as goal
 
 pub returns : goal.returns
-returns g c =
+returns c =
     let most : node.len ≤ length node.entries = omega arith in
     let len = length-take-le node.len node.entries most in
     let from_inside : from < node.len = omega (arith, c.requires.from, len) in

@@ -1,11 +1,11 @@
 use Rattle.std.proofs.Common.{rules, SFits, w64}
 use Rattle.std.proofs.lemmas.Int.{to_z-of_z}
-use Rattle.tree.proofs.Greatest.{greatest-next}
-use Rattle.tree.proofs.Words.{version_of, entries_of}
-use Rattle.tree.proofs.node.Node.greatest.Goals as goal
+use Rattle.boundaries.proofs.Greatest.{greatest-next}
+use Rattle.boundaries.proofs.Words.{version_of, entries_of}
+use Rattle.boundaries.proofs.node.Node.greatest.Goals as goal
 
 pub loop-entry-preserved : goal.loop-entry-preserved
-loop-entry-preserved g c =
+loop-entry-preserved c =
     let e = c.entry-item.result in
     let new = c.max-greatest.result in
     let fits : SFits w64 e.version = search rules in

@@ -1,10 +1,11 @@
 use Rattle.std.proofs.Common.{◌<◌, ◌∙◌, inr, sym, get_or-take, length, length-take, arith}
-use Rattle.tree.specs.Node.{entries_of}
-use Rattle.tree.proofs.HeadAt.{entry_at, entry_there, key_there, agrees_at}
-use Rattle.tree.proofs.node.Node.has_prefix_of.Goals as goal
+use Rattle.boundaries.specs.Node.{entries_of}
+use Rattle.boundaries.proofs.HeadAt.{entry_at, entry_there, key_there, agrees_at}
+use Rattle.boundaries.proofs.KeyBytes.{known_bytes}
+use Rattle.boundaries.proofs.node.Node.has_prefix_of.Goals as goal
 
 pub returns : goal.returns
-returns g c = record {
+returns c = record {
   has_prefix = λ enough.
       let node = c.args.self.now in
       let es = entries_of node in
@@ -15,5 +16,6 @@ returns g c = record {
       let own = get_or-take node.len node.heads i 0 (omega (arith, inside, length-take node.len node.entries)) in
       agrees_at _ _ c.requires.headed i e.0.key _ (key_there es i e.0 e.1)
       (inr (λ zero. c.if-self-index-eq0.false (sym own ∙ zero)))
-      (λ text known long. rw (← c.prefix_len.ensures.prefix_len) ((c.begins_as.ensures.same text (cc)).0 enough));
+      (λ text known long. rw (← c.prefix_len.ensures.prefix_len)
+      (rw (known_bytes _ _ text (cc)) at (c.begins_as.ensures.same.0 enough)));
 }

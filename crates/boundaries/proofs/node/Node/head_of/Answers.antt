@@ -1,11 +1,11 @@
 use Rattle.std.proofs.Common.{◌≡◌, ◌<◌, ◌∙◌, sym, arith, slice_index_or, eqb-true, length-take-le}
-use Rattle.tree.proofs.Words.{head_at, key_heads_of}
-use Rattle.tree.proofs.HeadChanges.{key_agrees, key_there, head_there}
-use Rattle.tree.proofs.node.Node.head_of.Goals as goal
+use Rattle.boundaries.proofs.Words.{key_at, head_at, key_heads_of}
+use Rattle.boundaries.proofs.HeadChanges.{key_agrees, key_there, head_there}
+use Rattle.boundaries.proofs.node.Node.head_of.Goals as goal
 
 pub returns-then-eq : goal.returns-then-eq
-returns-then-eq g c =
-    let bytes = g.P.Bound.bytes c.args.bound.now in
+returns-then-eq c =
+    let bytes = key_at c.args.keys.now in
     let inside : i < node.len = omega (arith, c.requires.within, length-take-le node.len node.entries (omega arith)) in
     let equal = eqb-true (slice_index_or node.entries i e).key c.args.key (sym c.eq.ensures ∙ c.if-eq.true) in
     let same : e.key ≡ c.args.key = cc in

@@ -1,11 +1,12 @@
 use Rattle.std.proofs.Common.{◌≤◌, length, filter}
-use Rattle.tree.specs.Node.{entries_of}
-use Rattle.tree.proofs.node.Node.lower_bound_back.Given as goal
+use Rattle.boundaries.proofs.Words.{is_below}
+use Rattle.boundaries.specs.Node.{entries_of}
+use Rattle.boundaries.proofs.node.Node.lower_bound_back.Given as goal
 
 abbrev pub invariant-loop-count : goal.invariant-loop-count
-invariant-loop-count g l =
+invariant-loop-count l =
     (l.count ≤ length (entries_of l.self))
-    × (length (filter (λ e. g.P.Bound.below l.bound e.key) (entries_of l.self)) ≤ l.count)
+    × (length (filter (λ e. is_below l.keys l.bound e.key) (entries_of l.self)) ≤ l.count)
 
 abbrev pub decreases-loop-count : goal.decreases-loop-count
-decreases-loop-count g l = l.count
+decreases-loop-count l = l.count

@@ -1,15 +1,13 @@
-use Rattle.std.proofs.Common.{rules, arith}
-use Rattle.tree.proofs.HeadAt.{filled_within, few_below}
-use Rattle.tree.proofs.node.Node.lower_bound_by_head.Goals as goal
-
-pub lower_bound_by_keys-requires : goal.lower_bound_by_keys-requires
-lower_bound_by_keys-requires g c = (search rules, (c.requires.can_find, c.requires.none c.in_default.is))
+use Rattle.std.proofs.Common.{rules, ◌≢◌, ◌∙◌, sym, get_or, get_or-take, length-take, arith}
+use Rattle.boundaries.proofs.Words.{order, entries_of, key_heads_of}
+use Rattle.boundaries.proofs.HeadAt.{filled_within, few_below}
+use Rattle.boundaries.proofs.node.Node.lower_bound_by_head.Goals as goal
 
 pub lower_bound_from-requires : goal.lower_bound_from-requires
-lower_bound_from-requires g c =
+lower_bound_from-requires c =
     let is = rw c.in-Some.is at c.requires.head in
     let within = filled_within _ node can.headed (omega arith) c.heads_below-below.result describes.within describes.filled in
-    let least = few_below _ node can.headed _ _ (g.met.P.Bound.order c.args.bound.now) c.in-Some.head is can.partitioned
+    let least = few_below _ node can.headed _ _ (order c.args.keys.now c.args.bound) c.in-Some.own is can.partitioned
     c.heads_below-below.result within describes.below in
     (search rules, (can, (is, least)))
   where

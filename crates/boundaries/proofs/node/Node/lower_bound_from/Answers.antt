@@ -1,24 +1,23 @@
 use Rattle.std.proofs.Common.{◌≡◌, ◌≤◌, ℕ, Bool, ◌+◌, ◌-◌, List, ap, sym, subst, filter, length, take, drop, arith}
-use Rattle.tree.proofs.Words.{NodeEntry, IsLowerBound, entries_of}
-use Rattle.tree.proofs.callers.Partitions.{IsPartitioned-range, length-items_below}
-use Rattle.tree.proofs.HeadAt.{few_pass, many_pass}
-use Rattle.tree.proofs.HeadCounts.{count_range}
-use Rattle.tree.proofs.node.Node.lower_bound_from.Goals as goal
-use Rattle.tree.proofs.node.Node.lower_bound_from.Goals.{in-Some, in-None, Joined-head}
-use Rattle.tree.proofs.node.Node.lower_bound_from.Given as given
+use Rattle.boundaries.proofs.Words.{is_below, order, NodeEntry, IsLowerBound, entries_of}
+use Rattle.boundaries.proofs.callers.Partitions.{IsPartitioned-range, length-items_below}
+use Rattle.boundaries.proofs.HeadAt.{few_pass, many_pass}
+use Rattle.boundaries.proofs.HeadCounts.{count_range}
+use Rattle.boundaries.proofs.node.Node.lower_bound_from.Goals as goal
+use Rattle.boundaries.proofs.node.Node.lower_bound_from.Goals.{in-Some, in-None, Joined-head}
 
 pub lower_bound-requires : goal.lower_bound-requires
-lower_bound-requires g c =
+lower_bound-requires c =
     let range = c.match-head.from in
     let partitioned = rw (← c.entries.ensures.entries) at c.requires.can_find.partitioned in
     record { partitioned = IsPartitioned-range _ c.entries.result.now range.0 (range.1 - range.0) partitioned }
 
-module _ (g : given.Over) (c : Joined-head g) where
+module _ (c : Joined-head) where
   abbrev es : List NodeEntry
   es = entries_of c.args.self.now
 
   abbrev passes : NodeEntry → Bool
-  passes e = g.P.Bound.below c.args.bound.now e.key
+  passes e = is_below c.args.keys.now c.args.bound e.key
 
   -- A part lies within the entries. Those that pass are the first ones and those of this part.
   abbrev IsPart : ℕ × ℕ → Type 0
@@ -29,7 +28,7 @@ module _ (g : given.Over) (c : Joined-head g) where
   parts : IsPart c.match-head.from
   parts =
       let can = c.requires.can_find in
-      let order = g.met.P.Bound.order c.args.bound.now in
+      let order = order c.args.keys.now c.args.bound in
       elim c.match-head.branch [
         | in-Some w ↦
             let found = w.tied.ensures.tied in
@@ -49,21 +48,21 @@ module _ (g : given.Over) (c : Joined-head g) where
 
   -- what is counted lies within the entries
   counted : (n : ℕ) → n ≡ length (filter passes es)
-      → record { count : IsLowerBound (g.P.Bound.below c.args.bound.now) c.args.self.now n }
+      → record { count : IsLowerBound (is_below c.args.keys.now c.args.bound) c.args.self.now n }
   counted n is = record { count = record { within = omega (arith, length-items_below passes es); count_is = is } }
 
 pub returns-then-from-to : goal.returns-then-from-to
-returns-then-from-to g c =
-    let s = (goal.at.returns-then-from-to g c).Joined-head in
+returns-then-from-to c =
+    let s = (goal.at.returns-then-from-to c).Joined-head in
     let empty : c.match-head.from.1 - c.match-head.from.0 ≡ 0 = omega (arith, c.if-from-to.true) in
-    counted g s c.match-head.from.0 (omega (arith, rw empty at (parts g s).2))
+    counted s c.match-head.from.0 (omega (arith, rw empty at (parts s).2))
 
 pub slice_bounds-lower_bound-end : goal.slice_bounds-lower_bound-end
-slice_bounds-lower_bound-end g c =
-    let b = parts g (goal.at.slice_bounds-lower_bound-end g c).Joined-head in
+slice_bounds-lower_bound-end c =
+    let b = parts (goal.at.slice_bounds-lower_bound-end c).Joined-head in
     omega (arith, b.0, b.1, ap length c.entries.ensures.entries)
 
 pub returns : goal.returns
-returns g c =
-    let s = (goal.at.returns g c).Joined-head in
-    counted g s _ (omega (arith, rw c.entries.ensures.entries at c.lower_bound.ensures.count, (parts g s).2))
+returns c =
+    let s = (goal.at.returns c).Joined-head in
+    counted s _ (omega (arith, rw c.entries.ensures.entries at c.lower_bound.ensures.count, (parts s).2))

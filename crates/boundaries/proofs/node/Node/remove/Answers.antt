@@ -1,12 +1,12 @@
 use Rattle.std.proofs.Common.{arith, refl, ◌≡◌, ◌∙◌, ◌≤◌, ◌-◌, [], length-take-le}
 use Rattle.std.specs.List.{copy_within}
-use Rattle.tree.proofs.Words.{entries_of, key_heads_of, NodeEntry}
-use Rattle.tree.proofs.Entries.{take-removed}
-use Rattle.tree.proofs.HeadChanges.{headed_removed, map_spliced}
-use Rattle.tree.proofs.node.Node.remove.Goals as goal
+use Rattle.boundaries.proofs.Words.{entries_of, key_heads_of, NodeEntry}
+use Rattle.boundaries.proofs.Entries.{take-removed}
+use Rattle.boundaries.proofs.HeadChanges.{headed_removed, map_spliced}
+use Rattle.boundaries.proofs.node.Node.remove.Goals as goal
 
 pub returns : goal.returns
-returns g c =
+returns c =
     let most : to ≤ node.len = omega (arith, c.requires.within, length-take-le node.len node.entries (omega arith)) in
     let left : c.move_tail.new.self.len ≡ node.len - (to - from) = omega (arith, move.len) in
     let entries = take-removed node.entries (copy_within node.entries to node.len from) node.len from to (omega arith)

@@ -1,11 +1,11 @@
 use Rattle.std.proofs.Common.{rules, ◌≡◌, ◌<◌, ◌≤◌, ◌∙◌, inr, length, slice_index_or, slice_set, ap, sym, arith, eqb-true, length-set, length-take-le}
 use Rattle.std.proofs.Math.Seq.{take-set-lt, map-set}
-use Rattle.tree.proofs.Words.{KeyHeads, entries_of, key_heads_of, keys_of}
-use Rattle.tree.proofs.HeadChanges.{head_known, headed_set, key_stays, known_set}
-use Rattle.tree.proofs.node.Node.set_with_head.Goals as goal
+use Rattle.boundaries.proofs.Words.{KeyHeads, entries_of, key_heads_of, keys_of}
+use Rattle.boundaries.proofs.HeadChanges.{head_known, headed_set, key_stays, known_set}
+use Rattle.boundaries.proofs.node.Node.set_with_head.Goals as goal
 
 pub returns-then-eq-clause-headed : goal.returns-then-eq-clause-headed
-returns-then-eq-clause-headed g c =
+returns-then-eq-clause-headed c =
     let most : old.len ≤ length old.entries = omega arith in
     let inside : c.args.index < old.len = omega (arith, c.requires.within, length-take-le old.len old.entries most) in
     let equal = eqb-true (slice_index_or old.entries c.args.index e).key c.args.entry.key (sym c.eq.ensures ∙ c.if-eq.true) in
@@ -17,14 +17,14 @@ returns-then-eq-clause-headed g c =
     open c use {args.{self.{now as old}}, index-self-index.{result as e, is}}
 
 pub compute_heads-requires : goal.compute_heads-requires
-compute_heads-requires g c =
+compute_heads-requires c =
     let old = c.args.self.now in
     let keys = simp map-set at (ap keys_of c.set-2.ensures.entries) in
     (search rules, known_set _ (key_heads_of old) c.requires.headed c.args.index c.args.entry.key c.requires.known _ keys)
 
 pub returns-clause-headed : goal.returns-clause-headed
-returns-clause-headed g c =
-    let bytes = g.P.Bound.bytes c.args.bound.now in
+returns-clause-headed c =
+    let bytes = key_at c.args.keys.now in
     let count = ap length c.set-2.ensures.entries ∙ length-set (entries_of old) i c.args.entry in
     let inside : i < new.len = omega (arith, c.requires.within, length-take-le new.len new.entries (omega arith), count) in
     let prefix_len : new.prefix_len ≡ old.prefix_len = ap (λ (h : KeyHeads). h.prefix_len) kept in

@@ -1,25 +1,19 @@
-use Rattle.std.proofs.Common.{arith, ◌≡◌, ◌≤◌, ◌+◌, ◌-◌, length, length-take-le}
-use Rattle.tree.proofs.Splicing.{take-spliced_before}
-use Rattle.tree.proofs.node.Node.splice.Goals as goal
+use Rattle.std.proofs.Common.{rules}
+use Rattle.boundaries.proofs.Words.{NodeEntry, entries_of, key_heads_of, keys_of}
+use Rattle.boundaries.proofs.HeadChanges.{headed_spliced, known_spliced, map_spliced}
+use Rattle.boundaries.proofs.node.Node.splice.Goals as goal
 
-pub returns : goal.returns
-returns g c =
-    let len = length-take-le node.len node.entries (omega arith) in
-    let within : to ≤ node.len = omega (arith, can.within, len) in
-    let count : now.len ≡ from + length new + (node.len - to) = c.move_tail.ensures.len in
-    let sum : now.len ≡ from + length heads + (node.len - to) = omega (arith, count, can.same_len) in
-    let entries = take-spliced_before node.entries now.entries new node.len from to (omega arith) can.ordered within
-    (omega (arith, can.room, len)) (omega (arith, now.within, count)) (rw count at c.move_tail.ensures.entries) in
-    let before = take-spliced_before node.heads now.heads heads node.len from to (omega arith) can.ordered within
-    (omega (arith, can.room, len, can.same_len)) (omega (arith, c.move_tail.ensures.size, now.within, count))
-    (cc (can.same_len, c.move_tail.ensures.heads)) in
-    record {
-      entries = cc (c.copy_few.ensures.copied, entries);
-      heads = record {
-        prefix_len = c.move_tail.ensures.prefix_len;
-        heads_are = cc (c.copy_few-2.ensures.copied, before, can.same_len);
-      };
-    }
-  where
-    open c use {args.{self.{now as node}, from, to, new.{now as new}, heads.{now as heads}}, move_tail.{new.{self as now}}}
-    open c use {requires as can}
+pub compute_heads-requires : goal.compute_heads-requires
+compute_heads-requires c =
+    let can = c.requires.can_splice in
+    let old = c.args.self.now in
+    let keys = map_spliced (λ (e : NodeEntry). e.key) (entries_of old) _ _ c.args.from c.args.to c.splice.ensures.entries in
+    (search rules, known_spliced _ (key_heads_of old) can.headed (keys_of c.args.new.now) _ c.args.from c.args.to can.known keys)
+
+pub returns-else-not-have_prefix-clause-headed : goal.returns-else-not-have_prefix-clause-headed
+returns-else-not-have_prefix-clause-headed c =
+    let can = c.requires.can_splice in
+    let old = c.args.self.now in
+    let keys = map_spliced (λ (e : NodeEntry). e.key) (entries_of old) _ _ c.args.from c.args.to c.splice.ensures.entries in
+    headed_spliced _ (key_heads_of old) can.headed _ _ c.args.heads.now c.args.from c.args.to can.known
+    (can.beside c.if-not-have_prefix.false) keys c.splice.ensures.heads.prefix_len c.splice.ensures.heads.heads_are

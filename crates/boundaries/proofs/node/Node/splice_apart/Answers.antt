@@ -1,16 +1,15 @@
 use Rattle.std.proofs.Common.{rules, ◌≡◌, ◌≤◌, ◌++◌, ◌∙◌, true, length, take, drop, refl, sym, arith, All}
 use Rattle.std.proofs.lemmas.List.{length-map, map-append}
-use Rattle.tree.proofs.Words.{NodeEntry, AreHeads, IsKnown, KeyBytes, KeyHeads, entries_of, key_heads_of, keys_of}
-use Rattle.tree.proofs.HeadChanges.{headed_apart, headed_spliced, heads_count, known_spliced, map_spliced}
-use Rattle.tree.proofs.callers.Partitions.{All-front, All-back}
-use Rattle.tree.proofs.Splicing.{apart_spliced, apart_prepended}
-use Rattle.tree.proofs.node.Node.splice_apart.Given as given
-use Rattle.tree.proofs.node.Node.splice_apart.Goals as goal
-use Rattle.tree.proofs.node.Node.splice_apart.Goals.{After-redistribute, then-from-new, else-from-new}
+use Rattle.boundaries.proofs.Words.{NodeEntry, AreHeads, IsKnown, KeyBytes, KeyHeads, entries_of, key_heads_of, keys_of}
+use Rattle.boundaries.proofs.HeadChanges.{headed_apart, headed_spliced, heads_count, known_spliced, map_spliced}
+use Rattle.boundaries.proofs.callers.Partitions.{All-front, All-back}
+use Rattle.boundaries.proofs.Splicing.{apart_spliced, apart_prepended}
+use Rattle.boundaries.proofs.node.Node.splice_apart.Goals as goal
+use Rattle.boundaries.proofs.node.Node.splice_apart.Goals.{After-redistribute, then-from-new, else-from-new}
 
-module _ (g : given.Over) (c : After-redistribute g) where
+module _ (c : After-redistribute) where
   abbrev bytes : KeyBytes
-  bytes = g.P.Bound.bytes c.args.bound.now
+  bytes = key_at c.args.keys.now
 
   abbrev node : KeyHeads
   node = key_heads_of c.args.self.now
@@ -71,16 +70,16 @@ module _ (g : given.Over) (c : After-redistribute g) where
       (All-front (IsKnown bytes) left.keys right.keys all, All-back (IsKnown bytes) left.keys right.keys all)
 
 pub lengthen_prefix-requires : goal.lengthen_prefix-requires
-lengthen_prefix-requires g c =
-    (search rules, (both_headed g (goal.at.lengthen_prefix-requires g c).After-redistribute c.if-have_prefix.true).0)
+lengthen_prefix-requires c =
+    (search rules, (both_headed g (goal.at.lengthen_prefix-requires c).After-redistribute c.if-have_prefix.true).0)
 
 pub lengthen_prefix-requires-then-have_prefix : goal.lengthen_prefix-requires-then-have_prefix
-lengthen_prefix-requires-then-have_prefix g c =
-    (search rules, (both_headed g (goal.at.lengthen_prefix-requires-then-have_prefix g c).After-redistribute c.if-have_prefix.true).1)
+lengthen_prefix-requires-then-have_prefix c =
+    (search rules, (both_headed g (goal.at.lengthen_prefix-requires-then-have_prefix c).After-redistribute c.if-have_prefix.true).1)
 
 pub compute_heads-requires : goal.compute_heads-requires
-compute_heads-requires g c = (search rules, (known g (goal.at.compute_heads-requires g c).After-redistribute).0)
+compute_heads-requires c = (search rules, (known g (goal.at.compute_heads-requires c).After-redistribute).0)
 
 pub compute_heads-requires-else-have_prefix : goal.compute_heads-requires-else-have_prefix
-compute_heads-requires-else-have_prefix g c =
-    (search rules, (known g (goal.at.compute_heads-requires-else-have_prefix g c).After-redistribute).1)
+compute_heads-requires-else-have_prefix c =
+    (search rules, (known g (goal.at.compute_heads-requires-else-have_prefix c).After-redistribute).1)

@@ -1,11 +1,11 @@
 use Rattle.std.proofs.Common.{arith, refl, ◌≡◌, ◌∙◌, ◌≤◌, ◌-◌, length-take-le}
 use Rattle.std.specs.List.{copy_within}
 use Rattle.std.proofs.lemmas.Grind.{common_steps}
-use Rattle.tree.proofs.Entries.{take-removed}
-use Rattle.tree.proofs.node.Node.split_off.Goals as goal
+use Rattle.boundaries.proofs.Entries.{take-removed}
+use Rattle.boundaries.proofs.node.Node.split_off.Goals as goal
 
 pub returns : goal.returns
-returns g c =
+returns c =
     let most : at ≤ node.len = omega (arith, c.requires.within, length-take-le node.len node.entries (omega arith)) in
     let left : c.move_tail.new.self.len ≡ node.len - (at - 0) = omega (arith, move.len) in
     let heads = copy_within node.heads at node.len 0 in

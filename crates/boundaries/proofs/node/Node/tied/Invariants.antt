@@ -1,9 +1,9 @@
 use Rattle.std.proofs.Common.{◌-◌, ◌<◌, ◌≤◌, ℕ, length, get_or}
-use Rattle.tree.specs.Node.{entries_of, key_heads_of}
-use Rattle.tree.proofs.node.Node.tied.Given as goal
+use Rattle.boundaries.specs.Node.{entries_of, key_heads_of}
+use Rattle.boundaries.proofs.node.Node.tied.Given as goal
 
 abbrev pub invariant-loop-first : goal.invariant-loop-first
-invariant-loop-first g l =
+invariant-loop-first l =
     record {
       first : l.fn.from ≤ l.first;
       within : l.first ≤ length (entries_of l.self);
@@ -11,11 +11,11 @@ invariant-loop-first g l =
     }
 
 abbrev pub decreases-loop-first : goal.decreases-loop-first
-decreases-loop-first g l = l.len - l.first
+decreases-loop-first l = l.len - l.first
 
 abbrev pub invariant-loop-end : goal.invariant-loop-end
-invariant-loop-end g l =
+invariant-loop-end l =
     record { ordered : l.first ≤ l.end; within : l.end ≤ length (entries_of l.self) }
 
 abbrev pub decreases-loop-end : goal.decreases-loop-end
-decreases-loop-end g l = l.len - l.end
+decreases-loop-end l = l.len - l.end

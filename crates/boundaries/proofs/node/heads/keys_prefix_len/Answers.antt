@@ -1,16 +1,16 @@
 use Rattle.std.proofs.Common.{◌≡◌, ◌<◌, ℕ, length, get_or, arith}
 use Rattle.std.proofs.Math.Nat.{min-le_left}
 use Rattle.std.proofs.lemmas.List.{get_or-map, length-map, take_all}
-use Rattle.tree.proofs.Words.{NodeEntry, keys_of}
-use Rattle.tree.proofs.HeadChanges.{begin_of_first, first_empty, first_more}
-use Rattle.tree.proofs.node.heads.keys_prefix_len.Goals as goal
+use Rattle.boundaries.proofs.Words.{NodeEntry, keys_of}
+use Rattle.boundaries.proofs.HeadChanges.{begin_of_first, first_empty, first_more}
+use Rattle.boundaries.proofs.node.heads.keys_prefix_len.Goals as goal
 
 pub loop-entry-init : goal.loop-entry-init
-loop-entry-init g c = record { most = omega (arith, c.from-count.ensures); common = λ k d inside. absurd (omega (arith, inside)) }
+loop-entry-init c = record { most = omega (arith, c.from-count.ensures); common = λ k d inside. absurd (omega (arith, inside)) }
 
 pub loop-entry-preserved : goal.loop-entry-preserved
-loop-entry-preserved g c =
-    let bytes = g.P.Bound.bytes c.args.bound.now in
+loop-entry-preserved c =
+    let bytes = key_at c.args.keys.now in
     let keys = keys_of xs in
     let key : NodeEntry → ℕ = λ x. x.key in
     let inside : i < length keys = omega (arith, c.loop-entry-test.true, length-map xs key) in
@@ -30,11 +30,11 @@ loop-entry-preserved g c =
     open c use {args.{entries.{now as xs}}, loop-entry.{entry-index as i, count, invariant as inv}, entry-item.{result as e}}
 
 pub overflow_cast-result : goal.overflow_cast-result
-overflow_cast-result g c = omega (arith, c.loop-entry.invariant.most)
+overflow_cast-result c = omega (arith, c.loop-entry.invariant.most)
 
 pub returns : goal.returns
-returns g c =
-    let bytes = g.P.Bound.bytes c.args.bound.now in
+returns c =
+    let bytes = key_at c.args.keys.now in
     let keys = keys_of c.args.entries.now in
     let count = c.loop-entry.count in
     let size = length-map c.args.entries.now (λ (x : NodeEntry). x.key) in

@@ -1,7 +1,7 @@
 use Rattle.std.proofs.Common.{◌≡◌, ◌≤◌, ◌*◌, ◌/◌, ◌%◌, ℕ, List, take, get_or, ap, sym, ◌∙◌, arith, get_or-take, take-take}
 use Rattle.std.specs.Int.{w32, w64, to_be_bytes}
-use Rattle.tree.proofs.HeadOrder.{take_fewer, upper_half}
-use Rattle.tree.proofs.node.heads.same_head_bytes.Goals as goal
+use Rattle.boundaries.proofs.HeadOrder.{take_fewer, upper_half}
+use Rattle.boundaries.proofs.node.heads.same_head_bytes.Goals as goal
 
 -- A number is written with the first four bytes of the one that has it as its upper half.
 raised : (h : ℕ) → to_be_bytes w32 h ≡ take 4 (to_be_bytes w64 (h * 4294967296))

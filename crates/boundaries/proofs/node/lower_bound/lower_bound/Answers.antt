@@ -1,12 +1,13 @@
 use Rattle.std.proofs.Common.{length, sym, ◌∙◌, ap, length-take-le, rules}
 use Rattle.std.proofs.lemmas.List.Sorted.{IsPartitionPoint-from_clause}
-use Rattle.tree.specs.declared.entry.NodeEntry.{NodeEntry}
-use Rattle.tree.proofs.callers.Partitions.{partitioned, parted_at}
-use Rattle.tree.proofs.node.lower_bound.lower_bound.Goals as goal
+use Rattle.boundaries.proofs.Words.{is_below}
+use Rattle.boundaries.specs.declared.entry.NodeEntry.{NodeEntry}
+use Rattle.boundaries.proofs.callers.Partitions.{partitioned, parted_at}
+use Rattle.boundaries.proofs.node.lower_bound.lower_bound.Goals as goal
 
 pub returns : goal.returns
-returns g c =
-    let p = λ (e : NodeEntry). g.P.Bound.below c.args.bound.now e.key in
+returns c =
+    let p = λ (e : NodeEntry). is_below c.args.keys.now c.args.bound e.key in
     let es = c.args.entries.now in
     let point = IsPartitionPoint-from_clause p es _ c.partition_point.ensures.partitioned
     (partitioned p es c.requires.partitioned) (λ a r q k. search rules) in

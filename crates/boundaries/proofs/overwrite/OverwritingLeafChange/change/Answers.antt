@@ -3,55 +3,54 @@ use Rattle.std.proofs.Common.{map, unwrap_or, ℤ, w64, to_z, of_z, inl, inr, �
 use Rattle.std.proofs.lemmas.Bool.{leb-true, not-false}
 use Rattle.std.proofs.lemmas.Int.{to_z-of_z}
 use Rattle.std.proofs.lemmas.Option.{IfSome_then}
-use Rattle.tree.specs.declared.entry.NodeEntry.{NodeEntry}
-use Rattle.tree.specs.declared.walk.RaisedLeaf.{RaisedLeaf}
-use Rattle.tree.specs.declared.walk.LeafOutcome.TheVariants.{Raised, Split}
-use Rattle.tree.specs.Finding.{CanFind}
-use Rattle.tree.specs.Heads.{HasPrefix}
-use Rattle.tree.specs.Item.{Item, item_of}
-use Rattle.tree.specs.Node.{entries_of, key_heads_of}
-use Rattle.tree.specs.Overwrite.{GivesEntire, first_is_below}
-use Rattle.tree.specs.Path.{items_below, following, first_key}
-use Rattle.tree.specs.Subtree.{entries_at}
-use Rattle.tree.specs.Tree.{IsLast, ended_by}
-use Rattle.tree.specs.Walk.{IsRaisedAt}
-use Rattle.tree.proofs.callers.Partitions.{not_both, not_true}
-use Rattle.tree.proofs.ChangedLeaf.{leaf_can_find, leaf_can_step, leaf_changed, leaf_stored}
-use Rattle.tree.proofs.Headed.{headed_at, key_heads_kept}
-use Rattle.tree.proofs.LeafChange.{parted}
-use Rattle.tree.proofs.NearBounds.{common_prefix_near, has_prefix_too, no_more, fewer_equal, same_head}
-use Rattle.tree.proofs.Placing.{entries_from_header, put_entries}
-use Rattle.tree.proofs.RunWritten.{taken_out, entire_run}
-use Rattle.tree.proofs.WrittenLeaf.{none_if, some_item, part_partitioned, items_parted, last_version, raised, ended_in_leaf, ended_after}
-use Rattle.tree.proofs.overwrite.OverwritingLeafChange.change.Goals.{After-header_ref-leaf, After-map_or-last, Joined-is_some, Joined-end-len, then-is_some, else-is_some}
-use Rattle.tree.proofs.overwrite.OverwritingLeafChange.change.Goals.{then-end-len, else-end-len, else-begin-eq0-via-then-begin-eq0+else-not-place, then-end-eq0, else-end-eq0, else-begin-eq0-via-else-begin-eq0}
-use Rattle.tree.proofs.overwrite.OverwritingLeafChange.change.Given as given
-use Rattle.tree.proofs.overwrite.OverwritingLeafChange.change.Goals as goal
+use Rattle.boundaries.specs.declared.entry.NodeEntry.{NodeEntry}
+use Rattle.boundaries.specs.declared.walk.RaisedLeaf.{RaisedLeaf}
+use Rattle.boundaries.specs.declared.walk.LeafOutcome.TheVariants.{Raised, Split}
+use Rattle.boundaries.specs.Finding.{CanFind}
+use Rattle.boundaries.specs.Heads.{HasPrefix}
+use Rattle.boundaries.specs.Item.{Item, item_of}
+use Rattle.boundaries.specs.Node.{entries_of, key_heads_of}
+use Rattle.boundaries.specs.Overwrite.{GivesEntire, first_is_below}
+use Rattle.boundaries.specs.Path.{items_below, following, first_key}
+use Rattle.boundaries.specs.Subtree.{entries_at}
+use Rattle.boundaries.specs.Tree.{IsLast, ended_by}
+use Rattle.boundaries.specs.Walk.{IsRaisedAt}
+use Rattle.boundaries.proofs.callers.Partitions.{not_both, not_true}
+use Rattle.boundaries.proofs.ChangedLeaf.{leaf_can_find, leaf_can_step, leaf_changed, leaf_stored}
+use Rattle.boundaries.proofs.Headed.{headed_at, key_heads_kept}
+use Rattle.boundaries.proofs.LeafChange.{parted}
+use Rattle.boundaries.proofs.NearBounds.{common_prefix_near, has_prefix_too, no_more, fewer_equal, same_head}
+use Rattle.boundaries.proofs.Placing.{entries_from_header, put_entries}
+use Rattle.boundaries.proofs.RunWritten.{taken_out, entire_run}
+use Rattle.boundaries.proofs.WrittenLeaf.{none_if, some_item, part_partitioned, items_parted, last_version, raised, ended_in_leaf, ended_after}
+use Rattle.boundaries.proofs.overwrite.OverwritingLeafChange.change.Goals.{After-header_ref-leaf, After-map_or-last, Joined-is_some, Joined-end-len, then-is_some, else-is_some}
+use Rattle.boundaries.proofs.overwrite.OverwritingLeafChange.change.Goals.{then-end-len, else-end-len, else-begin-eq0-via-then-begin-eq0+else-not-place, then-end-eq0, else-end-eq0, else-begin-eq0-via-else-begin-eq0}
+use Rattle.boundaries.proofs.overwrite.OverwritingLeafChange.change.Goals as goal
 
 -- what is known of the leaf before the change, for the first bound
-from_known : (g : given.Over) (c : After-header_ref-leaf g)
+from_known : (c : After-header_ref-leaf)
     → CanFind (g.P.Bound.bytes c.args.self.now.new.now.from.now) (g.P.Bound.below c.args.self.now.new.now.from.now)
     c.header_ref-leaf.result.now
-from_known g c =
+from_known c =
     let known = leaf_can_step c.requires.can_change c.header_ref-leaf.ensures.header in
     leaf_can_find c.args.nodes.now c.args.slot known.can_find _ _ c.args.self.now.new.now.bytes c.header_ref-leaf.ensures.header
     c.requires.can_change.wanted
 
 pub head_for-to_head-requires : goal.head_for-to_head-requires
-head_for-to_head-requires g c =
+head_for-to_head-requires c =
     let known = leaf_can_step c.requires.can_change c.header_ref-leaf.ensures.header in
     let begins = common_prefix_near _ _ _ _ _ _ c.args.place.common_prefix_len c.unwrap_or-common_prefix_len.result known.known
     (omega (arith, c.unwrap_or-common_prefix_len.ensures)) refl (λ key. refl) in
     (omega (arith, c.requires.can_change.changeable.few), (known.can_find.headed, (known.can_find.some, begins)))
 
 pub lower_bound_with-end-requires : goal.lower_bound_with-end-requires
-lower_bound_with-end-requires g c =
+lower_bound_with-end-requires c =
     let known = leaf_can_step c.requires.can_change c.header_ref-leaf.ensures.header in
     let own = rw c.unwrap_or-common_prefix_len.ensures at c.head_for-to_head.ensures.head in
     (omega (arith, c.requires.can_change.changeable.few), record { can_step = known; head = own })
 
 -- The target of the first bound begins as all keys do, where that is told.
-answered_equal : (g : given.Over) (c : Joined-is_some g) → c.if-is_some.from_has_prefix ≡ true
+answered_equal : (c : Joined-is_some) → c.if-is_some.from_has_prefix ≡ true
     → HasPrefix (g.P.Bound.bytes c.args.self.now.new.now.from.now) (key_heads_of c.header_ref-leaf.result.now)
     (g.P.Bound.target c.args.self.now.new.now.from.now)
 answered_equal g c said =
@@ -65,8 +64,8 @@ answered_equal g c said =
     ]
 
 pub head_given-head-requires : goal.head_given-head-requires
-head_given-head-requires g c =
-    let at = goal.at.head_given-head-requires g c in
+head_given-head-requires c =
+    let at = goal.at.head_given-head-requires c in
     let from = from_known g at.After-header_ref-leaf in
     let known = leaf_can_step c.requires.can_change c.header_ref-leaf.ensures.header in
     let new = c.args.self.now.new.now in
@@ -76,14 +75,14 @@ head_given-head-requires g c =
     (omega (arith, c.requires.can_change.changeable.few), (from.headed, (from.some, (answered_equal g at.Joined-is_some, begins))))
 
 pub lower_bound_back-begin-requires : goal.lower_bound_back-begin-requires
-lower_bound_back-begin-requires g c =
-    let from = from_known g (goal.at.lower_bound_back-begin-requires g c).After-header_ref-leaf in
+lower_bound_back-begin-requires c =
+    let from = from_known g (goal.at.lower_bound_back-begin-requires c).After-header_ref-leaf in
     let more = no_more _ _ c.args.self.now.new.now.nested (entries_of c.header_ref-leaf.result.now) in
     let within = c.lower_bound_with-end.ensures.count.within in
     (omega (arith, c.requires.can_change.changeable.few), (from, (c.head_given-head.ensures.head, (within, omega arith))))
 
 pub is_below_at-ended-requires : goal.is_below_at-ended-requires
-is_below_at-ended-requires g c =
+is_below_at-ended-requires c =
     let headed = (leaf_can_step c.requires.can_change c.header_ref-leaf.ensures.header).can_find.headed in
     let new = c.args.self.now.new.now in
     let past = key_heads_kept _ _ (λ key text is. new.past_bytes key ∙ is) _ headed in
@@ -93,15 +92,15 @@ is_below_at-ended-requires g c =
     (search rules, (past, (search rules, own)))
 
 pub slice_bounds-put_taken-count : goal.slice_bounds-put_taken-count
-slice_bounds-put_taken-count g c =
+slice_bounds-put_taken-count c =
     omega (arith, no_more _ _ c.args.self.now.new.now.nested (entries_of c.header_ref-leaf.result.now))
 
 pub slice_bounds-put_taken-start : goal.slice_bounds-put_taken-start
-slice_bounds-put_taken-start g c =
+slice_bounds-put_taken-start c =
     omega (arith, no_more _ _ c.args.self.now.new.now.nested (entries_of c.header_ref-leaf.result.now))
 
 -- The last entry before the second bound has this version.
-last_is : (g : given.Over) (c : After-map_or-last g) (x : Item)
+last_is : (c : After-map_or-last) (x : Item)
     → IsLast x (items_below (g.Q.Bound.below c.args.self.now.new.now.to.now) (map item_of (entries_of c.header_ref-leaf.result.now)))
     → to_z w64 (of_z w64 c.map_or-last.result) ≡ x.version
 last_is g c x ends =
@@ -115,7 +114,7 @@ last_is g c x ends =
     c.last.ensures.value c.map_or-last.ensures (λ e h. search rules) x ends
 
 -- what is written over the run
-module _ (g : given.Over) (c : Joined-end-len g) where
+module _ (c : Joined-end-len) where
   open c use {args.{self.{now.{new.{now as new}}}, nodes.{now as nodes}, slot, place}, requires.{can_change}, if-end-len.{ended}}
   open c use {lower_bound_back-begin.{result as begin, ensures.{count.{count_is as begins}}}}
   open c use {lower_bound_with-end.{result as end, ensures.{count.{within, count_is as ends}}}}
@@ -171,7 +170,7 @@ module _ (g : given.Over) (c : Joined-end-len g) where
       (taken_out _ es begin end c.put_taken.ensures.taken can_change.none_taken c.entries.ensures.entries in_order) answered)
 
 pub write_run-requires : goal.write_run-requires
-write_run-requires g c =
+write_run-requires c =
     let can = c.requires.can_change.changeable in (
       omega (arith, can.few),
       record {
@@ -185,7 +184,7 @@ write_run-requires g c =
         run_is = record {
           begin = c.lower_bound_back-begin.ensures.count;
           end = c.lower_bound_with-end.ensures.count;
-          ordered = in_order g (goal.at.write_run-requires g c).Joined-end-len;
+          ordered = in_order g (goal.at.write_run-requires c).Joined-end-len;
           begin_head = c.head_given-head.ensures.head;
           end_head = c.head_for-to_head.ensures.head.head;
         };
@@ -194,13 +193,13 @@ write_run-requires g c =
 
 -- Where no item before the run is in the leaf, what the leaf has of the run is taken out.
 pub returns-then-not-place-clause-changed : goal.returns-then-not-place-clause-changed
-returns-then-not-place-clause-changed g c =
+returns-then-not-place-clause-changed c =
     leaf_changed c.remove.new.self c.requires.can_change (c.remove.ensures.headed _ (headed_at _ c.args.nodes.now c.args.slot
     c.header_mut.result.now c.requires.can_change.searched.headed c.header_mut.ensures.header))
 
 pub returns-then-not-place-clause-items : goal.returns-then-not-place-clause-items
-returns-then-not-place-clause-items g c =
-    let t = goal.at.returns-then-not-place-clause-items g c in
+returns-then-not-place-clause-items c =
+    let t = goal.at.returns-then-not-place-clause-items c in
     let read = entries_from_header c.args.nodes.now c.args.slot c.header_ref-leaf.result.now c.header_ref-leaf.ensures.header in
     let es = entries_of c.header_ref-leaf.result.now in
     let second_bound = (leaf_can_step c.requires.can_change c.header_ref-leaf.ensures.header).can_find.partitioned in
@@ -223,22 +222,22 @@ returns-then-not-place-clause-items g c =
     })
 
 pub returns-in-Some-clause-changed : goal.returns-in-Some-clause-changed
-returns-in-Some-clause-changed g c =
+returns-in-Some-clause-changed c =
     leaf_stored (Split _) c.requires.can_change.changeable c.in-Some.ensures.stored (λ e. absurd (cc)) (λ leaf e. absurd (cc))
 
 pub returns-in-Some-clause-items : goal.returns-in-Some-clause-items
-returns-in-Some-clause-items g c =
-    let t = goal.at.returns-in-Some-clause-items g c in
+returns-in-Some-clause-items c =
+    let t = goal.at.returns-in-Some-clause-items c in
     entire g t.Joined-end-len _ (last_is g t.After-map_or-last) _ c.in-Some.ensures.written
 
 pub returns-then-begin-eq0-2-clause-items : goal.returns-then-begin-eq0-2-clause-items
-returns-then-begin-eq0-2-clause-items g c =
-    let t = goal.at.returns-then-begin-eq0-2-clause-items g c in
+returns-then-begin-eq0-2-clause-items c =
+    let t = goal.at.returns-then-begin-eq0-2-clause-items c in
     entire g t.Joined-end-len _ (last_is g t.After-map_or-last) _ c.in_default.ensures.written
 
 pub returns-clause-items : goal.returns-clause-items
-returns-clause-items g c =
-    let t = goal.at.returns-clause-items g c in
+returns-clause-items c =
+    let t = goal.at.returns-clause-items c in
     entire g t.Joined-end-len _ (last_is g t.After-map_or-last) _ c.in_default.ensures.written
 
 same_leaf : (a b : RaisedLeaf) → Raised a ≡ Raised b → a ≡ b
@@ -246,8 +245,8 @@ same_leaf a b e = cc
 
 -- Where the leaf has an item before the run, and no version is given, the first key stays.
 pub returns-clause-changed : goal.returns-clause-changed
-returns-clause-changed g c =
-    let j = (goal.at.returns-clause-changed g c).Joined-end-len in
+returns-clause-changed c =
+    let j = (goal.at.returns-clause-changed c).Joined-end-len in
     let new = c.args.self.now.new.now in
     let gives = returns-clause-items g c in
     let none = none_if new.last (sym c.is_some-else-begin-eq0-2.ensures ∙ c.if-is_some-2.false) in

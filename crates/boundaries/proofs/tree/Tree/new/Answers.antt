@@ -1,16 +1,16 @@
 use Rattle.std.proofs.Common.{arith, ◌≡◌, ◌∙◌, ap}
-use Rattle.tree.proofs.Placing.{placed_spare}
-use Rattle.tree.proofs.Trees.{tree_of_one}
-use Rattle.tree.specs.Item.{Item}
-use Rattle.tree.proofs.LeafChange.{headed_alone}
-use Rattle.tree.proofs.HeadList.{headed_in_list}
-use Rattle.tree.proofs.tree.Tree.new.Goals as goal
+use Rattle.boundaries.proofs.Placing.{placed_spare}
+use Rattle.boundaries.proofs.Trees.{tree_of_one}
+use Rattle.boundaries.specs.Item.{Item}
+use Rattle.boundaries.proofs.LeafChange.{headed_alone}
+use Rattle.boundaries.proofs.HeadList.{headed_in_list}
+use Rattle.boundaries.proofs.tree.Tree.new.Goals as goal
 
 pub of-requires : goal.of-requires
-of-requires g c = (omega arith, omega arith)
+of-requires c = (omega arith, omega arith)
 
 pub invariant_of-result : goal.invariant_of-result
-invariant_of-result g c =
+invariant_of-result c =
     let a = c.reserve_slots.new.self in
     let b = c.place.new.self in
     let enough = c.in_ok-reserve_slots.ensures.room in

@@ -1,27 +1,26 @@
 use Rattle.std.proofs.Common.{rules, ◌≡◌, ◌≤◌, ◌+◌, length, arith}
 use Rattle.std.proofs.Common.{List, [], map, Fits, w64}
 use Rattle.std.proofs.lemmas.List.{append-nil, length-map}
-use Rattle.tree.specs.Item.{Item, item_of}
-use Rattle.tree.specs.Overwrite.{Overwrites, put_of}
-use Rattle.tree.specs.Subtree.{items_in}
-use Rattle.tree.proofs.HeadList.{headed_from_list, headed_in_list}
-use Rattle.tree.proofs.Inserting.{can_change, tree_put}
-use Rattle.tree.proofs.KnownItems.{know_items}
-use Rattle.tree.proofs.OverwrittenItems.{length-overwritten, put_most}
-use Rattle.tree.proofs.PartWritten.{overwritten}
-use Rattle.tree.proofs.tree.Tree.overwrite.Given as given
-use Rattle.tree.proofs.tree.Tree.overwrite.Goals as goal
-use Rattle.tree.proofs.tree.Tree.overwrite.Goals.{After-len}
+use Rattle.boundaries.specs.Item.{Item, item_of}
+use Rattle.boundaries.specs.Overwrite.{Overwrites, put_of}
+use Rattle.boundaries.specs.Subtree.{items_in}
+use Rattle.boundaries.proofs.HeadList.{headed_from_list, headed_in_list}
+use Rattle.boundaries.proofs.Inserting.{can_change, tree_put}
+use Rattle.boundaries.proofs.KnownItems.{know_items}
+use Rattle.boundaries.proofs.OverwrittenItems.{length-overwritten, put_most}
+use Rattle.boundaries.proofs.PartWritten.{overwritten}
+use Rattle.boundaries.proofs.tree.Tree.overwrite.Goals as goal
+use Rattle.boundaries.proofs.tree.Tree.overwrite.Goals.{After-len}
 
 pub overwrite-written-requires : goal.overwrite-written-requires
-overwrite-written-requires g c =
+overwrite-written-requires c =
     let can = rw (← c.self.view_is) at c.requires.can_overwrite in
     let headed = headed_from_list (g.Q.Bound.bytes c.args.new.now.to.now) c.self.inside.nodes can.headed in
     let t = c.self.invariant in
     let known = can_change t.0 (omega arith) can.to headed ([], [], rw append-nil can.from) can.none_taken in
     (omega arith, (omega arith, (known, t.1)))
 
-module _ (g : given.Over) (c : After-len g) where
+module _ (c : After-len) where
   open c use {args.{new.{now as new}}, self.{inside as old}, overwrite-written.{result as written, new.{nodes, root, taken}}}
 
   abbrev was : List Item
@@ -45,18 +44,18 @@ module _ (g : given.Over) (c : After-len g) where
       rw (length-map, ← c.len.ensures.value) at count
 
 pub overflow_add-self : goal.overflow_add-self
-overflow_add-self g c =
+overflow_add-self c =
     let fits : Fits w64 c.self.inside.room = search rules in
     let can = rw (← c.self.view_is) at c.requires.can_overwrite in
     omega (arith, can.room, c.put.ensures.put, put_most c.overwrite-written.result, c.self.invariant.0.counted)
 
 pub overflow_sub-self : goal.overflow_sub-self
-overflow_sub-self g c =
-    omega (arith, counted g (goal.at.overflow_sub-self g c).After-len, c.put.ensures.put, c.self.invariant.0.counted)
+overflow_sub-self c =
+    omega (arith, counted g (goal.at.overflow_sub-self c).After-len, c.put.ensures.put, c.self.invariant.0.counted)
 
 pub invariant_of-self : goal.invariant_of-self
-invariant_of-self g c =
-    let count = counted g (goal.at.invariant_of-self g c).After-len in
+invariant_of-self c =
+    let count = counted g (goal.at.invariant_of-self c).After-len in
     let put = c.put.ensures.put in
     let can = rw (← c.self.view_is) at c.requires.can_overwrite in
     let most = put_most c.overwrite-written.result in
@@ -68,10 +67,10 @@ invariant_of-self g c =
     )
 
 pub returns-clause-items : goal.returns-clause-items
-returns-clause-items g c = rw (← c.self.view_is) (done g (goal.at.returns-clause-items g c).After-len)
+returns-clause-items c = rw (← c.self.view_is) (done g (goal.at.returns-clause-items c).After-len)
 
 pub returns-clause-headed : goal.returns-clause-headed
-returns-clause-headed g c = headed_in_list _ c.overwrite-written.new.nodes c.overwrite-written.ensures.tree.headed
+returns-clause-headed c = headed_in_list _ c.overwrite-written.new.nodes c.overwrite-written.ensures.tree.headed
 
 pub returns-clause-known : goal.returns-clause-known
-returns-clause-known g c = know_items c.overwrite-written.new.nodes _ _ c.self.inside.room c.overwrite-written.ensures.tree.rooted
+returns-clause-known c = know_items c.overwrite-written.new.nodes _ _ c.self.inside.room c.overwrite-written.ensures.tree.rooted

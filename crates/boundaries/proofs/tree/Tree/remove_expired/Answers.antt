@@ -2,25 +2,24 @@ use Rattle.std.proofs.Common.{◌≡◌, ◌≤◌, ◌+◌, None, length, arith
 use Rattle.std.proofs.Common.{List, map}
 use Rattle.std.proofs.lemmas.Int.{to_z-of_z}
 use Rattle.std.proofs.lemmas.List.{length-map}
-use Rattle.tree.specs.Item.{Item, item_of}
-use Rattle.tree.specs.Subtree.{items_in}
-use Rattle.tree.specs.Expire.{RemovesExpired}
-use Rattle.tree.proofs.HeadList.{headed_from_list, headed_in_list}
-use Rattle.tree.proofs.Inserting.{can_change, tree_put}
-use Rattle.tree.proofs.KnownItems.{know_items}
-use Rattle.tree.proofs.PartUnexpired.{unexpired_all, length-unexpired}
-use Rattle.tree.proofs.tree.Tree.remove_expired.Given as given
-use Rattle.tree.proofs.tree.Tree.remove_expired.Goals as goal
-use Rattle.tree.proofs.tree.Tree.remove_expired.Goals.{After-len}
+use Rattle.boundaries.specs.Item.{Item, item_of}
+use Rattle.boundaries.specs.Subtree.{items_in}
+use Rattle.boundaries.specs.Expire.{RemovesExpired}
+use Rattle.boundaries.proofs.HeadList.{headed_from_list, headed_in_list}
+use Rattle.boundaries.proofs.Inserting.{can_change, tree_put}
+use Rattle.boundaries.proofs.KnownItems.{know_items}
+use Rattle.boundaries.proofs.PartUnexpired.{unexpired_all, length-unexpired}
+use Rattle.boundaries.proofs.tree.Tree.remove_expired.Goals as goal
+use Rattle.boundaries.proofs.tree.Tree.remove_expired.Goals.{After-len}
 
 pub change-self-inside-requires : goal.change-self-inside-requires
-change-self-inside-requires g c =
+change-self-inside-requires c =
     let can = rw (← c.self.view_is) at c.requires.can_remove in
-    let headed = headed_from_list (g.P.Bound.bytes c.args.bound.now) c.self.inside.nodes can.headed in
+    let headed = headed_from_list (key_at c.args.keys.now) c.self.inside.nodes can.headed in
     let t = c.self.invariant.0 in
     (omega arith, (omega arith, can_change t (omega arith) can.partitioned headed tt can.none_taken))
 
-module _ (g : given.Over) (c : After-len g) where
+module _ (c : After-len) where
   open c use {args.{bound, count, edge, before}, self.{inside as old}, change-self-inside.{new.{nodes, root, change, taken}}}
 
   abbrev was : List Item
@@ -44,12 +43,12 @@ module _ (g : given.Over) (c : After-len g) where
       rw (length-map, ← c.len.ensures.value) at (length-unexpired _ _ _ _ _ _ was now None done can.first)
 
 pub overflow_sub-self : goal.overflow_sub-self
-overflow_sub-self g c =
-    omega (arith, counted g (goal.at.overflow_sub-self g c).After-len, c.self.invariant.0.counted)
+overflow_sub-self c =
+    omega (arith, counted g (goal.at.overflow_sub-self c).After-len, c.self.invariant.0.counted)
 
 pub invariant_of-self : goal.invariant_of-self
-invariant_of-self g c =
-    let count = counted g (goal.at.invariant_of-self g c).After-len in
+invariant_of-self c =
+    let count = counted g (goal.at.invariant_of-self c).After-len in
     let was = c.self.invariant.0 in
     let tree = c.change-self-inside.ensures.tree in (
       tree_put c.self.inside.nodes _ _ _ _ _ _ _ _ was tree.rooted tree.spare (omega (arith, was.counted))
@@ -58,10 +57,10 @@ invariant_of-self g c =
     )
 
 pub returns-clause-removal : goal.returns-clause-removal
-returns-clause-removal g c = rw (← c.self.view_is) (done g (goal.at.returns-clause-removal g c).After-len)
+returns-clause-removal c = rw (← c.self.view_is) (done g (goal.at.returns-clause-removal c).After-len)
 
 pub returns-clause-headed : goal.returns-clause-headed
-returns-clause-headed g c = headed_in_list _ c.change-self-inside.new.nodes c.change-self-inside.ensures.tree.headed
+returns-clause-headed c = headed_in_list _ c.change-self-inside.new.nodes c.change-self-inside.ensures.tree.headed
 
 pub returns-clause-known : goal.returns-clause-known
-returns-clause-known g c = know_items c.change-self-inside.new.nodes _ _ c.self.inside.room c.change-self-inside.ensures.tree.rooted
+returns-clause-known c = know_items c.change-self-inside.new.nodes _ _ c.self.inside.room c.change-self-inside.ensures.tree.rooted
