@@ -1,8 +1,9 @@
 //! The greatest version from the last boundary below one bound up to another one. Subtrees that
 //! have none above a version are passed over.
 
-ghost use Rattle.std.specs.Prelude.{None, Some};
+ghost use Rattle.std.specs.Prelude.{◌≡◌, None, Some};
 ghost use Rattle.boundaries.specs.Bound.{is_below};
+ghost use Rattle.boundaries.specs.Finding.{CanStep, IsStep};
 ghost use Rattle.boundaries.specs.Greatest.{AreNested, IsSought};
 ghost use Rattle.boundaries.specs.Item.{IsMost, item_version, version_of};
 ghost use Rattle.boundaries.specs.Path.{from_last, items_below};
@@ -11,6 +12,7 @@ ghost use Rattle.boundaries.specs.Subtree.{items_in};
 
 use crate::entry::NodeEntry;
 use crate::key_bound::KeyBound;
+use crate::node::{Node, Step};
 use crate::tree::Root;
 use crate::store::Store;
 use arena::Slot;
@@ -21,6 +23,26 @@ struct Sought<'a> {
     bound: KeyBound<'a>,
     // How many bytes that key and the bound's begin with in common.
     common_prefix_len: usize,
+}
+
+impl<'a> Sought<'a> {
+    // Returns the bound at a subtree.
+    fn new(bound: KeyBound<'a>, common_prefix_len: usize) -> Self
+        ensures sought { result ≡ record { bound = bound; common_prefix_len = common_prefix_len } }
+    {
+        Sought {
+            bound,
+            common_prefix_len,
+        }
+    }
+
+    // Finds the last entry of a node below the bound.
+    fn step(self, store: &Store, node: &Node) -> Step
+        requires can_step { CanStep store.now.keys self.bound node.now self.common_prefix_len }
+        ensures step { IsStep store.now.keys self.bound node.now result }
+    {
+        node.step(&store.keys, self.bound, self.common_prefix_len)
+    }
 }
 
 /// Returns the greatest of this version and those of the boundaries below the second bound, of
@@ -40,14 +62,7 @@ pub fn greatest(
         result }
 {
     // The first key is empty.
-    let from = Sought {
-        bound: from,
-        common_prefix_len: 0,
-    };
-    let to = Sought {
-        bound: to,
-        common_prefix_len: 0,
-    };
+    let (from, to) = (Sought::new(from, 0), Sought::new(to, 0));
     greatest_between(store, root.slot, root.height, from, to, least)
 }
 
@@ -68,19 +83,12 @@ fn greatest_between(
 {
     let node = store.nodes.header_ref(slot);
     let entries = node.entries();
-    let first = node.step(&store.keys, from.bound, from.common_prefix_len);
-    let last = node.step(&store.keys, to.bound, to.common_prefix_len);
+    let (first, last) = (from.step(store, node), to.step(store, node));
     if height == 0 {
         return greatest_of(&entries[first.index..=last.index], least);
     }
-    let from = Sought {
-        common_prefix_len: first.common_prefix_len,
-        ..from
-    };
-    let to = Sought {
-        common_prefix_len: last.common_prefix_len,
-        ..to
-    };
+    let from = Sought::new(from.bound, first.common_prefix_len);
+    let to = Sought::new(to.bound, last.common_prefix_len);
     let (left, right) = (entries[first.index], entries[last.index]);
     if first.index == last.index {
         if left.version <= least {
@@ -113,7 +121,7 @@ fn greatest_from(
 {
     let node = store.nodes.header_ref(slot);
     let entries = node.entries();
-    let step = node.step(&store.keys, from.bound, from.common_prefix_len);
+    let step = from.step(store, node);
     if height == 0 {
         return greatest_of(&entries[step.index..], least);
     }
@@ -122,10 +130,7 @@ fn greatest_from(
     if entry.version <= most {
         return most;
     }
-    let from = Sought {
-        common_prefix_len: step.common_prefix_len,
-        ..from
-    };
+    let from = Sought::new(from.bound, step.common_prefix_len);
     greatest_from(store, entry.child, height - 1, from, most)
 }
 
@@ -137,7 +142,7 @@ fn greatest_to(store: &Store, slot: Slot, height: usize, to: Sought<'_>, least: 
 {
     let node = store.nodes.header_ref(slot);
     let entries = node.entries();
-    let step = node.step(&store.keys, to.bound, to.common_prefix_len);
+    let step = to.step(store, node);
     if height == 0 {
         return greatest_of(&entries[..=step.index], least);
     }
@@ -146,10 +151,7 @@ fn greatest_to(store: &Store, slot: Slot, height: usize, to: Sought<'_>, least: 
     if entry.version <= most {
         return most;
     }
-    let to = Sought {
-        common_prefix_len: step.common_prefix_len,
-        ..to
-    };
+    let to = Sought::new(to.bound, step.common_prefix_len);
     greatest_to(store, entry.child, height - 1, to, most)
 }
 

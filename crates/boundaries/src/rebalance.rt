@@ -46,15 +46,7 @@ impl Store {
             (Some(head), Some(added)) => Some([head, added]),
             _ => None,
         };
-        self.splice(
-            slot,
-            Splice {
-                from: index,
-                to: index + 1,
-                new: &new,
-                heads,
-            },
-        )
+        self.splice(slot, Splice::new(index, index + 1, &new, heads))
     }
 
     /// Replaces entries of the node at a slot. Returns the slot of its right neighbour if there is

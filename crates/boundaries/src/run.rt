@@ -87,21 +87,9 @@ pub fn write_run(
         _ => None,
     };
     if run.ended {
-        let new = Splice {
-            from: begin,
-            to: end,
-            new: &[first],
-            heads,
-        };
-        return store.splice(slot, new);
+        return store.splice(slot, Splice::new(begin, end, &[first], heads));
     }
     let key = store.keys.place((), new.end).unwrap();
     let second = NodeEntry::of(key, new.at_end.unwrap_or(last));
-    let new = Splice {
-        from: begin,
-        to: end,
-        new: &[first, second],
-        heads,
-    };
-    store.splice(slot, new)
+    store.splice(slot, Splice::new(begin, end, &[first, second], heads))
 }

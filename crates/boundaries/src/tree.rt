@@ -135,13 +135,8 @@ fn grow(store: &mut Store, root: Root, added: Slot) -> Root
     ensures keeps { KeepsKeys store.old store.new }
 {
     let mut node = Node::of(store.entry_for(root.slot));
-    let new = Splice {
-        from: 1,
-        to: 1,
-        new: &[store.entry_for(added)],
-        heads: None,
-    };
-    node.splice(&store.keys, new);
+    let added = [store.entry_for(added)];
+    node.splice(&store.keys, Splice::new(1, 1, &added, None));
     Root {
         slot: store.place(node),
         height: root.height + 1,

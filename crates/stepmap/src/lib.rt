@@ -16,10 +16,7 @@
 
 mod error;
 mod filter;
-mod filter_bounds;
 pub mod laws;
-mod left;
-mod single;
 mod step_map;
 
 pub use boundaries::{KeyLengths, QueryList, RangeQuery};

@@ -14,14 +14,14 @@ ghost use Rattle.stepmap.specs.Limit.{HasRoomFor, made_room, prepared};
 ghost use Rattle.stepmap.specs.Covers.{SameFrom, MapCovers, IsAbove};
 ghost use Rattle.stepmap.specs.Rooted.{Ends, Rooted};
 ghost use Rattle.stepmap.specs.Counting.{live_count};
+ghost use Rattle.stepmap.specs.Filter.{bound};
 
-mod query_answers;
+mod lookup;
 mod room;
 mod trimmed_memory;
 
 use crate::error::StepError;
 use crate::filter::Filter;
-use crate::single::note;
 use boundaries::{Boundaries, KeyLengths, MAX_BOUNDARIES, OneQuery, QueryList};
 use keys::{HashedRange, MAX_KEY_LENGTH, Range};
 use std::alloc::{AllocError, Global};
@@ -300,5 +300,16 @@ impl StepMap {
         }
         self.round = Some(began);
         SweepEnd::Stopped
+    }
+}
+
+// Notes in the filter that the range is written at the version. It takes no memory.
+fn note(filter: &mut Filter, range: &HashedRange<'_>, version: i64)
+    ensures on_range { (key : List ℕ) → Holds range.now key → version ≤ℤ bound filter.new key }
+    ensures raised { (key : List ℕ) → bound filter.old key ≤ℤ bound filter.new key }
+{
+    match range.hash() {
+        Some(hash) => filter.write_key(hash, version),
+        None => filter.write_range(version),
     }
 }

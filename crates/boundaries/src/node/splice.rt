@@ -20,6 +20,21 @@ pub struct Splice<'a> {
     ghost few: { length new.now ≤ 2 },
 }
 
+impl<'a> Splice<'a> {
+    /// Returns the replacement of the entries from one index up to another.
+    pub fn new(from: usize, to: usize, new: &'a [NodeEntry], heads: Option<[u32; 2]>) -> Self
+        requires few { length new.now ≤ 2 }
+        ensures splice { result ≡ record { from = from; to = to; new = new; heads = heads } }
+    {
+        Splice {
+            from,
+            to,
+            new,
+            heads,
+        }
+    }
+}
+
 impl Node {
     /// Replaces entries.
     pub fn splice(&mut self, keys: &Keys, splice: Splice<'_>)
@@ -57,11 +72,8 @@ impl Node {
             return right;
         }
         let mut right = self.split_off(HALF_FULL);
-        let moved = Splice {
-            from: splice.from - HALF_FULL,
-            to: splice.to - HALF_FULL,
-            ..splice
-        };
+        let Splice { from, to, new, heads } = splice;
+        let moved = Splice::new(from - HALF_FULL, to - HALF_FULL, new, heads);
         right.splice(keys, moved);
         self.lengthen_prefix(keys);
         right.lengthen_prefix(keys);

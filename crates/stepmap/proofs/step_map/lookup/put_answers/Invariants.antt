@@ -1,7 +1,7 @@
 use Rattle.std.proofs.Common.{◌≡◌, ◌+◌, ◌≤◌, ◌++◌, length, take, drop}
 use Rattle.std.specs.Prelude.{count_by}
 use Rattle.stepmap.specs.Filtering.{with_answers}
-use Rattle.stepmap.proofs.left.put_answers.Given as goal
+use Rattle.stepmap.proofs.step_map.lookup.put_answers.Given as goal
 
 abbrev pub invariant-loop-index : goal.invariant-loop-index
 invariant-loop-index l = record {

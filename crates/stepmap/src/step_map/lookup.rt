@@ -1,17 +1,22 @@
 //! The answering of many queries: the filter is asked first, and the boundaries for those that it
 //! leaves open.
+//!
+//! The hashes of single keys are gathered first, and the cells of the filter read then: so the
+//! memory of all these cells is waited for at once.
 
-ghost use Rattle.std.specs.Prelude.{◌≡◌, ◌+◌, ◌<◌, ◌≤◌, ◌↔◌, Bool, List, ◌++◌, length, take, drop};
-ghost use Rattle.std.specs.Prelude.{slice_get, IfOk, OnOk, IsSomeAnd, IsTrue};
+ghost use Rattle.std.specs.Prelude.{◌≡◌, ◌+◌, ◌-◌, ◌<◌, ◌≤◌, ◌↔◌, Bool, List, ◌++◌, All, length};
+ghost use Rattle.std.specs.Prelude.{map, take, drop, count_by, slice_get, IfOk, OnOk, IsSomeAnd};
+ghost use Rattle.std.specs.Prelude.{IsTrue};
 ghost use Rattle.std.specs.List.{AllZip};
-ghost use Rattle.keys.specs.Range.{IsEmpty};
-ghost use Rattle.stepmap.specs.Covers.{IsAbove};
-ghost use Rattle.stepmap.specs.Filtering.{AreMarked, IsBound};
+ghost use Rattle.keys.specs.Hash.{hash_of};
+ghost use Rattle.keys.specs.Range.{IsEmpty, IsSingle};
 ghost use Rattle.boundaries.specs.declared.question.TheConstants.{SIDE};
+ghost use Rattle.stepmap.specs.Covers.{IsAbove};
+ghost use Rattle.stepmap.specs.Filter.{bound_in};
+ghost use Rattle.stepmap.specs.Filtering.{AreMarked, IsBound, with_answers};
 
 use super::StepMap;
-use crate::filter_bounds::{bounds_at, hashes_from, repeated};
-use crate::left::put_answers;
+use crate::filter::Filter;
 use arrayvec::ArrayVec;
 use boundaries::{QueryList, SIDE};
 use std::alloc::AllocError;
@@ -133,5 +138,63 @@ impl StepMap {
         }
         let version = queries.version(index);
         version < self.edge || version < bound
+    }
+}
+
+// Returns a hash for each of the queries from one index up to another: that of its key, if its
+// range is a single key. It looks at no key.
+fn hashes_from<L: QueryList>(queries: &L, from: usize, to: usize) -> ArrayVec<u32, SIDE>
+    requires ordered { from ≤ to }
+    requires within { to ≤ length (L.queries queries.now) }
+    requires few { to ≤ from + SIDE }
+    ensures hashes { AllZip (λ q hash. IsSingle q.0 → hash ≡ hash_of q.0.begin)
+        (take (to - from) (drop from (L.queries queries.now))) result.items }
+    ensures count { length result.items ≡ to - from }
+{
+    let mut hashes = ArrayVec::new();
+    for index in from..to {
+        hashes.push(queries.hash(index).unwrap_or(0));
+    }
+    hashes
+}
+
+// Returns the bounds of the keys of these hashes.
+fn bounds_at(filter: &Filter, hashes: &[u32]) -> ArrayVec<i64, SIDE>
+    requires few { length hashes.now ≤ SIDE }
+    ensures bounds { result.items ≡ map (bound_in filter.now) hashes.now }
+{
+    let mut bounds = ArrayVec::new();
+    for hash in hashes {
+        bounds.push(filter.bound_at(*hash));
+    }
+    bounds
+}
+
+// Returns the bound n times.
+fn repeated(bound: i64, count: usize) -> ArrayVec<i64, SIDE>
+    requires few { count ≤ SIDE }
+    ensures each { All (λ b. b ≡ bound) result.items }
+    ensures count { length result.items ≡ count }
+{
+    let mut bounds = ArrayVec::new();
+    while bounds.len() < count {
+        bounds.push(bound);
+    }
+    bounds
+}
+
+// Replaces the marks from this index on by the answers, in order.
+fn put_answers(marks: &mut [bool], from: usize, answered: &[bool])
+    requires within { from ≤ length marks.old }
+    requires each { count_by (λ mark. mark) (drop from marks.old) ≤ length answered.now }
+    ensures answers { marks.new
+        ≡ take from marks.old ++ with_answers (drop from marks.old) answered.now }
+{
+    let mut next = 0;
+    for index in from..marks.len() {
+        if marks[index] {
+            marks[index] = answered[next];
+            next += 1;
+        }
     }
 }

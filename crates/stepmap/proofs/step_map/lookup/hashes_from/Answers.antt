@@ -6,7 +6,7 @@ use Rattle.keys.specs.Hash.{hash_of, IsHashOf}
 use Rattle.keys.specs.Range.{IsSingle}
 use Rattle.keys.specs.declared.range.Range.{Range}
 use Rattle.keys.proofs.callers.Lists.{part_more, some_at}
-use Rattle.stepmap.proofs.filter_bounds.hashes_from.Goals as goal
+use Rattle.stepmap.proofs.step_map.lookup.hashes_from.Goals as goal
 
 -- the hash of a single key is there
 found : (q : Range × ℤ) (hash : Option ℕ) → IsHashOf q.0 hash → IsSingle q.0 → unwrap_or hash 0 ≡ hash_of q.0.begin

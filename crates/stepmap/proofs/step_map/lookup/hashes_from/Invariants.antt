@@ -2,7 +2,7 @@ use Rattle.std.proofs.Common.{◌≡◌, ◌-◌, ◌≤◌, length, take, drop}
 use Rattle.std.specs.List.{AllZip}
 use Rattle.keys.specs.Hash.{hash_of}
 use Rattle.keys.specs.Range.{IsSingle}
-use Rattle.stepmap.proofs.filter_bounds.hashes_from.Given as goal
+use Rattle.stepmap.proofs.step_map.lookup.hashes_from.Given as goal
 
 abbrev pub invariant-loop-index : goal.invariant-loop-index
 invariant-loop-index g l = record {
