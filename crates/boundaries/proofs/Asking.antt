@@ -5,7 +5,6 @@ use Rattle.arena.specs.Arena.{Arena, key_at}
 use Rattle.keys.specs.declared.range.Range.{Range}
 use Rattle.boundaries.specs.Item.{Item}
 use Rattle.boundaries.specs.Path.{items_below, from_last}
-use Rattle.boundaries.specs.Tree.{CanSearchItems, Items}
 use Rattle.boundaries.specs.declared.question.Question.{Question}
 use Rattle.stepmap.specs.Asking.{Exceeds, IsAt, AsksFor}
 use Rattle.boundaries.specs.Boundary.{AreBoundaries}

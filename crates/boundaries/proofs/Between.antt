@@ -7,7 +7,6 @@ use Rattle.std.proofs.lemmas.List.Elements.{All-weaker, filter_agree}
 use Rattle.arena.specs.Arena.{Arena, IsLive, key_at}
 use Rattle.boundaries.specs.Item.{Item}
 use Rattle.boundaries.specs.Path.{between}
-use Rattle.boundaries.specs.Tree.{Items}
 use Rattle.keys.specs.Key.{IsBytes, is_before, IsBefore}
 use Rattle.keys.specs.Range.{Holds, IsEmpty}
 use Rattle.keys.specs.declared.range.Range.{Range}

@@ -11,7 +11,6 @@ use Rattle.keys.proofs.callers.Booleans.{not_both_ways}
 use Rattle.keys.proofs.callers.KeyOrder.{before_trans, before_at_most_same, not_before_itself, not_before_if}
 use Rattle.arena.specs.Arena.{Arena}
 use Rattle.boundaries.specs.Path.{following as items_after}
-use Rattle.boundaries.specs.Tree.{Items}
 use Rattle.boundaries.proofs.callers.Partitions.{All-back}
 use Rattle.boundaries.specs.Boundary.{Boundary, AreBoundaries, AreInOrder, RiseFrom, value_from, value_at, last_version, below, from_on}
 use Rattle.keys.specs.declared.key.TheConstants.{MAX_KEY_LENGTH}

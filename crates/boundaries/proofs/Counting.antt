@@ -45,7 +45,7 @@ pub low : (nodes : Arena Node) (root height len room : ℕ) → IsTree nodes roo
 low {N} nodes root height len room t fits = elim (cases_lt height 63) [
   | inl less ↦ less
   | inr high ↦
-      let many = many_items nodes (HALF_FULL) (omega arith) height root t.rooted.subtree (t.rooted.branches (omega arith)) in
+      let many = many_items nodes HALF_FULL (omega arith) height root t.rooted.subtree (t.rooted.branches (omega arith)) in
       let power : 2 ^ 63 ≤ 2 ^ height = pow-le-pow_right (lit< tt) high in
       absurd (omega (arith, many, power, t.counted))
 ]
@@ -55,7 +55,7 @@ pub enough_spare : (nodes : Arena Node) (root height len room : ℕ) → IsTree 
     → 66 ≤ spare_of nodes 0
 enough_spare {N} nodes root height len room t = elim (cases_lt (spare_of nodes 0) 66) [
   | inl few ↦
-      let count = few_nodes nodes (HALF_FULL) (HALF_FULL - 1) (omega arith) height root t.rooted.subtree in
+      let count = few_nodes nodes HALF_FULL (HALF_FULL - 1) (omega arith) height root t.rooted.subtree in
       let filled = root_some nodes root height len room t in
       let reserved = rw t.rooted.linked at t.reserved in
       let less : spare_of nodes 0 ≤ 65 = omega arith in

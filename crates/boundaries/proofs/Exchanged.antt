@@ -9,7 +9,6 @@ use Rattle.arena.specs.Arena.{Arena, IsLive, record_at, key_at}
 use Rattle.boundaries.specs.Heads.{AllAreHeads}
 use Rattle.boundaries.specs.Item.{Item}
 use Rattle.boundaries.specs.Path.{IsPartitioned, items_below, following, between}
-use Rattle.boundaries.specs.Tree.{Items, tree_heads, KnowItems}
 use Rattle.boundaries.proofs.callers.Partitions.{All-front, All-back}
 use Rattle.boundaries.proofs.callers.Times.{times, once_cases, once_if_distinct, distinct_if_once, none_or_some}
 use Rattle.boundaries.specs.Boundary.{Boundary, AreInOrder}

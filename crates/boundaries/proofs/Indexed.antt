@@ -6,7 +6,6 @@ use Rattle.std.proofs.lemmas.List.Elements.{All-contains, All-map, All-head, All
 use Rattle.arena.specs.Arena.{Arena, Records, key_at}
 use Rattle.boundaries.specs.Heads.{KeyBytes, KeyHeads, AreHeads, AllAreHeads, IsKnown, Begins, head_at, head_after}
 use Rattle.boundaries.specs.Item.{Item}
-use Rattle.boundaries.specs.Tree.{Items, tree_heads, KnowItems}
 use Rattle.boundaries.proofs.callers.Heads.{all_known, headed_kept}
 use Rattle.boundaries.specs.Stored.{AreIndexed}
 use Rattle.boundaries.proofs.PlacedKeys.{Placed, ArePlaced, live_apart, live_by_key}

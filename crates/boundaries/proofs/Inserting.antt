@@ -13,7 +13,7 @@ use Rattle.boundaries.specs.Subtree.{items_in}
 use Rattle.boundaries.specs.Walk.{CanChangeBy}
 use Rattle.boundaries.proofs.Counting.{low, enough_spare}
 use Rattle.boundaries.proofs.LeafChange.{root_some}
-use Rattle.boundaries.specs.Tree.{IsTree, IsRooted}
+use Rattle.boundaries.specs.Store.{IsRooted}
 
 -- A tree can be changed.
 pub can_change : {bytes : KeyBytes} {is_below : ℕ → Bool} {Wants : List Item → Type 0} {nodes : Arena Node}

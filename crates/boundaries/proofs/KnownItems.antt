@@ -89,6 +89,6 @@ know_items {N} nodes root height room r s =
     by_record None e = tt
     by_record (Some record_there) e =
         let slots = slots_in nodes height root in
-        let live = live_in nodes (HALF_FULL) height root r.subtree in
+        let live = live_in nodes HALF_FULL height root r.subtree in
         let among = no_other nodes.records slots (once_if_distinct slots r.distinct) live r.linked s (ap is_some e) in
-        rw e at (keys_known nodes (HALF_FULL) s height root r.subtree among)
+        rw e at (keys_known nodes HALF_FULL s height root r.subtree among)

@@ -7,7 +7,7 @@ use Rattle.std.proofs.lemmas.Int.{ints}
 use Rattle.arena.specs.Arena.{Arena}
 use Rattle.boundaries.specs.Item.{IsGreatest, Item}
 use Rattle.boundaries.specs.Path.{items_below, between, from_last}
-use Rattle.boundaries.specs.Tree.{Items, IsLast}
+use Rattle.boundaries.specs.Items.{IsLast}
 use Rattle.boundaries.proofs.callers.Lists.{last_and_between}
 use Rattle.keys.specs.Key.{IsBytes}
 use Rattle.keys.specs.Range.{Holds, IsEmpty}

@@ -27,7 +27,7 @@ use Rattle.std.proofs.lemmas.List.Elements.{All-nil, All-cons, All-head, filter_
 use Rattle.arena.specs.Arena.{Arena}
 use Rattle.boundaries.specs.Item.{Item}
 use Rattle.boundaries.specs.Path.{items_below}
-use Rattle.boundaries.specs.Tree.{Items, IsLast}
+use Rattle.boundaries.specs.Items.{IsLast}
 use Rattle.boundaries.proofs.callers.Partitions.{All-back}
 use Rattle.keys.specs.Key.{is_before, IsBefore}
 use Rattle.keys.proofs.callers.KeyOrder.{not_before_itself}

@@ -7,7 +7,7 @@ use Rattle.boundaries.specs.declared.entry.NodeEntry.{NodeEntry}
 use Rattle.boundaries.specs.Item.{Item, item_of}
 use Rattle.boundaries.specs.Overwrite.{first_is_below}
 use Rattle.boundaries.specs.Path.{IsPartitioned, items_below, following, first_key}
-use Rattle.boundaries.specs.Tree.{ended_by}
+use Rattle.boundaries.specs.Items.{ended_by}
 use Rattle.boundaries.proofs.callers.Partitions.{not_both, none_pass, rest_fails}
 
 -- the entries that are put in

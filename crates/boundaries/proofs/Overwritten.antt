@@ -14,7 +14,7 @@ use Rattle.boundaries.specs.Heads.{AllAreHeads}
 use Rattle.boundaries.specs.Item.{Item}
 use Rattle.boundaries.specs.Overwrite.{Overwrites, OverwritesEntire, OverwritesPart}
 use Rattle.boundaries.specs.Path.{items_below, following, between}
-use Rattle.boundaries.specs.Tree.{Items, IsLast, ended_by, tree_heads, KnowItems}
+use Rattle.boundaries.specs.Items.{IsLast, ended_by}
 use Rattle.boundaries.specs.Boundary.{Boundary, AreBoundaries, AreInOrder, below, from_on, value_at}
 use Rattle.boundaries.specs.Bound.{slot_is_below}
 use Rattle.boundaries.specs.Stored.{boundary_of, boundaries_of, IsStored, AreIndexed}

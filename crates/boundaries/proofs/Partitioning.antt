@@ -8,7 +8,6 @@ use Rattle.std.specs.Ordering.{nat_cmp, is_le, is_lt}
 use Rattle.arena.specs.Arena.{Arena, Record, IsLive, record_at, key_at}
 use Rattle.boundaries.specs.Item.{Item}
 use Rattle.boundaries.specs.Path.{IsPartitioned, items_below, following}
-use Rattle.boundaries.specs.Tree.{Items}
 use Rattle.boundaries.proofs.callers.Partitions.{none_pass}
 use Rattle.keys.proofs.callers.KeyOrder.{before_trans, is_le-cmp}
 use Rattle.keys.proofs.callers.Booleans.{true_or_false, false_unless, not_both_ways}

@@ -7,7 +7,7 @@ use Rattle.arena.specs.Arena.{Arena}
 use Rattle.boundaries.specs.declared.entry.NodeEntry.{NodeEntry}
 use Rattle.boundaries.specs.Item.{Item, item_of}
 use Rattle.boundaries.specs.Path.{IsPartitioned, items_below, following, first_key as first_slot}
-use Rattle.boundaries.specs.Tree.{Items, IsLast}
+use Rattle.boundaries.specs.Items.{IsLast}
 use Rattle.keys.specs.Key.{is_before}
 use Rattle.keys.proofs.callers.Booleans.{true_or_false}
 use Rattle.boundaries.specs.Boundary.{Boundary, AreInOrder, last_version}

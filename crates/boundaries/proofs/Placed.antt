@@ -11,7 +11,6 @@ use Rattle.arena.specs.Arena.{Arena, Record, IsLive, record_at}
 use Rattle.keys.proofs.callers.Booleans.{true_or_false}
 use Rattle.boundaries.specs.Item.{Item}
 use Rattle.boundaries.specs.Path.{IsPartitioned}
-use Rattle.boundaries.specs.Tree.{Items}
 use Rattle.boundaries.proofs.callers.Times.{once_cases, distinct_if_once}
 use Rattle.boundaries.specs.Boundary.{AreInOrder}
 use Rattle.boundaries.specs.Bound.{is_below_at, slot_is_below}

@@ -17,7 +17,8 @@ use Rattle.boundaries.specs.Overwrite.{IsPartOfPartitioned, part_of_part}
 use Rattle.boundaries.specs.Path.{IsPartitioned, items_below, following, first_key}
 use Rattle.boundaries.specs.Children.{child_at, items_of, AreChildren, IsRebalancedAt}
 use Rattle.boundaries.specs.Subtree.{entries_at, items_in, slots_in}
-use Rattle.boundaries.specs.Tree.{IsRooted, least_of}
+use Rattle.boundaries.specs.Store.{IsRooted}
+use Rattle.boundaries.specs.declared.node.TheConstants.{HALF_FULL}
 use Rattle.boundaries.specs.Walk.{CanChange, CanChangeTree, IsChanged, IsChangedWithin, IsNewTree, IsRaisedIn}
 use Rattle.boundaries.proofs.callers.Partitions.{All-front, IsPartitioned-parts, none_fail, none_pass}
 use Rattle.boundaries.proofs.callers.Times.{once_if_distinct}
@@ -82,7 +83,7 @@ module _ {a : Arena Node} {height lower slot i x : ℕ} (at : IsAt a height lowe
   read : entries_at b slot ≡ es
   read = read_beside at (moves_if_changes a b (slots_in a lower x) (slots_in b lower x) put.changes)
 
-  right : IsRight b (HALF_FULL) lower (here at)
+  right : IsRight b HALF_FULL lower (here at)
   right =
       let child : child_at es i ≡ x = child_is es i at.d at.within ∙ sym at.x_is in
       record {
@@ -92,14 +93,14 @@ module _ {a : Arena Node} {height lower slot i x : ℕ} (at : IsAt a height lowe
             (describes_written at put refl leaf refl (here at) (rw read (slice_get-get_or es i at.d at.within)) (omega (arith, ints, answered)));
       }
 
-  children : AreChildren b (HALF_FULL) lower es
+  children : AreChildren b HALF_FULL lower es
   children =
       let loose = family at put refl in
-      let Right = IsRight b (HALF_FULL) lower in
+      let Right = IsRight b HALF_FULL lower in
       rw (split at) (All-append Right (take i es) (here at ∷ [] ++ drop (i + 1) es) (rw read at loose.family.before)
       (All-cons Right (here at) (drop (i + 1) es) right (rw read at loose.family.following)))
 
-  made : IsRebalancedAt b b (HALF_FULL) lower slot
+  made : IsRebalancedAt b b HALF_FULL lower slot
   made = record {
     subtree = (
       live_beside at (moves_if_changes a b (slots_in a lower x) (slots_in b lower x) put.changes),
@@ -108,7 +109,7 @@ module _ {a : Arena Node} {height lower slot i x : ℕ} (at : IsAt a height lowe
     );
     items = refl;
     changes = changes_if_moves b b _ _ (moves_same b (slots_in b (suc lower) slot) _ put.changes.keyless
-        (family_apart b (HALF_FULL) lower slot i (i + 1) (family at put refl)) (λ s. refl) refl);
+        (family_apart b HALF_FULL lower slot i (i + 1) (family at put refl)) (λ s. refl) refl);
   }
 
   there : IsRaisedIn b leaf (suc lower) slot

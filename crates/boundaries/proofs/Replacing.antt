@@ -23,10 +23,10 @@ both_right b least height x y t u child_t child_u below_x below_y filled describ
 
 -- Others stand in place of the child's entry.
 pub loose_at : {a b : Arena Node} {height lower slot i x : ℕ} (at : IsAt a height lower slot i x) (new : List NodeEntry) → Moves a b (slots_in a lower x) (slots_of b lower new)
-    → Loose a b (HALF_FULL) lower (take i (entries_at a slot)) (here at ∷ []) (drop (i + 1) (entries_at a slot)) new
+    → Loose a b HALF_FULL lower (take i (entries_at a slot)) (here at ∷ []) (drop (i + 1) (entries_at a slot)) new
 loose_at {a} {b} {height} {lower} {slot} {i} at new moves =
-    let Right = IsRight a (HALF_FULL) lower in
+    let Right = IsRight a HALF_FULL lower in
     let es = entries_at a slot in
-    loose a b (HALF_FULL) lower (take i es) (here at ∷ []) (drop (i + 1) es) new
+    loose a b HALF_FULL lower (take i es) (here at ∷ []) (drop (i + 1) es) new
     (λ s. (rw (← split at) (omega (arith, at.few s)))) (All-take Right i es at.subtree.2)
     (All-drop Right (i + 1) es at.subtree.2) (rw (one_slots at a) at moves)

@@ -10,7 +10,8 @@ use Rattle.boundaries.specs.declared.entry.NodeEntry.{NodeEntry}
 use Rattle.boundaries.specs.declared.node.Node.{Node}
 use Rattle.boundaries.specs.Subtree.{entries_at, items_in, slots_in, IsSubtree}
 use Rattle.boundaries.specs.Children.{AreChildren, items_of, slots_of}
-use Rattle.boundaries.specs.Tree.{IsRooted, least_of}
+use Rattle.boundaries.specs.Store.{IsRooted}
+use Rattle.boundaries.specs.declared.node.TheConstants.{HALF_FULL}
 use Rattle.boundaries.proofs.callers.Times.{once_if_distinct, distinct_if_once}
 use Rattle.boundaries.proofs.Frames.{IsRight, agree_own, items_same, slots_same, subtree_same, live_in}
 use Rattle.boundaries.proofs.Changing.{Moves, moves_beside, moves_agree}
@@ -23,15 +24,15 @@ only_one (x ∷ y ∷ xs) d one = absurd (omega arith)
 
 -- a placed node leads to all that there is
 pub grown : (a b : Arena Node) (height slot : ℕ) (es : List NodeEntry) → Moves a b [] (slot ∷ []) → IsLive b slot
-    → entries_at b slot ≡ es → 2 ≤ length es → AreChildren a (HALF_FULL) height es
+    → entries_at b slot ≡ es → 2 ≤ length es → AreChildren a HALF_FULL height es
     → IsDistinct nat_eq (slots_of a height es) → map.len a.records ≡ length (slots_of a height es)
     → (items_in b (suc height) slot ≡ items_of a height es) × IsRooted b slot (suc height)
 grown a b height slot es moves live here two right distinct linked =
     let zs = slots_of a height es in
     let once = once_if_distinct zs distinct in
-    let alive = live_children a (HALF_FULL) height es right in
+    let alive = live_children a HALF_FULL height es right in
     let agree = moves_agree a b [] (slot ∷ []) zs moves alive (λ s. omega (arith, once s)) in
-    let h = holds a b (HALF_FULL) height slot es live here (omega arith) right agree in
+    let h = holds a b HALF_FULL height slot es live here (omega arith) right agree in
     let beside = moves_beside a b [] (slot ∷ []) zs zs (slot ∷ zs) moves (λ s. omega arith) (λ s. omega arith) (omega arith)
     (omega arith) once alive in
     let rooted : IsRooted b slot (suc height) = record {
@@ -44,7 +45,7 @@ grown a b height slot es moves live here two right distinct linked =
     (h.items, rooted)
 
 -- the only child of a released root
-pub shrunk : (a b : Arena Node) (height slot : ℕ) (e : NodeEntry) → IsSubtree a (HALF_FULL) (suc height) slot
+pub shrunk : (a b : Arena Node) (height slot : ℕ) (e : NodeEntry) → IsSubtree a HALF_FULL (suc height) slot
     → entries_at a slot ≡ e ∷ [] → IsDistinct nat_eq (slots_in a (suc height) slot)
     → map.len a.records ≡ length (slots_in a (suc height) slot) → Moves a b (slot ∷ []) []
     → (items_in b height e.child ≡ items_in a (suc height) slot) × IsRooted b e.child height

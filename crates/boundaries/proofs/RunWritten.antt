@@ -6,7 +6,7 @@ use Rattle.boundaries.specs.declared.entry.NodeEntry.{NodeEntry}
 use Rattle.boundaries.specs.Item.{Item, item_of}
 use Rattle.boundaries.specs.Overwrite.{GivesEntire, first_is_below}
 use Rattle.boundaries.specs.Path.{IsPartitioned, items_below, following, first_key}
-use Rattle.boundaries.specs.Tree.{IsLast, ended_by}
+use Rattle.boundaries.specs.Items.{IsLast, ended_by}
 use Rattle.boundaries.proofs.WrittenLeaf.{some_item, items_parted, between_entries}
 
 -- What stands between the bounds is taken out, and the new items come in its place.

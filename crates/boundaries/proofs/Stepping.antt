@@ -5,7 +5,7 @@ use Rattle.boundaries.specs.declared.entry.NodeEntry.{NodeEntry}
 use Rattle.boundaries.specs.declared.node.Node.{Node}
 use Rattle.boundaries.specs.Item.{Item}
 use Rattle.boundaries.specs.Subtree.{entries_at, items_in, slots_in, IsSubtree}
-use Rattle.boundaries.specs.Tree.{least_of}
+use Rattle.boundaries.specs.declared.node.TheConstants.{HALF_FULL}
 use Rattle.boundaries.specs.Walk.{CanChange}
 use Rattle.boundaries.specs.Children.{child_at, items_of, slots_of}
 use Rattle.boundaries.proofs.callers.Times.{times, once, once_same, distinct_if_once}
@@ -18,7 +18,7 @@ use Rattle.boundaries.proofs.Sharing.{child_is, around_one}
 pub record IsAt (a : Arena Node) (height lower slot i x : ℕ) : Type 0 where
   pub can : CanChange a height slot
   pub next : suc lower ≡ height
-  pub subtree : IsSubtree a (HALF_FULL) (suc lower) slot
+  pub subtree : IsSubtree a HALF_FULL (suc lower) slot
   pub few : (s : ℕ) → times s (slots_in a (suc lower) slot) ≤ 1
   pub within : i < length (entries_at a slot)
   pub d : NodeEntry
@@ -37,7 +37,7 @@ module _ {a : Arena Node} {height lower slot i x : ℕ} (at : IsAt a height lowe
   pub x_at : x ≡ child_at es i
   x_at = at.x_is ∙ sym (child_is es i at.d at.within)
 
-  pub child_right : IsRight a (HALF_FULL) lower here
+  pub child_right : IsRight a HALF_FULL lower here
   child_right = at.subtree.2 i at.d at.within
 
   pub one_slots : (b : Arena Node) → slots_in b lower x ≡ slots_of b lower (here ∷ [])
@@ -56,11 +56,9 @@ module _ {a : Arena Node} {height lower slot i x : ℕ} (at : IsAt a height lowe
       let right = child_right in
       let filled : HALF_FULL ≤ length (entries_at a x) = rw at.x_is right.filled in
       record {
-        fan_out = at.can.fan_out;
-        few = at.can.few;
         subtree = rw at.x_is right.subtree;
-        some = omega (arith, filled, at.can.fan_out);
-        branches = λ _. omega (arith, filled, at.can.fan_out);
+        some = omega (arith, filled);
+        branches = λ _. omega (arith, filled);
         distinct = distinct_if_once (slots_in a lower x) (λ s. omega (arith, child_once s));
         keyless = at.can.keyless;
         room = omega (arith, at.can.room, at.next);

@@ -3,14 +3,15 @@ use Rattle.std.proofs.Common.{◌≡◌, inl, inr, ℕ, suc, ◌+◌, ◌≤◌,
 use Rattle.std.specs.Prelude.{IfSome, slice_set}
 use Rattle.std.proofs.lemmas.List.{length-set}
 use Rattle.std.specs.List.{All, Contains}
-use Rattle.arena.specs.Arena.{Arena, IsLive, header_at, record_at, with_header}
+use Rattle.arena.specs.Arena.{Arena, IsLive, header_at, key_at, record_at, with_header}
 use Rattle.boundaries.specs.declared.entry.NodeEntry.{NodeEntry}
 use Rattle.boundaries.specs.declared.node.Node.{Node}
-use Rattle.boundaries.specs.Heads.{AllAreHeads, AreHeads, KeyBytes}
 use Rattle.boundaries.specs.Item.{Item, Describes}
-use Rattle.boundaries.specs.Node.{all_heads_of, entries_of, key_heads_of}
-use Rattle.boundaries.specs.Rebalancing.{AreTwo, CanMerge, CanRebalance, LosesOneAtMost}
-use Rattle.boundaries.specs.Tree.{least_of}
+use Rattle.boundaries.specs.Node.{IsHeaded, entries_of}
+use Rattle.boundaries.specs.Rebalancing.{AreTwo, CanMerge, CanRebalance, KeepsKeys, LosesOneAtMost}
+use Rattle.boundaries.specs.Store.{AreHeaded}
+use Rattle.boundaries.specs.declared.store.Store.{Store}
+use Rattle.boundaries.specs.declared.node.TheConstants.{HALF_FULL}
 use Rattle.boundaries.specs.Subtree.{entries_at, items_in, slots_in, IsSubtree}
 use Rattle.boundaries.specs.Children.{entries_at_both, items_with, slots_with, slot_taken, Changes, items_of, slots_of, AreChildren, IsFamilyAt, IsRebalanced, IsRebalancedAt}
 use Rattle.boundaries.proofs.callers.Times.{times, once_same, once_cases, once_if_distinct, times-append, times_unless_contains}
@@ -120,26 +121,31 @@ rebalanced_at {a} {b} {w} {least} {height} {slot} {from} {to} node live at rebal
     }
 
 -- The child at the index of a node that can be rebalanced is live.
-pub child_live : {bytes : KeyBytes} {a : Arena Node} {slot i x : ℕ} (d : NodeEntry) → CanRebalance bytes a slot i
-    → x ≡ (get_or (entries_at a slot) i d).child → IsLive a x
-child_live {bytes} {a} {slot} {i} {x} d can x_is =
-    live_subtree a (HALF_FULL) can.family.0 x (rw x_is (can.family.1.family.below i d can.within))
+pub child_live : {store : Store} {slot i x : ℕ} (d : NodeEntry) → CanRebalance store slot i
+    → x ≡ (get_or (entries_at store.nodes slot) i d).child → IsLive store.nodes x
+child_live {store} {slot} {i} {x} d can x_is =
+    live_subtree store.nodes HALF_FULL can.family.0 x (rw x_is (can.family.1.family.below i d can.within))
 
 -- The entry at the index is made right where it lies.
-pub entry_put : {bytes : KeyBytes} {a : Arena Node} {height slot i x : ℕ} (d t : NodeEntry) (node : Node)
-    → CanRebalance bytes a slot i → IsFamilyAt a (HALF_FULL) height slot i (i + 1) → x ≡ (get_or (entries_at a slot) i d).child
-    → t.child ≡ x → (IsSubtree a (HALF_FULL) height x → Describes t (items_in a height x))
-    → HALF_FULL ≤ length (entries_at a x) → entries_of node ≡ slice_set (entries_at a slot) i t
-    → IsRebalancedAt a (with_header a slot node) (HALF_FULL) height slot
-entry_put {bytes} {a} {height} {slot} {i} {x} d t node can family x_is child describes filled now_is =
+pub entry_put : {store : Store} {height slot i x : ℕ} (d t : NodeEntry) (node : Node)
+    → CanRebalance store slot i → IsFamilyAt store.nodes HALF_FULL height slot i (i + 1)
+    → x ≡ (get_or (entries_at store.nodes slot) i d).child
+    → t.child ≡ x → (IsSubtree store.nodes HALF_FULL height x → Describes t (items_in store.nodes height x))
+    → HALF_FULL ≤ length (entries_at store.nodes x) → entries_of node ≡ slice_set (entries_at store.nodes slot) i t
+    → IsRebalancedAt store.nodes (with_header store.nodes slot node) HALF_FULL height slot
+entry_put {store} {height} {slot} {i} {x} d t node can family x_is child describes filled now_is =
+    let a = store.nodes in
     let es = entries_at a slot in
-    rebalanced_at node can.live family (rebalanced_by_entry a (HALF_FULL) height es (entries_of node) i x d t can.within x_is
-    family.family can.keyless child describes filled (now_is ∙ set_one es i t can.within))
+    rebalanced_at node can.live family (rebalanced_by_entry a HALF_FULL height es (entries_of node) i x d t can.within x_is
+    family.family can.sound.keyless child describes filled (now_is ∙ set_one es i t can.within))
     (omega (arith, ap length now_is, length-set es i t, can.within)) refl
 
 -- Two children of a node, whose entries were read, are merged, or share their entries, while its own record stays as it is.
-module _ {bytes : KeyBytes} {a : Arena Node} {slot i : ℕ} {l : List NodeEntry} (d e : NodeEntry) (can : CanMerge bytes a slot i)
-    (read : l ≡ entries_at a slot) where
+module _ {store : Store} {slot i : ℕ} {l : List NodeEntry} (d e : NodeEntry) (can : CanMerge store slot i)
+    (read : l ≡ entries_at store.nodes slot) where
+  abbrev a : Arena Node
+  a = store.nodes
+
   abbrev es : List NodeEntry
   es = entries_at a slot
 
@@ -152,16 +158,15 @@ module _ {bytes : KeyBytes} {a : Arena Node} {slot i : ℕ} {l : List NodeEntry}
   abbrev y : ℕ
   y = (get_or l (i + 1) e).child
 
-  pub both : AreTwo bytes a x y
+  pub both : AreTwo store x y
   both =
       let f = can.family in
-      let live = live_subtree a (HALF_FULL) f.0 in
+      let live = live_subtree a HALF_FULL f.0 in
       rw read record {
         live_first = live (get_or es i d).child (f.1.family.below i d (omega (arith, can.within)));
         live_second = live (get_or es (i + 1) e).child (f.1.family.below (i + 1) e can.within);
-        apart = apart_pair a (HALF_FULL) f.0 es i d e can.within f.1.family;
-        keyless = can.keyless;
-        headed = can.headed;
+        apart = apart_pair a HALF_FULL f.0 es i d e can.within f.1.family;
+        sound = can.sound;
       }
 
   pub enough : HALF_FULL ≤ length (entries_at a x) + length (entries_at a y)
@@ -182,23 +187,26 @@ module _ {bytes : KeyBytes} {a : Arena Node} {slot i : ℕ} {l : List NodeEntry}
       sym (entries_from_header b slot node header) ∙ entries_same a b slot (kept changes)
 
   -- The entries of the node are made right.
-  pub remade : {b : Arena Node} (new : List NodeEntry) (node : Node) → 1 ≤ length new → length (slots_of b 0 new) ≤ 2
-      → Changes a b (x ∷ y ∷ []) (slots_of b 0 new) → AllAreHeads bytes (all_heads_of b) → All (IsMade b (HALF_FULL)) new
-      → entries_below b new ≡ entries_at a x ++ entries_at a y → entries_of node ≡ take i es ++ (new ++ drop (i + 2) es)
-      → AreHeads bytes (key_heads_of node)
-      → ((height : ℕ) → IsFamilyAt a (HALF_FULL) height slot i (i + 2)
-      → IsRebalancedAt a (with_header b slot node) (HALF_FULL) height slot)
-      × LosesOneAtMost bytes a (with_header b slot node) es (entries_at (with_header b slot node) slot)
-  remade {b} new node some few changes headed made here now_is own_headed =
+  pub remade : {between : Store} (new : List NodeEntry) (node : Node) → 1 ≤ length new
+      → length (slots_of between.nodes 0 new) ≤ 2 → Changes a between.nodes (x ∷ y ∷ []) (slots_of between.nodes 0 new)
+      → KeepsKeys store between → AreHeaded between → All (IsMade between.nodes HALF_FULL) new
+      → entries_below between.nodes new ≡ entries_at a x ++ entries_at a y
+      → entries_of node ≡ take i es ++ (new ++ drop (i + 2) es) → IsHeaded between.keys node
+      → ((height : ℕ) → IsFamilyAt a HALF_FULL height slot i (i + 2)
+      → IsRebalancedAt a (with_header between.nodes slot node) HALF_FULL height slot)
+      × LosesOneAtMost store (record between { nodes = with_header between.nodes slot node }) slot
+  remade {between} new node some few changes keeps headed made here now_is own_headed =
+      let b = between.nodes in
       let few_less : length es ≤ length (entries_of node) + 1 =
       simp (now_is, length-append, length-take, length-drop) (omega (arith, can.within)) in
       let below : entries_below b new ≡ entries_below a pair = cc (append-nil (entries_at a (get_or es (i + 1) e).child)) in
       let moves = rw read at (moves_if_changes a b _ _ changes) in (
-        λ height family. rebalanced_at node can.live family (rebalanced_by a (HALF_FULL) height i (i + 2) es pair family.family
+        λ height family. rebalanced_at node can.live family (rebalanced_by a HALF_FULL height i (i + 2) es pair family.family
             (around_two es i d e can.within) b _ new now_is (omega arith) made below moves) (omega (arith, few_less, can.within)) refl,
         record {
           few_less = omega (arith, few_less, ap length (put_entries b (with_header b slot node) slot node refl));
           spare = omega (arith, few, changes.live, changes.spare);
-          headed = headed_header bytes b (with_header b slot node) slot node refl headed own_headed;
+          headed = headed_header (key_at between.keys) b (with_header b slot node) slot node refl headed own_headed;
+          keeps = keeps;
         },
       )

@@ -9,7 +9,7 @@ use Rattle.boundaries.specs.declared.node.Node.{Node}
 use Rattle.boundaries.specs.declared.walk.RaisedLeaf.{RaisedLeaf}
 use Rattle.boundaries.specs.Node.{entries_of}
 use Rattle.boundaries.specs.Subtree.{slots_in}
-use Rattle.boundaries.specs.Tree.{IsTree, least_of, longest_path}
+use Rattle.boundaries.specs.declared.node.TheConstants.{HALF_FULL}
 use Rattle.boundaries.specs.Walk.{IsRaisedInTree}
 use Rattle.boundaries.proofs.callers.Times.{distinct_if_once}
 use Rattle.boundaries.proofs.Frames.{Agree, agree_own, items_same, raised_same, slots_same, subtree_same}
@@ -64,7 +64,7 @@ tree_stays a b root height len room more same t wider enough =
       fan_out = t.fan_out;
       few = t.few;
       rooted = record {
-        subtree = subtree_same a b (HALF_FULL) height root agree t.rooted.subtree;
+        subtree = subtree_same a b HALF_FULL height root agree t.rooted.subtree;
         branches = λ above. rw (agree_own a b height root agree) (t.rooted.branches above);
         distinct = rw slots t.rooted.distinct;
         linked = rw (slots, same) t.rooted.linked;

@@ -15,7 +15,7 @@ use Rattle.boundaries.specs.Heads.{AllAreHeads}
 use Rattle.boundaries.specs.Item.{Item}
 use Rattle.boundaries.specs.Path.{IsPartitioned, items_below, following}
 use Rattle.boundaries.specs.Expire.{RemovesExpired}
-use Rattle.boundaries.specs.Tree.{Items, unexpired as unexpired_items, tree_heads, KnowItems}
+use Rattle.boundaries.specs.Items.{unexpired as unexpired_items}
 use Rattle.boundaries.proofs.callers.Partitions.{All-back}
 use Rattle.boundaries.specs.Boundary.{Boundary, AreInOrder, RiseFrom, last_version}
 use Rattle.boundaries.specs.Bound.{slot_is_below}

@@ -6,7 +6,7 @@ use Rattle.std.proofs.lemmas.List.{map-append}
 use Rattle.std.proofs.lemmas.List.Elements.{All-head, All-tail}
 use Rattle.arena.specs.Arena.{Arena, IsLive}
 use Rattle.boundaries.specs.Item.{Item}
-use Rattle.boundaries.specs.Tree.{unexpired as unexpired_items, expired}
+use Rattle.boundaries.specs.Items.{unexpired as unexpired_items, expired}
 use Rattle.boundaries.proofs.callers.Times.{times, once_same, once_cases, times-append}
 
 -- the slots of items

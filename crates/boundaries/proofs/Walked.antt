@@ -15,7 +15,7 @@ use Rattle.boundaries.specs.Item.{Item}
 use Rattle.boundaries.specs.Children.{child_at, entries_at_both, items_of, slots_of, slots_with, Changes, HasRaisedEntry, IsFamily, IsFamilyAt, IsLinked, IsRebalancedAt, DescribesWritten}
 use Rattle.boundaries.specs.Splice.{AreHalfFull}
 use Rattle.boundaries.specs.Subtree.{entries_at, items_in, slots_in, IsSubtree}
-use Rattle.boundaries.specs.Tree.{least_of}
+use Rattle.boundaries.specs.declared.node.TheConstants.{HALF_FULL}
 use Rattle.boundaries.specs.Walk.{added_by, IsChanged, IsChangedWithin, IsRaisedIn}
 use Rattle.boundaries.specs.Rebalancing.{CanInsertChild, CanRebalance, IsStored, LosesOneAtMost}
 use Rattle.boundaries.proofs.callers.Times.{distinct_if_once, none_or_some, once_same, times, times_if_contains}
@@ -63,18 +63,18 @@ module _ {a : Arena Node} {height lower slot i x : ℕ} (at : IsAt a height lowe
     moves : Moves a b (slots_in a lower x) (slots_in b lower x)
     moves = moves_if_changes a b _ _ (subst (λ o. Changes a b (slots_in a lower x) (slots_with b lower x o)) entire put.changes)
 
-    loosened : Loose a b (HALF_FULL) lower (take i es) (here at ∷ []) (drop (i + 1) es) (here at ∷ [])
+    loosened : Loose a b HALF_FULL lower (take i es) (here at ∷ []) (drop (i + 1) es) (here at ∷ [])
     loosened = loose_at at (here at ∷ []) (rw (one_slots at b) at moves)
 
     own : Moves a b (slots_in a (suc lower) slot) (slot ∷ slots_of b lower es)
     own = moves_own lower slot es at.few at.subtree.0 (rw (split at) loosened.moves)
 
-    pub family : IsFamilyAt b (HALF_FULL) lower slot i (i + 1)
+    pub family : IsFamilyAt b HALF_FULL lower slot i (i + 1)
     family =
-        let Below = λ (e : NodeEntry). IsSubtree b (HALF_FULL) lower e.child in
+        let Below = λ (e : NodeEntry). IsSubtree b HALF_FULL lower e.child in
         let all = All-append Below (take i es) (here at ∷ [] ++ drop (i + 1) es) (below_of b _ lower _ loosened.front)
         (All-cons Below (here at) (drop (i + 1) es) (rw at.x_is at put.subtree) (below_of b _ lower _ loosened.back)) in
-        let loose : IsFamily b (HALF_FULL) lower es i (i + 1) = record {
+        let loose : IsFamily b HALF_FULL lower es i (i + 1) = record {
           distinct = distinct_if_once (slots_of b lower es) (λ s. omega (arith, own.few s));
           below = rw (split at) all;
           before = loosened.front;
@@ -138,8 +138,8 @@ module _ {a : Arena Node} {height lower slot i x : ℕ} (at : IsAt a height lowe
         )
 
     -- The node was rebalanced.
-    module _ {w : Arena Node} (rebalanced : IsRebalancedAt b w (HALF_FULL) lower slot) where
-      pub step_rebalanced : Stored a w (HALF_FULL) height slot None (around at (items_in b lower x))
+    module _ {w : Arena Node} (rebalanced : IsRebalancedAt b w HALF_FULL lower slot) where
+      pub step_rebalanced : Stored a w HALF_FULL height slot None (around at (items_in b lower x))
       step_rebalanced = rw (← at.next) record {
         items_are = rebalanced.items ∙ ap (items_of b lower) (read_beside at moves ∙ split at)
             ∙ (simp (sym at.x_is, append-nil) at loosened.items);
@@ -201,7 +201,7 @@ module _ {a : Arena Node} {height lower slot i x : ℕ} (at : IsAt a height lowe
       linked_here : IsLinked b x s (take i es) (drop (i + 1) es) (entries_at_both w slot (added_by outcome))
       linked_here = rw (x_at at) (rw (read_beside at both_moves) at linked)
 
-      pub step_linked : Stored a w (HALF_FULL) height slot (added_by outcome)
+      pub step_linked : Stored a w HALF_FULL height slot (added_by outcome)
           (around at (items_in b lower x ++ items_in b lower s))
       step_linked =
           let t = linked_here.first in
@@ -211,14 +211,14 @@ module _ {a : Arena Node} {height lower slot i x : ℕ} (at : IsAt a height lowe
           let slots : slots_in b lower x ++ slots_in b lower s ≡ slots_of b lower (t ∷ u ∷ []) =
           simp (first, second, append-nil) in
           let l = loose_at at (t ∷ u ∷ []) (rw slots at both_moves) in
-          let right = both_right b (HALF_FULL) lower x s t u first second put.subtree put.neighbour put.filled
+          let right = both_right b HALF_FULL lower x s t u first second put.subtree put.neighbour put.filled
           linked_here.first_describes linked_here.second_describes in
-          let Right = IsRight b (HALF_FULL) lower in
+          let Right = IsRight b HALF_FULL lower in
           let all = All-append Right (take i es) (t ∷ u ∷ drop (i + 1) es) l.front
           (All-append Right (t ∷ u ∷ []) (drop (i + 1) es) right l.back) in
           let some : 1 ≤ length (entries_at_both w slot (added_by outcome)) =
           omega (arith, ap length linked_here.entries, length-append (take i es) (t ∷ u ∷ drop (i + 1) es)) in
-          let k = stored (HALF_FULL) lower slot at.few at.subtree.0 (added_by outcome)
+          let k = stored HALF_FULL lower slot at.few at.subtree.0 (added_by outcome)
           (rw (split at, linked_here.entries) l.moves) (rw linked_here.entries all) some
           (both_filled 1 w slot _ (omega (arith, at.can.fan_out)) stored_at.filled) stored_at.live stored_at.live_added
           (moves_if_changes b w _ _ stored_at.changes) in
@@ -233,7 +233,7 @@ module _ {a : Arena Node} {height lower slot i x : ℕ} (at : IsAt a height lowe
         raised = λ leaf is. absurd (kept leaf is);
         subtree = step_linked.subtree;
         neighbour = step_linked.neighbour;
-        filled = both_filled (HALF_FULL) w slot _ (omega (arith, at.can.fan_out)) stored_at.filled;
+        filled = both_filled HALF_FULL w slot _ (omega (arith, at.can.fan_out)) stored_at.filled;
         few_less = λ above none. (
             let is : entries_at w slot ≡ take i es ++ (linked_here.first ∷ linked_here.second ∷ drop (i + 1) es) =
             ap (entries_at_both w slot) (sym none) ∙ linked_here.entries in

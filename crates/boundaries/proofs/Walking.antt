@@ -14,7 +14,7 @@ use Rattle.boundaries.specs.Item.{Item, Describes, item_of}
 use Rattle.boundaries.specs.Path.{IsPartitioned, first_key, index_in}
 use Rattle.boundaries.specs.Children.{child_at, items_of, AreChildren, DescribesWritten}
 use Rattle.boundaries.specs.Subtree.{entries_at, items_in}
-use Rattle.boundaries.specs.Tree.{least_of}
+use Rattle.boundaries.specs.declared.node.TheConstants.{HALF_FULL}
 use Rattle.boundaries.specs.Walk.{IsChangedWithin, IsFoundAmong, IsRaised}
 use Rattle.boundaries.proofs.callers.Partitions.{not_both}
 use Rattle.boundaries.proofs.callers.Times.{none_or_some}
@@ -108,7 +108,7 @@ module _ {a : Arena Node} {height lower slot i x : ℕ} (at : IsAt a height lowe
       let Passes = λ (x : Item). is_below x.key ≡ true in
       let Fails = λ (x : Item). is_below x.key ≡ false in
       let QuestionAnswers = λ (e : NodeEntry). Describes e (items_in a lower e.child) in
-      let w = way a (HALF_FULL) lower slot is_below at.subtree (rw (← at.next) at partitioned) in
+      let w = way a HALF_FULL lower slot is_below at.subtree (rw (← at.next) at partitioned) in
       let child : x ≡ w.entry.child = x_at at ∙ ap (child_at es) index ∙ sym w.child in
       let found : IsFoundAmong is_below front part = elim (none_or_some (length (filter (λ (e : NodeEntry). is_below e.key) es))) [
         | inl none ↦ (let zero_is : i ≡ 0 = omega (arith, index) in inl (ap (λ n. items_of a lower (take n es)) zero_is))
@@ -143,7 +143,7 @@ module _ {a : Arena Node} {height lower slot i x : ℕ} (at : IsAt a height lowe
           λ h. (let b = c.first_is.0 h in let f = first_is.0 b.0 in
               (f.0, ap₂ (λ n ys. items_of a lower (take n es) ++ ys) f.1 b.1)),
           λ h. (let none = both_empty front c.before h.1 in
-              c.first_is.1 (first_is.1 (h.0, none_at a (HALF_FULL) lower es i at.subtree.2 at.within none.0), none.1)),
+              c.first_is.1 (first_is.1 (h.0, none_at a HALF_FULL lower es i at.subtree.2 at.within none.0), none.1)),
         );
         gives = subst (λ k. Gives c.first k c.leaf c.changed)
             (ap (λ k. first_key k c.following) below_is ∙ sym (first_key-append key c.following back)) c.gives;

@@ -11,7 +11,7 @@ use Rattle.boundaries.specs.declared.entry.NodeEntry.{NodeEntry}
 use Rattle.boundaries.specs.Item.{Item, item_of}
 use Rattle.boundaries.specs.Overwrite.{IsOverwritten, IsPartOfPartitioned, first_is_below}
 use Rattle.boundaries.specs.Path.{IsPartitioned, items_below, following, between, first_key}
-use Rattle.boundaries.specs.Tree.{IsLast, ended_by}
+use Rattle.boundaries.specs.Items.{IsLast, ended_by}
 use Rattle.boundaries.specs.Walk.{IsRaised}
 use Rattle.boundaries.proofs.callers.Partitions.{All-back, none_fail, IsPartitioned-parts}
 use Rattle.boundaries.proofs.Inserting.{ended_some}

@@ -15,8 +15,8 @@ use Rattle.boundaries.specs.declared.walk.LeafOutcome.TheVariants.{Same, Raised,
 use Rattle.boundaries.specs.Bound.{Keys, is_below}
 use Rattle.boundaries.specs.Children.{slots_with, Changes, IsKeyless}
 use Rattle.boundaries.specs.Item.{Item}
-use Rattle.boundaries.specs.Path.{first_key}
-use Rattle.boundaries.specs.Position.{CanReach, CanSearch}
+use Rattle.boundaries.specs.Path.{IsPartitioned, first_key}
+use Rattle.boundaries.specs.Position.{CanReach, IsFirstKnown}
 use Rattle.boundaries.specs.Store.{AreHeaded, IsRooted, KeysStay}
 use Rattle.boundaries.specs.Subtree.{entries_at, items_in, slots_in, IsSubtree}
 
@@ -50,6 +50,8 @@ pub record IsChangedWithin (is_below : ℕ → Bool) (Gives : Option ℕ → Lis
 
 -- A subtree that may be changed: it is right, and there are as many spare slots as a change takes.
 pub record CanChange (nodes : Arena Node) (height slot : ℕ) : Type 0 where
+  pub subtree : IsSubtree nodes HALF_FULL height slot
+  pub some : 1 ≤ length (entries_at nodes slot)
   pub branches : 1 ≤ height → 2 ≤ length (entries_at nodes slot)
   pub distinct : IsDistinct nat_eq (slots_in nodes height slot)
   pub keyless : IsKeyless nodes
@@ -59,7 +61,9 @@ pub record CanChange (nodes : Arena Node) (height slot : ℕ) : Type 0 where
 pub record CanChangeLeaf (bound : KeyBound) (Wants : Keys → List Item → Type 0) (store : Store) (height : ℕ) (position : Position)
     : Type 0 where
   pub changeable : CanChange store.nodes height position.slot
-  pub search : CanSearch store bound height position.slot position.common_prefix_len
+  pub partitioned : IsPartitioned (λ x. is_below store.keys bound x.key) (items_in store.nodes height position.slot)
+  pub headed : AreHeaded store
+  pub known : IsFirstKnown store bound position.slot position.common_prefix_len
   pub wanted : Wants store.keys (items_in store.nodes height position.slot)
   pub none_removed : store.removed.items ≡ []
 

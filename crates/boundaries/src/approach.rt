@@ -10,8 +10,8 @@ ghost use Rattle.boundaries.specs.Question.{IsHint, IsRestAt};
 
 use crate::node::Node;
 use crate::question::Question;
-use crate::tree::Root;
 use crate::store::Store;
+use crate::tree::Root;
 use arena::Slot;
 
 /// What is known of the boundaries after a subtree.

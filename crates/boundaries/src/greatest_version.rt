@@ -13,8 +13,8 @@ ghost use Rattle.boundaries.specs.Subtree.{items_in};
 use crate::entry::NodeEntry;
 use crate::key_bound::KeyBound;
 use crate::node::{Node, Step};
-use crate::tree::Root;
 use crate::store::Store;
+use crate::tree::Root;
 use arena::Slot;
 
 // A bound that is sought in a subtree whose first key is below it.
@@ -47,13 +47,7 @@ impl<'a> Sought<'a> {
 
 /// Returns the greatest of this version and those of the boundaries below the second bound, of
 /// those below the first one the last alone.
-pub fn greatest(
-    store: &Store,
-    root: Root,
-    from: KeyBound<'_>,
-    to: KeyBound<'_>,
-    least: i64,
-) -> i64
+pub fn greatest(store: &Store, root: Root, from: KeyBound<'_>, to: KeyBound<'_>, least: i64) -> i64
     requires from { CanReach store.now from root.height root.slot }
     requires to { CanReach store.now to root.height root.slot }
     requires nested { AreNested store.now.keys from to }
@@ -108,13 +102,7 @@ fn greatest_between(
 
 // Returns the greatest of this version and those of a subtree's boundaries from the last one below
 // the bound on.
-fn greatest_from(
-    store: &Store,
-    slot: Slot,
-    height: usize,
-    from: Sought<'_>,
-    least: i64,
-) -> i64
+fn greatest_from(store: &Store, slot: Slot, height: usize, from: Sought<'_>, least: i64) -> i64
     requires from { IsSought store.now from height slot }
     ensures most { IsMost item_version least (from_last (is_below store.now.keys from.bound) None
         (items_in store.now.nodes height slot)) result }

@@ -19,8 +19,8 @@ use crate::greatest_version::greatest;
 use crate::node::Node;
 use crate::query::QueryList;
 use crate::question::{Question, SIDE};
-use crate::tree::Root;
 use crate::store::Store;
+use crate::tree::Root;
 use arrayvec::ArrayVec;
 
 /// The end of a question's way, and the result of the first look at the leaf.
@@ -34,10 +34,7 @@ pub struct Look {
 
 /// Returns the question for each of the queries at these places, whose ranges aren't empty. There
 /// are at most [`SIDE`].
-pub fn questions<'a, L: QueryList>(
-    queries: &'a L,
-    places: &[usize],
-) -> ArrayVec<Question<'a>, SIDE>
+pub fn questions<'a, L: QueryList>(queries: &'a L, places: &[usize]) -> ArrayVec<Question<'a>, SIDE>
     requires few { length places.now ≤ SIDE }
     requires filled { All (λ place. IsSomeAnd (slice_get (L.queries queries.now) place)
         (λ q. ¬ IsEmpty q.0)) places.now }
@@ -52,11 +49,7 @@ pub fn questions<'a, L: QueryList>(
 }
 
 /// Answers each question, in their order. There are at most [`SIDE`].
-pub fn answer_each(
-    store: &Store,
-    root: Root,
-    questions: &[Question<'_>],
-) -> ArrayVec<bool, SIDE>
+pub fn answer_each(store: &Store, root: Root, questions: &[Question<'_>]) -> ArrayVec<bool, SIDE>
     requires few { length questions.now ≤ SIDE }
     requires asked { All (IsAsked store.now root.height root.slot) questions.now }
     ensures answered { AllZip (λ q above. IsTrue above
@@ -73,11 +66,7 @@ pub fn answer_each(
 }
 
 // Goes down a tree for each question.
-fn approach_each(
-    store: &Store,
-    root: Root,
-    questions: &[Question<'_>],
-) -> ArrayVec<Approach, SIDE>
+fn approach_each(store: &Store, root: Root, questions: &[Question<'_>]) -> ArrayVec<Approach, SIDE>
     requires few { length questions.now ≤ SIDE }
     requires asked { All (IsAsked store.now root.height root.slot) questions.now }
     ensures approaches { AllZip (IsApproach store.now root.height root.slot Rest.Clear)
@@ -141,7 +130,13 @@ fn answer(store: &Store, root: Root, question: &Question<'_>, look: Look) -> boo
     match answered {
         Some(above) => above,
         None => {
-            let most = greatest(store, root, question.from(), question.to(), question.version);
+            let most = greatest(
+                store,
+                root,
+                question.from(),
+                question.to(),
+                question.version,
+            );
             most > question.version
         }
     }

@@ -135,7 +135,7 @@ impl Store {
             node.remove(index + 1, index + 2);
             return node.lengthen_prefix(&self.keys);
         }
-        self.redistribute(first, second, count / 2);
+        self.redistribute(first, second);
         let new = [self.entry_for(first), self.entry_for(second)];
         let node = self.nodes.header_mut(slot);
         node.set_with_head(&self.keys, index, new[0]);
@@ -161,8 +161,8 @@ impl Store {
         self.nodes.release(second);
     }
 
-    // Moves entries between two nodes so that the first one has `half` of them.
-    fn redistribute(&mut self, first: Slot, second: Slot, half: usize)
+    // Moves entries between two nodes so that their numbers differ by at most one.
+    fn redistribute(&mut self, first: Slot, second: Slot)
         requires two { AreTwo self.old first second }
         requires many { FAN_OUT < length (entries_at self.old.nodes first)
             + length (entries_at self.old.nodes second) }
@@ -176,11 +176,20 @@ impl Store {
         ensures keeps { KeepsKeys self.old self.new }
     {
         let left = self.nodes.header_ref(first).len();
+        let half = (left + self.nodes.header_ref(second).len()) / 2;
         if left > half {
-            let moved = self.nodes.header_mut(first).take_out(&self.keys, half, left);
+            let moved = self
+                .nodes
+                .header_mut(first)
+                .take_out(&self.keys, half, left);
             return self.nodes.header_mut(second).insert(&self.keys, 0, &moved);
         }
-        let moved = self.nodes.header_mut(second).take_out(&self.keys, 0, half - left);
-        self.nodes.header_mut(first).insert(&self.keys, left, &moved);
+        let moved = self
+            .nodes
+            .header_mut(second)
+            .take_out(&self.keys, 0, half - left);
+        self.nodes
+            .header_mut(first)
+            .insert(&self.keys, left, &moved);
     }
 }

@@ -62,12 +62,7 @@ pub fn find_run(store: &Store, position: Position, new: &Overwrite<'_>) -> Entry
 /// Replaces the run by the new boundaries. Returns the slot of the leaf's right neighbour if there
 /// is no room for all, so that it is split. It takes no memory.
 #[inline(always)]
-pub fn write_run(
-    store: &mut Store,
-    slot: Slot,
-    new: &Overwrite<'_>,
-    run: EntryRun,
-) -> Option<Slot>
+pub fn write_run(store: &mut Store, slot: Slot, new: &Overwrite<'_>, run: EntryRun) -> Option<Slot>
     requires can_write { CanWriteRun store.old slot new.now run }
     ensures written { IsRunWritten store.old store.new slot new.now run result }
     ensures stored { IsStored store.old store.new slot result }

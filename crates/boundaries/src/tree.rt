@@ -34,8 +34,11 @@ pub struct Root {
 impl Root {
     /// Returns the position at the root of a tree, whose first key is empty.
     pub fn position(self) -> Position
-        ensures position { result ≡ record { slot = self.slot; common_prefix_len = 0;
-            following = None } }
+        ensures position { result ≡ record {
+          slot = self.slot;
+          common_prefix_len = 0;
+          following = None;
+        } }
     {
         Position {
             slot: self.slot,

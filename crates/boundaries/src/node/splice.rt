@@ -43,7 +43,12 @@ impl Node {
         ensures entries { entries_of self.new ≡ spliced splice (entries_of self.old) }
         ensures headed { IsHeaded keys.now self.new }
     {
-        let Splice { from, to, new, heads } = splice;
+        let Splice {
+            from,
+            to,
+            new,
+            heads,
+        } = splice;
         match heads {
             Some(heads) => self.replace(from, to, new, Some(&heads[..new.len()])),
             None => {
@@ -72,7 +77,12 @@ impl Node {
             return right;
         }
         let mut right = self.split_off(HALF_FULL);
-        let Splice { from, to, new, heads } = splice;
+        let Splice {
+            from,
+            to,
+            new,
+            heads,
+        } = splice;
         let moved = Splice::new(from - HALF_FULL, to - HALF_FULL, new, heads);
         right.splice(keys, moved);
         self.lengthen_prefix(keys);

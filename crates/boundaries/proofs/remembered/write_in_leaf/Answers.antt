@@ -5,7 +5,7 @@ use Rattle.boundaries.specs.Item.{item_of}
 use Rattle.boundaries.specs.Node.{entries_of}
 use Rattle.boundaries.specs.EntryRun.{CanFindRun}
 use Rattle.boundaries.specs.Subtree.{entries_at}
-use Rattle.boundaries.specs.Tree.{ended_by}
+use Rattle.boundaries.specs.Items.{ended_by}
 use Rattle.boundaries.proofs.Headed.{headed_at}
 use Rattle.boundaries.proofs.Leaves.{entries_of_partitioned}
 use Rattle.boundaries.proofs.Placing.{entries_from_header}

@@ -1,5 +1,5 @@
 use Rattle.std.proofs.Common.{rules, refl, ◌∙◌, arith}
-use Rattle.boundaries.specs.Tree.{least_of}
+use Rattle.boundaries.specs.declared.node.TheConstants.{HALF_FULL}
 use Rattle.boundaries.proofs.Rebalancing.{live_subtree}
 use Rattle.boundaries.proofs.RaisedLeaves.{raised_tree, root_can}
 use Rattle.boundaries.proofs.root.change.Goals as goal

@@ -7,7 +7,7 @@ use Rattle.boundaries.specs.Heads.{IsKnown}
 use Rattle.boundaries.specs.Node.{entries_of, keys_of}
 use Rattle.boundaries.specs.Subtree.{slots_in}
 use Rattle.boundaries.specs.Children.{slots_of}
-use Rattle.boundaries.specs.Tree.{least_of}
+use Rattle.boundaries.specs.declared.node.TheConstants.{HALF_FULL}
 use Rattle.boundaries.proofs.Changing.{moves_if_changes}
 use Rattle.boundaries.proofs.Replacing.{both_right}
 use Rattle.boundaries.proofs.Rooting.{grown}

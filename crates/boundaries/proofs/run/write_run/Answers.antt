@@ -6,7 +6,7 @@ use Rattle.boundaries.specs.declared.entry.NodeEntry.{NodeEntry}
 use Rattle.boundaries.specs.Heads.{KeyBytes, AreHeadsBeside, IsHeadBeside, IsKnown}
 use Rattle.boundaries.specs.Item.{item_of}
 use Rattle.boundaries.specs.Node.{key_heads_of, keys_of}
-use Rattle.boundaries.specs.Tree.{ended_by}
+use Rattle.boundaries.specs.Items.{ended_by}
 use Rattle.boundaries.proofs.ChangedLeaf.{put_stored}
 use Rattle.boundaries.proofs.Headed.{headed_at}
 use Rattle.boundaries.proofs.NearBounds.{both_put, both_zipped, key_beside}

@@ -6,7 +6,7 @@ use Rattle.boundaries.specs.Path.{index_in}
 use Rattle.boundaries.specs.Subtree.{entries_at, items_in}
 use Rattle.boundaries.specs.declared.walk.LeafOutcome.TheVariants.{Same, Raised, Changed, Split}
 use Rattle.boundaries.specs.declared.walk.RaisedLeaf.{RaisedLeaf}
-use Rattle.boundaries.specs.Tree.{least_of}
+use Rattle.boundaries.specs.declared.node.TheConstants.{HALF_FULL}
 use Rattle.boundaries.specs.Children.{items_of}
 use Rattle.boundaries.specs.Walk.{CanChangeLeaf, IsChangedWithin, added_by}
 use Rattle.boundaries.proofs.callers.Times.{once_if_distinct}

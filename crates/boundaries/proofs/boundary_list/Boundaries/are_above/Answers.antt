@@ -6,7 +6,6 @@ use Rattle.arena.specs.Arena.{key_at}
 use Rattle.keys.specs.declared.range.Range.{Range}
 use Rattle.boundaries.specs.Item.{Item}
 use Rattle.boundaries.specs.Path.{IsPartitioned, items_below}
-use Rattle.boundaries.specs.Tree.{CanSearchItems}
 use Rattle.stepmap.specs.Asking.{Exceeds}
 use Rattle.boundaries.specs.Boundary.{Boundary, AreBoundaries}
 use Rattle.boundaries.specs.Stored.{Stored, boundaries_of}

@@ -6,7 +6,7 @@ use Rattle.arena.specs.Arena.{IsLive}
 use Rattle.keys.specs.Key.{IsKey}
 use Rattle.boundaries.specs.Item.{Item, item_of}
 use Rattle.boundaries.specs.Path.{items_below, following}
-use Rattle.boundaries.specs.Tree.{IsLast}
+use Rattle.boundaries.specs.Items.{IsLast}
 use Rattle.boundaries.specs.Boundary.{last_version}
 use Rattle.boundaries.specs.Bound.{slot_is_below}
 use Rattle.boundaries.specs.Stored.{bytes_at, boundaries_of, first_key}

@@ -5,7 +5,7 @@ use Rattle.std.proofs.lemmas.Int.{to_z-of_z}
 use Rattle.std.proofs.lemmas.Option.{MatchOption-at_some}
 use Rattle.boundaries.specs.Item.{item_of}
 use Rattle.boundaries.specs.Path.{items_below}
-use Rattle.boundaries.specs.Tree.{IsLast}
+use Rattle.boundaries.specs.Items.{IsLast}
 use Rattle.boundaries.specs.Boundary.{value_at}
 use Rattle.boundaries.specs.Bound.{slot_is_below}
 use Rattle.boundaries.specs.Stored.{Stored, boundaries_of}

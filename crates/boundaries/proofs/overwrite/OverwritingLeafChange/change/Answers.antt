@@ -13,7 +13,7 @@ use Rattle.boundaries.specs.Node.{entries_of, key_heads_of}
 use Rattle.boundaries.specs.Overwrite.{GivesEntire, first_is_below}
 use Rattle.boundaries.specs.Path.{items_below, following, first_key}
 use Rattle.boundaries.specs.Subtree.{entries_at}
-use Rattle.boundaries.specs.Tree.{IsLast, ended_by}
+use Rattle.boundaries.specs.Items.{IsLast, ended_by}
 use Rattle.boundaries.specs.Walk.{IsRaisedAt}
 use Rattle.boundaries.proofs.callers.Partitions.{not_both, not_true}
 use Rattle.boundaries.proofs.ChangedLeaf.{leaf_can_find, leaf_can_step, leaf_changed, leaf_stored}

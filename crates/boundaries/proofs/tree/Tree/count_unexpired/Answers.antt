@@ -1,7 +1,7 @@
 use Rattle.std.proofs.Common.{rules, ap, arith, length, ◌+◌, ◌<◌, ◌^◌, Fits, w64}
 use Rattle.std.proofs.lemmas.Int.{to_z-of_z}
 use Rattle.boundaries.specs.Subtree.{items_in}
-use Rattle.boundaries.specs.Tree.{Items, unexpired}
+use Rattle.boundaries.specs.Items.{unexpired}
 use Rattle.boundaries.proofs.StillCounted.{items_of_root}
 use Rattle.boundaries.proofs.tree.Tree.count_unexpired.Goals as goal
 

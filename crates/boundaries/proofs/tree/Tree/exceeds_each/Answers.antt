@@ -1,7 +1,7 @@
 use Rattle.std.proofs.Common.{rules, All}
 use Rattle.boundaries.specs.declared.questions.Look.{Look}
 use Rattle.boundaries.specs.Question.{IsAsked}
-use Rattle.boundaries.specs.Tree.{least_of}
+use Rattle.boundaries.specs.declared.node.TheConstants.{HALF_FULL}
 use Rattle.std.proofs.lemmas.List.{map-id}
 use Rattle.boundaries.proofs.Approaches.{leading_of}
 use Rattle.boundaries.proofs.InTurn.{AllZip-through}

@@ -1,6 +1,5 @@
 use Rattle.std.proofs.Common.{None, ap, rules}
 use Rattle.boundaries.specs.Item.{Item}
-use Rattle.boundaries.specs.Tree.{Items}
 use Rattle.boundaries.proofs.FromLast.{from_last_some}
 use Rattle.boundaries.proofs.LeafChange.{can_reach_root}
 use Rattle.boundaries.proofs.Most.{most_some}

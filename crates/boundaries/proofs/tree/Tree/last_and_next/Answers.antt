@@ -1,5 +1,4 @@
 use Rattle.std.proofs.Common.{ap, rules}
-use Rattle.boundaries.specs.Tree.{Items}
 use Rattle.boundaries.proofs.LeafChange.{can_reach_root}
 use Rattle.boundaries.proofs.tree.Tree.last_and_next.Goals as goal
 

@@ -2,7 +2,7 @@ use Rattle.std.proofs.Common.{arith, ◌≡◌, ◌+◌, ◌-◌, ◌/◌, ◌�
 use Rattle.std.specs.FinMap as finite
 use Rattle.std.proofs.Math.Nat.{mul-le-mul_left}
 use Rattle.arena.specs.Arena.{spare_of}
-use Rattle.boundaries.specs.Tree.{least_of}
+use Rattle.boundaries.specs.declared.node.TheConstants.{HALF_FULL}
 use Rattle.boundaries.proofs.Trees.{enough_nodes, raised_stays, tree_stays}
 use Rattle.boundaries.proofs.tree.Tree.reserve.Goals as goal
 

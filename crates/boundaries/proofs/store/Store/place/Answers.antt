@@ -2,11 +2,11 @@ use Rattle.std.proofs.Common.{[], ◌∷◌, option_map, ap, is_some}
 use Rattle.boundaries.proofs.Changing.{changes_if_moves, moves_placed}
 use Rattle.boundaries.proofs.Headed.{headed_put}
 use Rattle.boundaries.proofs.Placing.{entries_from_header, placed_spare}
-use Rattle.boundaries.proofs.children.place.Goals as goal
+use Rattle.boundaries.proofs.store.Store.place.Goals as goal
 
 pub returns : goal.returns
 returns c =
-    let a = c.args.nodes.now in
+    let a = c.args.self.now.nodes in
     let b = c.place.new.self in
     let k = rw c.unwrap.ensures at c.place.ensures in
     let header = ap (option_map (λ r. r.header)) k.record in

@@ -3,7 +3,7 @@ use Rattle.boundaries.proofs.Words.{with_header, NodeEntry, entries_at, child_at
 use Rattle.boundaries.proofs.ChangedLeaf.{put_stored}
 use Rattle.boundaries.proofs.Placing.{entries_from_header, put_entries}
 use Rattle.boundaries.proofs.Sharing.{child_is}
-use Rattle.boundaries.proofs.children.insert_child.Goals as goal
+use Rattle.boundaries.proofs.store.Store.insert_child.Goals as goal
 
 pub returns : goal.returns
 returns c =
@@ -24,8 +24,8 @@ returns c =
         second_child = c.entry_for-2.ensures.child;
         second_describes = c.entry_for-2.ensures.describes;
       };
-      stored = put_stored a slot now can.live can.keyless can.headed c.splice_with_heads.ensures.headed;
+      stored = put_stored a slot now can.live can.sound.keyless can.sound.headed c.splice_with_heads.ensures.headed;
     }
   where
-    open c use {args.{nodes.{now as a}, slot, index as i}, splice_with_heads.{new.{self as now}}, requires.{can_insert as can}}
+    open c use {args.{self.{now.{nodes as a}}, slot, index as i}, splice_with_heads.{new.{self as now}}, requires.{can_insert as can}}
     open c use {entry_for.{result as t}, entry_for-2.{result as u}, index-entries-index.{result as d}}

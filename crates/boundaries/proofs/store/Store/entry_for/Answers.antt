@@ -4,7 +4,7 @@ use Rattle.boundaries.proofs.Words.{entries_at}
 use Rattle.boundaries.proofs.Placing.{entries_from_header}
 use Rattle.boundaries.proofs.Describing.{describes_items}
 use Rattle.boundaries.proofs.Headed.{known_at}
-use Rattle.boundaries.proofs.rebalance.entry_for.Goals as goal
+use Rattle.boundaries.proofs.store.Store.entry_for.Goals as goal
 
 pub returns : goal.returns
 returns c =
@@ -22,4 +22,4 @@ returns c =
           ((rw (same ∙ parts) at (known_at bytes a c.args.child headed)) 0 e.key (omega arith));
     }
   where
-    open c use {args.{nodes.{now as a}}, index-entries-0.{result as e}, entries.{result.{now as xs}}}
+    open c use {args.{self.{now.{nodes as a}}}, index-entries-0.{result as e}, entries.{result.{now as xs}}}

@@ -3,38 +3,38 @@ use Rattle.std.proofs.lemmas.List.{length-set}
 use Rattle.arena.specs.Arena.{with_header}
 use Rattle.boundaries.specs.declared.entry.NodeEntry.{NodeEntry}
 use Rattle.boundaries.specs.Subtree.{entries_at}
-use Rattle.boundaries.specs.Tree.{least_of}
+use Rattle.boundaries.specs.declared.node.TheConstants.{HALF_FULL}
 use Rattle.boundaries.proofs.KnownKeys.{headed_header}
 use Rattle.boundaries.proofs.Placing.{entries_from_header, put_entries}
 use Rattle.boundaries.proofs.Rebalancing.{filled_pair, widened}
 use Rattle.boundaries.proofs.Storing.{child_live, entry_put}
-use Rattle.boundaries.proofs.children.rebalance_child.Goals as goal
-use Rattle.boundaries.proofs.children.rebalance_child.Goals.{After-index-entries-index}
+use Rattle.boundaries.proofs.store.Store.rebalance_child.Goals as goal
+use Rattle.boundaries.proofs.store.Store.rebalance_child.Goals.{After-index-entries-index}
 
 -- the child at the index
 child_is : (c : After-index-entries-index)
     → (get_or c.entries.result.now c.args.index c.index-entries-index.result).child
-    ≡ (get_or (entries_at c.args.nodes.now c.args.slot) c.args.index c.index-entries-index.result).child
+    ≡ (get_or (entries_at c.args.self.now.nodes c.args.slot) c.args.index c.index-entries-index.result).child
 child_is c =
-    let read = entries_from_header c.args.nodes.now c.args.slot c.header_ref.result.now c.header_ref.ensures.header in
+    let read = entries_from_header c.args.self.now.nodes c.args.slot c.header_ref.result.now c.header_ref.ensures.header in
     rw (c.entries.ensures.entries, read) refl
 
 pub header_ref-requires-2 : goal.header_ref-requires-2
 header_ref-requires-2 c = record {
   live = child_live c.index-entries-index.result c.requires.can_rebalance
-      (child_is g (goal.at.header_ref-requires-2 c).After-index-entries-index);
+      (child_is (goal.at.header_ref-requires-2 c).After-index-entries-index);
 }
 
 pub returns-then-len-least : goal.returns-then-len-least
 returns-then-len-least c =
-    let a = c.args.nodes.now in
+    let a = c.args.self.now.nodes in
     let slot = c.args.slot in
-    let L = least_of FAN_OUT in
+    let L = HALF_FULL in
     let node = c.set_with_head.new.self in
     let set = c.set_with_head.ensures in
     let can = c.requires.can_rebalance in
     let x = (get_or c.entries.result.now c.args.index c.index-entries-index.result).child in
-    let x_is = child_is g (goal.at.returns-then-len-least c).After-index-entries-index in
+    let x_is = child_is (goal.at.returns-then-len-least c).After-index-entries-index in
     let child = c.header_ref-2 in
     let len = ap length (entries_from_header a x child.result.now child.ensures.header) ∙ sym c.len.ensures.len in
     let filled : L ≤ length (entries_at a x) = omega (arith, len, c.if-len-least.true) in
@@ -47,27 +47,26 @@ returns-then-len-least c =
       rest = record {
         few_less = omega (arith, ap length now_is, ap length here, length-set {A = NodeEntry});
         spare = search rules;
-        headed = headed_header _ a (with_header a slot node) slot node refl can.headed set.headed;
+        headed = headed_header _ a (with_header a slot node) slot node refl can.sound.headed set.headed;
       };
     }
 
 pub merge_or_redistribute-requires : goal.merge_or_redistribute-requires
 merge_or_redistribute-requires c =
-    let L = least_of FAN_OUT in
+    let L = HALF_FULL in
     let j_is : j ≡ i - 1 = c.saturating_sub.ensures in (
       search rules,
       record {
-        fan_out = can.fan_out;
         live = can.live;
         within = omega (arith, can.within, can.several, j_is);
         filled = filled_pair a L can.family.0 slot i j can.family.1 j_is c.index-entries-index.result can.within can.several;
-        keyless = can.keyless;
+        keyless = can.sound.keyless;
         family = (can.family.0, widened a L can.family.0 slot i j can.family.1 j_is);
-        headed = can.headed;
+        headed = can.sound.headed;
       },
     )
   where
-    open c use {args.{nodes.{now as a}, slot, index as i}, requires.{can_rebalance as can}, saturating_sub.{result as j}}
+    open c use {args.{self.{now.{nodes as a}}, slot, index as i}, requires.{can_rebalance as can}, saturating_sub.{result as j}}
 
 pub returns : goal.returns
 returns c = record {
