@@ -77,7 +77,7 @@ pub record GivesEntire (new : Overwrite) (old store : Store) (next : Option ℕ)
   pub second : ℕ
   pub ended : Bool
   pub there : (items_below (before_start old.keys new) was ≢ [])
-      ⊎ ((x : Item) (xs : List Item) × (was ≡ x ∷ xs) × (bytes_at old.keys x.key ≡ []))
+      ⊎ ((x : Item) × (xs : List Item) × (was ≡ x ∷ xs) × (bytes_at old.keys x.key ≡ []))
   pub some : items_below (before_end old.keys new) was ≢ []
   pub puts : PutsKeys old.keys store.keys new.start.now new.end.now first (if ended then None else Some second)
   pub run_is : store.removed.items

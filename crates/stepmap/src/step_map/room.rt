@@ -137,10 +137,7 @@ fn cells_for(boundaries: usize) -> usize {
 }
 
 // Replaces the kept lengths by these.
-fn keep(
-    kept: &mut VecDeque<KeyLengths>,
-    lengths: &[KeyLengths],
-) -> Result<(), AllocError>
+fn keep(kept: &mut VecDeque<KeyLengths>, lengths: &[KeyLengths]) -> Result<(), AllocError>
     ensures lengths { OnOk result (kept.new.items ≡ lengths.now) }
 {
     kept.clear();
