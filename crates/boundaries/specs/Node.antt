@@ -31,6 +31,13 @@ pub record HasHeads (old new : Node) (heads : List ℕ) : Type 0 where
   pub prefix_len : (key_heads_of new).prefix_len ≡ (key_heads_of old).prefix_len
   pub heads_are : (key_heads_of new).heads ≡ heads
 
+-- Two neighbours have these heads in turn, after as many bytes as before. The left one has as many as entries.
+pub record ShareHeads (old left right : Node) (heads : List ℕ) : Type 0 where
+  pub prefix_len : (key_heads_of left).prefix_len ≡ (key_heads_of old).prefix_len
+  pub right_prefix_len : (key_heads_of right).prefix_len ≡ (key_heads_of old).prefix_len
+  pub heads_are : (key_heads_of left).heads ++ (key_heads_of right).heads ≡ heads
+  pub count : length (key_heads_of left).heads ≡ length (entries_of left)
+
 -- what each node knows
 abbrev pub all_heads_of : Arena Node → ℕ → Option KeyHeads
 all_heads_of nodes slot = option_map key_heads_of (header_at nodes slot)

@@ -175,8 +175,8 @@ impl Node {
         requires within { at ≤ length (entries_of self.old) }
         ensures left { entries_of self.new ≡ take at (entries_of self.old) }
         ensures right { entries_of result ≡ drop at (entries_of self.old) }
-        ensures headed { (bytes : KeyBytes) → AreHeads bytes (key_heads_of self.old)
-            → AreHeads bytes (key_heads_of self.new) × AreHeads bytes (key_heads_of result) }
+        ensures left_heads { HasHeads self.old self.new (take at (key_heads_of self.old).heads) }
+        ensures right_heads { HasHeads self.old result (drop at (key_heads_of self.old).heads) }
     {
         let mut right = *self;
         right.move_tail(at, 0);

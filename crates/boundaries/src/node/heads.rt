@@ -77,12 +77,12 @@ impl Node {
         ensures entries { entries_of self.new ≡ slice_set (entries_of self.old) index entry }
         ensures headed { IsHeaded keys.now self.new }
     {
-        let head = self.head_of(keys, entry.key, index);
+        let Some(head) = self.head_of(keys, entry.key, index) else {
+            self.set(index, entry);
+            return self.compute_heads(keys);
+        };
         self.set(index, entry);
-        match head {
-            Some(head) => self.heads[index] = head,
-            None => self.compute_heads(keys),
-        }
+        self.heads[index] = head;
     }
 
     /// Puts the entries of another node before the one at an index.

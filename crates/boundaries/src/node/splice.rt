@@ -1,7 +1,7 @@
 //! Entries that replace others of a node.
 
-ghost use Rattle.std.specs.Prelude.{◌≡◌, ◌<◌, ◌≤◌, ◌+◌, ◌-◌, ◌++◌, length, take, drop, option_map};
-ghost use Rattle.boundaries.specs.Node.{IsHeaded, entries_of};
+ghost use Rattle.std.specs.Prelude.{◌≡◌, ◌<◌, ◌≤◌, ◌++◌, length, take, drop, IfSome};
+ghost use Rattle.boundaries.specs.Node.{IsHeaded, ShareHeads, entries_of, key_heads_of};
 ghost use Rattle.boundaries.specs.Splice.{AreHalfFull, CanSplice, spliced};
 ghost use Rattle.boundaries.specs.declared.node.TheConstants.{FAN_OUT};
 
@@ -49,13 +49,11 @@ impl Node {
             new,
             heads,
         } = splice;
-        match heads {
-            Some(heads) => self.replace(from, to, new, Some(&heads[..new.len()])),
-            None => {
-                self.replace(from, to, new, None);
-                self.compute_heads(keys);
-            }
-        }
+        let Some(heads) = heads else {
+            self.replace(from, to, new, None);
+            return self.compute_heads(keys);
+        };
+        self.replace(from, to, new, Some(&heads[..new.len()]));
     }
 
     /// Replaces entries where there is no room for all. The entries of the second half are
@@ -68,25 +66,43 @@ impl Node {
         ensures filled { AreHalfFull (entries_of self.new) (entries_of result) }
         ensures headed { IsHeaded keys.now self.new × IsHeaded keys.now result }
     {
-        let half = self.len - HALF_FULL;
-        if splice.to <= half {
-            let mut right = self.split_off(half);
-            self.splice(keys, splice);
+        let mut right = self.replace_apart(splice);
+        if splice.heads.is_some() {
             self.lengthen_prefix(keys);
             right.lengthen_prefix(keys);
+        } else {
+            self.compute_heads(keys);
+            right.compute_heads(keys);
+        }
+        right
+    }
+
+    // Replaces entries so that both halves are full enough, and their heads if these are given.
+    fn replace_apart(&mut self, splice: Splice<'_>) -> Node
+        requires ordered { splice.from ≤ splice.to }
+        requires within { splice.to ≤ length (entries_of self.old) }
+        requires many { FAN_OUT < length (spliced splice (entries_of self.old)) }
+        ensures entries { entries_of self.new ++ entries_of result
+            ≡ spliced splice (entries_of self.old) }
+        ensures filled { AreHalfFull (entries_of self.new) (entries_of result) }
+        ensures heads { IfSome splice.heads (λ heads. ShareHeads self.old self.new result
+            (take splice.from (key_heads_of self.old).heads
+            ++ (take (length splice.new.now) heads
+            ++ drop splice.to (key_heads_of self.old).heads))) }
+    {
+        let Splice { from, to, new, .. } = splice;
+        let heads = match &splice.heads {
+            Some(heads) => Some(&heads[..new.len()]),
+            None => None,
+        };
+        let half = self.len - HALF_FULL;
+        if to <= half {
+            let right = self.split_off(half);
+            self.replace(from, to, new, heads);
             return right;
         }
         let mut right = self.split_off(HALF_FULL);
-        let Splice {
-            from,
-            to,
-            new,
-            heads,
-        } = splice;
-        let moved = Splice::new(from - HALF_FULL, to - HALF_FULL, new, heads);
-        right.splice(keys, moved);
-        self.lengthen_prefix(keys);
-        right.lengthen_prefix(keys);
+        right.replace(from - HALF_FULL, to - HALF_FULL, new, heads);
         right
     }
 }

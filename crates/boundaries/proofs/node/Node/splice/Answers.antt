@@ -7,13 +7,15 @@ pub compute_heads-requires : goal.compute_heads-requires
 compute_heads-requires c =
     let can = c.requires.can_splice in
     let old = c.args.self.now in
-    let keys = map_spliced (λ (e : NodeEntry). e.key) (entries_of old) _ _ c.args.from c.args.to c.splice.ensures.entries in
-    (search rules, known_spliced _ (key_heads_of old) can.headed (keys_of c.args.new.now) _ c.args.from c.args.to can.known keys)
+    let splice = c.args.splice in
+    let keys = map_spliced (λ (e : NodeEntry). e.key) (entries_of old) _ _ splice.from splice.to c.replace.ensures.entries in
+    (search rules, known_spliced _ (key_heads_of old) can.headed (keys_of splice.new.now) _ splice.from splice.to can.known keys)
 
-pub returns-else-not-have_prefix-clause-headed : goal.returns-else-not-have_prefix-clause-headed
-returns-else-not-have_prefix-clause-headed c =
+pub returns-clause-headed : goal.returns-clause-headed
+returns-clause-headed c =
     let can = c.requires.can_splice in
     let old = c.args.self.now in
-    let keys = map_spliced (λ (e : NodeEntry). e.key) (entries_of old) _ _ c.args.from c.args.to c.splice.ensures.entries in
-    headed_spliced _ (key_heads_of old) can.headed _ _ c.args.heads.now c.args.from c.args.to can.known
-    (can.beside c.if-not-have_prefix.false) keys c.splice.ensures.heads.prefix_len c.splice.ensures.heads.heads_are
+    let splice = c.args.splice in
+    let keys = map_spliced (λ (e : NodeEntry). e.key) (entries_of old) _ _ splice.from splice.to c.replace-2.ensures.entries in
+    headed_spliced _ (key_heads_of old) can.headed _ _ _ splice.from splice.to can.known
+    (rw c.in-Some.is at can.beside) keys c.replace-2.ensures.heads.prefix_len c.replace-2.ensures.heads.heads_are
