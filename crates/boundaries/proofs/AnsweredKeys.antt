@@ -2,7 +2,7 @@
 use Rattle.std.proofs.Common.{◌≡◌, ℕ, ◌+◌, ◌-◌, ◌<◌, ◌≤◌, Bool, true, false, List, [], ◌∷◌, Some, None, length, get_or, slice_get, filter, flat_map, All, refl, sym, ap, arith, ◌≢◌, Option, unwrap_or}
 use Rattle.std.proofs.lemmas.Bool.{cases_Bool}
 use Rattle.std.proofs.lemmas.Option.{slice_get_read}
-use Rattle.boundaries.proofs.Words.{Arena, NodeEntry, Node, KeyBytes, IsCommonPrefix, IsCommonPrefixAt, Item, Describes, CanReach, IsPartitioned, index_in, entries_at, items_in}
+use Rattle.boundaries.proofs.Words.{Arena, NodeEntry, Node, KeyBytes, IsCommonPrefix, IsCommonPrefixAt, Item, Describes, IsSearchable, IsPartitioned, index_in, entries_at, items_in}
 use Rattle.boundaries.proofs.callers.Partitions.{none_pass, rest_fails, length-items_below}
 use Rattle.boundaries.proofs.HeadCounts.{passing_at, passing_inside}
 use Rattle.boundaries.proofs.FirstKeys.{first_describes, items_under, node_items, node_describes}
@@ -52,11 +52,11 @@ none_from_first is_below under es e there describe (x ∷ xs) same partitioned f
 
 -- What is known of the first key is not that it doesn't pass, where some item does.
 pub known_where_some : {nodes : Arena Node} {least height slot : ℕ} {bytes : KeyBytes} {is_below : ℕ → Bool}
-    (target : List ℕ) (known : Option ℕ) → CanReach bytes is_below nodes least height slot
+    (target : List ℕ) (known : Option ℕ) → IsSearchable bytes is_below nodes least height slot
     → filter (λ x. is_below x.key) (items_in nodes height slot) ≢ []
     → IsCommonPrefixAt bytes is_below target known (entries_at nodes slot) 0
     → IsCommonPrefixAt bytes is_below target (Some (unwrap_or known 0)) (entries_at nodes slot) 0
-known_where_some {N} {nodes} {least} {height} {slot} {bytes} {is_below} target None can some knows e there =
+known_where_some {nodes} {least} {height} {slot} {bytes} {is_below} target None can some knows e there =
     absurd (some (none_from_first is_below (items_under nodes height) (entries_at nodes slot) e there
     (node_describes nodes least height slot can.subtree) _ (node_items nodes least height slot) can.partitioned (knows e there)))
 known_where_some target (Some k) can some knows e there = knows e there

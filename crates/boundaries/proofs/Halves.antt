@@ -4,7 +4,7 @@ use Rattle.std.proofs.Common.{◌≡◌, ℕ, zero, suc, ◌+◌, ◌-◌, ◌<�
 use Rattle.std.proofs.lemmas.Grind.{flat_map-append}
 use Rattle.std.proofs.lemmas.List.{drop-drop, drop_more, take_more}
 use Rattle.std.proofs.lemmas.List.Elements.{All-take, All-drop}
-use Rattle.boundaries.proofs.Words.{Arena, NodeEntry, Node, Item, Describes, KeyBytes, CanReach, IsPartitioned, IsChild, IsSubtree, items_in}
+use Rattle.boundaries.proofs.Words.{Arena, NodeEntry, Node, Item, Describes, KeyBytes, IsSearchable, IsPartitioned, IsChild, IsSubtree, items_in}
 use Rattle.boundaries.proofs.callers.Partitions.{All-back}
 use Rattle.boundaries.proofs.FromLast.{from_last_of, from_last_part, from_last_parts}
 use Rattle.boundaries.proofs.Looks.{IsLook, around_child, look_ordered, look_answers, items_partitioned, child_is, child_reached, first_inside, last_inside}
@@ -79,12 +79,12 @@ module _ {nodes : Arena Node} {least height slot : ℕ} {f t : ℕ → Bool}
   middle_describes = All-take (λ e. Describes e (below e)) _ _ (All-drop (λ e. Describes e (below e)) (h.first + 1) h.es describe)
 
   -- what the searches in the two children ask of their bounds
-  pub left_reached : {bytes : KeyBytes} {is_below : ℕ → Bool} → CanReach bytes is_below nodes least height slot → 1 ≤ least
-      → CanReach bytes is_below nodes least (height - 1) h.left.child
+  pub left_reached : {bytes : KeyBytes} {is_below : ℕ → Bool} → IsSearchable bytes is_below nodes least height slot → 1 ≤ least
+      → IsSearchable bytes is_below nodes least (height - 1) h.left.child
   left_reached = child_reached _ _ _ _ _ _ _ _ _ h.look h.some h.first h.left first_within h.left_at
 
-  pub right_reached : {bytes : KeyBytes} {is_below : ℕ → Bool} → CanReach bytes is_below nodes least height slot → 1 ≤ least
-      → CanReach bytes is_below nodes least (height - 1) h.right.child
+  pub right_reached : {bytes : KeyBytes} {is_below : ℕ → Bool} → IsSearchable bytes is_below nodes least height slot → 1 ≤ least
+      → IsSearchable bytes is_below nodes least (height - 1) h.right.child
   right_reached = child_reached _ _ _ _ _ _ _ _ _ h.look h.some h.last h.right last_within h.right_at
 
   -- which items stand before the two bounds, and behind them

@@ -12,7 +12,7 @@ use Rattle.boundaries.specs.Heads.{KeyBytes, Begins, AreHeads, AllAreHeads}
 use Rattle.boundaries.specs.Item.{item_of}
 use Rattle.boundaries.specs.Node.{entries_of, key_heads_of, all_heads_of, heads_list, keys_of}
 use Rattle.boundaries.specs.Path.{IsPartitioned}
-use Rattle.boundaries.specs.ReachedLeaf.{CanReach}
+use Rattle.boundaries.specs.ReachedLeaf.{IsSearchable}
 use Rattle.boundaries.specs.Subtree.{entries_at, items_in}
 use Rattle.boundaries.specs.declared.node.TheConstants.{HALF_FULL}
 use Rattle.boundaries.proofs.HeadList.{headed_from_list}
@@ -38,7 +38,7 @@ pub can_reach_root : {nodes : Arena Node} {slot height len room : ℕ} {bytes : 
     → IsTree nodes slot height len room
     → CanSearchItems is_below bytes
     (record { items = items_in nodes height slot; room = room; all_heads = heads_list nodes })
-    → CanReach bytes is_below nodes HALF_FULL height slot
+    → IsSearchable bytes is_below nodes HALF_FULL height slot
 can_reach_root {nodes} {slot} {height} {len} {room} {bytes} t can =
     let headed = headed_from_list bytes nodes can.headed in
     search (rules, t.rooted.subtree, root_some nodes slot height len room t, headed, can.partitioned)

@@ -2,7 +2,7 @@
 use Rattle.std.proofs.Common.{rules, ◌≡◌, ℕ, zero, suc, ◌+◌, ◌-◌, ◌<◌, ◌≤◌, Bool, true, false, List, ◌∷◌, ◌++◌, take, drop, Option, Some, None, option_map, length, get_or, filter, flat_map, map, All, IfSome, sym, refl, ◌∙◌, ap, subst, arith, slice_range, append-nil}
 use Rattle.std.proofs.lemmas.Grind.{flat_map-append}
 use Rattle.std.proofs.lemmas.List.{drop-map, length-map, take-map}
-use Rattle.boundaries.proofs.Words.{Arena, header_at, NodeEntry, Node, Item, Describes, item_of, entries_of, IsPartitioned, below_from, below_to, entries_at, items_in, IsChild, IsSubtree, CanFind, CanStep, IsLowerBound, KeyBytes, IsCommonPrefixAt, CanReach}
+use Rattle.boundaries.proofs.Words.{Arena, header_at, NodeEntry, Node, Item, Describes, item_of, entries_of, IsPartitioned, below_from, below_to, entries_at, items_in, IsChild, IsSubtree, CanFind, CanStep, IsLowerBound, KeyBytes, IsCommonPrefixAt, IsSearchable}
 use Rattle.boundaries.proofs.callers.Partitions.{none_pass, none_fail}
 use Rattle.boundaries.proofs.Ways.{around_element, children_partitioned, index_inside}
 use Rattle.boundaries.proofs.Found.{partitioned-entries, entries_read, read_partitioned}
@@ -13,13 +13,13 @@ use Rattle.boundaries.proofs.FromLast.{from_last_of, from_last_range, fewer_befo
 
 -- What `requires` says of a bound that may be missing, as a bound.
 module _ {A : Type 0} (bytes : A → KeyBytes) (lets : A → ℕ → Bool) (nodes : Arena Node) (least height slot : ℕ) where
-  pub from_asked : (o : Option A) → IfSome o (λ p. CanReach (bytes p) (lets p) nodes least height slot)
+  pub from_asked : (o : Option A) → IfSome o (λ p. IsSearchable (bytes p) (lets p) nodes least height slot)
       → IsPartitioned (λ x. below_from (option_map lets o) x.key) (items_in nodes height slot)
   from_asked None h =
       let n = none_pass (λ (x : Item). false) (items_in nodes height slot) (λ i d inside. refl) in rw (n.0, n.1) refl
   from_asked (Some p) h = h.partitioned
 
-  pub to_asked : (o : Option A) → IfSome o (λ p. CanReach (bytes p) (lets p) nodes least height slot)
+  pub to_asked : (o : Option A) → IfSome o (λ p. IsSearchable (bytes p) (lets p) nodes least height slot)
       → IsPartitioned (λ x. below_to (option_map lets o) x.key) (items_in nodes height slot)
   to_asked None h =
       let n = none_fail (λ (x : Item). true) (items_in nodes height slot) (λ i d inside. refl) in
@@ -61,7 +61,7 @@ look_bound nodes least (suc height) slot is_below header es s c h e =
 
 -- A node that the code has read can be searched.
 module _ {nodes : Arena Node} {least height slot : ℕ} {bytes : KeyBytes} {is_below : ℕ → Bool} {node : Node}
-    (can : CanReach bytes is_below nodes least height slot) (header : header_at nodes slot ≡ Some node) where
+    (can : IsSearchable bytes is_below nodes least height slot) (header : header_at nodes slot ≡ Some node) where
   abbrev read : entries_at nodes slot ≡ entries_of node
   read = entries_from_header nodes slot node header
 
@@ -79,8 +79,8 @@ module _ {nodes : Arena Node} {least height slot : ℕ} {bytes : KeyBytes} {is_b
 pub look_of : {A B : Type 0} (nodes : Arena Node) (least height slot : ℕ) (bytes : A → KeyBytes) (f : A → ℕ → Bool)
     (hint : B → KeyBytes) (t : B → ℕ → Bool) (from : Option A) (to : Option B) (header : Node) (es : List NodeEntry) (begin end : ℕ)
     → IsSubtree nodes least height slot
-    → IfSome from (λ p. CanReach (bytes p) (f p) nodes least height slot)
-    → IfSome to (λ q. CanReach (hint q) (t q) nodes least height slot)
+    → IfSome from (λ p. IsSearchable (bytes p) (f p) nodes least height slot)
+    → IfSome to (λ q. IsSearchable (hint q) (t q) nodes least height slot)
     → IfSome from (λ p. IfSome to (λ q. (key : ℕ) → f p key ≡ true → t q key ≡ true))
     → header_at nodes slot ≡ Some header → es ≡ entries_of header
     → IsLowerBound (below_from (option_map f from)) header begin → IsLowerBound (below_to (option_map t to)) header end
@@ -160,8 +160,8 @@ module _ (nodes : Arena Node) (least height slot : ℕ) (f t : ℕ → Bool) (es
           → IsPartitioned (λ x. is_below x.key) (below e)
       child_partitioned is_below c = rw is (children_partitioned is_below below es (items_partitioned is_below c) i e inside)
 
-      pub child_reached : {bytes : KeyBytes} {is_below : ℕ → Bool} → CanReach bytes is_below nodes least height slot → 1 ≤ least
-          → CanReach bytes is_below nodes least (height - 1) e.child
+      pub child_reached : {bytes : KeyBytes} {is_below : ℕ → Bool} → IsSearchable bytes is_below nodes least height slot → 1 ≤ least
+          → IsSearchable bytes is_below nodes least (height - 1) e.child
       child_reached can least_some =
           let some : 1 ≤ length (entries_at nodes e.child) = omega (arith, least_some, child_is.filled) in
           search (rules, child_is.subtree, some, child_partitioned _ can.partitioned, can.headed)

@@ -2,7 +2,7 @@
 use Rattle.std.proofs.Common.{◌≡◌, ℕ, zero, suc, ◌+◌, ◌-◌, ◌<◌, ◌≤◌, Bool, true, false, List, [], ◌∷◌, ◌++◌, Option, Some, IsTrue, ◌↔◌, length, get_or, slice_get, drop, filter, flat_map, map, All, refl, ◌∙◌, ap, inl, inr, arith, append-nil, append_assoc, ℤ, ◌<ℤ◌, ◌≤ℤ◌, slice_range, Any}
 use Rattle.std.proofs.lemmas.List.{length-map}
 use Rattle.std.proofs.lemmas.List.Elements.{All-drop, All-filter, All-nil}
-use Rattle.boundaries.proofs.Words.{Arena, NodeEntry, Node, Item, Describes, item_of, IsPartitioned, from_last, IsAnswer, items_in}
+use Rattle.boundaries.proofs.Words.{Arena, NodeEntry, Node, Item, Describes, item_of, IsPartitioned, from_last, Answers, items_in}
 use Rattle.boundaries.proofs.Above.{IsAbove, leaf_above, not_above}
 use Rattle.boundaries.proofs.callers.Partitions.{All-front, none_pass, none_fail, IsPartitioned-parts, rest_fails}
 use Rattle.boundaries.proofs.FromLast.{from_last_of, from_last_part}
@@ -45,8 +45,8 @@ clears_after q below (e ∷ es) (suc i) clear next describe fails last after k p
 module _ (p q : ℕ → Bool) (v : ℤ) (n : (key : ℕ) → p key ≡ true → q key ≡ true) where
   -- What is told of a part is told of the whole.
   pub answered_wider : (items front part back : List Item) (clear next : Bool) (result : Option Bool)
-      → items ≡ front ++ (part ++ back) → Clears q clear next back → IsAnswer p q v next part result
-      → IsAnswer p q v clear items result
+      → items ≡ front ++ (part ++ back) → Clears q clear next back → Answers p q v next part result
+      → Answers p q v clear items result
   answered_wider items front part back clear next result parts clears answered before after k c d =
       let same : before ++ (items ++ after) ≡ (before ++ front) ++ (part ++ (back ++ after)) = rw parts (simp append_assoc) in
       let cq = rw same at d in
@@ -57,7 +57,7 @@ module _ (p q : ℕ → Bool) (v : ℤ) (n : (key : ℕ) → p key ≡ true → 
   -- Where some items are below the first bound and none behind them is below the second one, the others don't count.
   answered_part : (part : List Item) (clear b : Bool) → 1 ≤ length (filter (λ x. p x.key) part)
       → ((after : List Item) → (IsTrue clear → AllFail q after) → IsPartitioned (λ x. q x.key) (part ++ after) → AllFail q after)
-      → (IsTrue b ↔ IsAbove v (from_last_of (λ x. p x.key) (λ x. q x.key) part)) → IsAnswer p q v clear part (Some b)
+      → (IsTrue b ↔ IsAbove v (from_last_of (λ x. p x.key) (λ x. q x.key) part)) → Answers p q v clear part (Some b)
   answered_part part clear b some following answer before after k c d =
       let front : All (λ (x : Item). p x.key ≡ true) before =
       elim (IsPartitioned-parts (λ (x : Item). p x.key) before (part ++ after) c).2 [
@@ -70,14 +70,14 @@ module _ (p q : ℕ → Bool) (v : ℤ) (n : (key : ℕ) → p key ≡ true → 
       rw (from_last_part _ (λ (x : Item). q x.key) (λ x. n x.key) before part after front (inr some) (following after k rest)) answer
 
   -- what is told of all items
-  pub answered_of_all : (items : List Item) (b : Bool) → IsAnswer p q v true items (Some b) → IsPartitioned (λ x. p x.key) items
+  pub answered_of_all : (items : List Item) (b : Bool) → Answers p q v true items (Some b) → IsPartitioned (λ x. p x.key) items
       → IsPartitioned (λ x. q x.key) items → (IsTrue b ↔ IsAbove v (from_last p (Some q) items))
   answered_of_all items b answered c d =
       rw append-nil at (answered [] [] (λ _. All-nil (λ (x : Item). q x.key ≡ false)) (rw append-nil c) (rw append-nil d))
 
   -- what an entry tells whose version isn't above it
   pub answered_by_entry : (e : NodeEntry) (part : List Item) (clear : Bool) → Describes e part → p e.key ≡ true → clear ≡ true
-      → e.version ≤ℤ v → IsAnswer p q v clear part (Some false)
+      → e.version ≤ℤ v → Answers p q v clear part (Some false)
   answered_by_entry e part clear t is_below c le =
       answered_part part clear false (some_answered p e part t is_below) (λ after k d. k c)
       ((λ yes. absurd (cc)), (λ above. absurd (none_answered v e part t le (λ x. p x.key) (λ x. q x.key) above)))
@@ -88,7 +88,7 @@ module _ (nodes : Arena Node) (least height slot : ℕ) (p q : ℕ → Bool) (es
   -- what the entries of a leaf tell
   pub answered_by_leaf : (b : Bool) → height ≡ 0 → 1 ≤ begin → (end ≡ length es → clear ≡ true)
       → (IsTrue b ↔ Any (λ e. v <ℤ e.version) (slice_range es (begin - 1) end))
-      → IsAnswer p q v clear (items_in nodes height slot) (Some b)
+      → Answers p q v clear (items_in nodes height slot) (Some b)
   answered_by_leaf b z some all answer =
       let at : items_in nodes height slot ≡ map item_of es = rw (z, k.read) refl in
       rw at
@@ -108,8 +108,8 @@ module _ (nodes : Arena Node) (least height slot : ℕ) (p q : ℕ → Bool) (es
   -- What is told of the items of a child is told of those of the node.
   pub answered_by_child : (height ≡ 0 → ⊥) → (i : ℕ) (e : NodeEntry) → i < length es → e ≡ get_or es i e → (next : Bool)
       (result : Option Bool) → Clears q clear next (flat_map (λ e. items_in nodes (height - 1) e.child) (drop (i + 1) es))
-      → IsAnswer p q v next (items_in nodes (height - 1) e.child) result
-      → IsAnswer p q v clear (items_in nodes height slot) result
+      → Answers p q v next (items_in nodes (height - 1) e.child) result
+      → Answers p q v clear (items_in nodes height slot) result
   answered_by_child some i e inside is next result =
       let below = λ (e : NodeEntry). items_in nodes (height - 1) e.child in
       answered_wider p q v k.nested _ _ (below e) _ clear next result

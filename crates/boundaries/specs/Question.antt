@@ -14,12 +14,12 @@ use Rattle.boundaries.specs.declared.lookup.Look.{Look}
 use Rattle.boundaries.specs.declared.node.Node.{Node}
 use Rattle.boundaries.specs.declared.question.Question.{Question}
 use Rattle.boundaries.specs.declared.store.Store.{Store}
-use Rattle.boundaries.specs.Bound.{Keys, bytes_at, is_below}
+use Rattle.boundaries.specs.Bound.{Keys, is_below}
 use Rattle.boundaries.specs.Finding.{CanStep, HasHead, IsHeadFor}
-use Rattle.boundaries.specs.Item.{Item, item_of}
-use Rattle.boundaries.specs.Node.{all_heads_of, entries_of}
+use Rattle.boundaries.specs.Item.{Item}
+use Rattle.boundaries.specs.Node.{entries_of}
 use Rattle.boundaries.specs.Path.{IsPartitioned, from_last, items_below}
-use Rattle.boundaries.specs.Position.{CanSearch, IsFirstKnown, IsSearchable}
+use Rattle.boundaries.specs.Position.{CanBeSearched, IsFirstKnown}
 use Rattle.boundaries.specs.Subtree.{entries_at, items_in}
 use Rattle.arena.specs.Arena.{header_at}
 
@@ -45,26 +45,38 @@ pub record AsksFor (query : Range × ℤ) (q : Question) : Type 0 where
 
 -- a subtree that a question can be asked of: both bounds go through its items, and some are below the first one
 pub record IsAsked (store : Store) (height slot : ℕ) (q : Question) : Type 0 where
-  pub searchable : IsSearchable store (bound_after q) height slot
+  pub searchable : CanBeSearched store (bound_after q) height slot
   pub to : IsPartitioned (λ x. before_end store.keys q x.key) (items_in store.nodes height slot)
   pub some_below : items_below (begun store.keys q) (items_in store.nodes height slot) ≢ []
 
+-- A version of the items before the second bound, of those before the first one the last alone, is above this one.
+abbrev pub IsAboveBetween : (ℕ → Bool) → (ℕ → Bool) → ℤ → List Item → Type 0
+IsAboveBetween p q v items = Any (λ x. v <ℤ x.version) (from_last p (Some q) items)
+
 -- A version of the items before the end, of those not after the begin the last alone, is above the question's.
 abbrev pub Exceeds : Keys → Question → List Item → Type 0
-Exceeds keys q items = Any (λ x. q.version <ℤ x.version) (from_last (begun keys q) (Some (before_end keys q)) items)
+Exceeds keys q items = IsAboveBetween (begun keys q) (before_end keys q) q.version items
 
--- The answer for some items, if there is one: whether they exceed a version. It holds whatever items come before and after them, if
--- of those after them none comes before the end, where the rest is clear.
+-- The answer for some items, if there is one: whether they exceed a version. It holds whatever items come before and after them.
+-- If `clear` holds, no later item comes before the second bound.
+abbrev pub Answers : (ℕ → Bool) → (ℕ → Bool) → ℤ → Bool → List Item → Option Bool → Type 0
+Answers p q v clear items result =
+    (before after : List Item) → (IsTrue clear → All (λ x. q x.key ≡ false) after)
+    → IsPartitioned (λ x. p x.key) (before ++ (items ++ after)) → IsPartitioned (λ x. q x.key) (before ++ (items ++ after))
+    → IfSome result (λ answered. IsTrue answered ↔ IsAboveBetween p q v (before ++ (items ++ after)))
+
+-- no later item comes before the end
+abbrev pub is_clear : Rest → Bool
+is_clear rest.Clear = true
+is_clear rest.Open = false
+
+-- the answer of a question
 abbrev pub IsAnswer : Keys → Question → Rest → List Item → Option Bool → Type 0
-IsAnswer keys q r items result =
-    (before after : List Item) → (r ≡ rest.Clear → All (λ x. before_end keys q x.key ≡ false) after)
-    → IsPartitioned (λ x. begun keys q x.key) (before ++ (items ++ after))
-    → IsPartitioned (λ x. before_end keys q x.key) (before ++ (items ++ after))
-    → IfSome result (λ answered. IsTrue answered ↔ Exceeds keys q (before ++ (items ++ after)))
+IsAnswer keys q r items result = Answers (begun keys q) (before_end keys q) q.version (is_clear r) items result
 
 -- what is known of the items from an entry of a node on
 abbrev pub IsRestAt : Store → Node → ℕ → Question → Rest → Type 0
-IsRestAt store node index q r = r ≡ rest.Clear → All (λ e. before_end store.keys q e.key ≡ false) (drop index (entries_of node))
+IsRestAt store node index q r = IsTrue (is_clear r) → All (λ e. before_end store.keys q e.key ≡ false) (drop index (entries_of node))
 
 -- a node that was searched by the begin of a question, whose head is this
 pub record IsSearched (store : Store) (node : Node) (q : Question) (known : ℕ) (head : Option ℕ) : Type 0 where

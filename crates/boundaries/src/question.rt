@@ -73,7 +73,7 @@ impl<'a> Question<'a> {
     }
 }
 
-impl Default for Question<'_> {
+impl<'a> Default for Question<'a> {
     /// Returns a question about the empty key, which stands where none is asked.
     fn default() -> Self {
         Question {

@@ -24,7 +24,9 @@ impl<'a> Splice<'a> {
     /// Returns the replacement of the entries from one index up to another.
     pub fn new(from: usize, to: usize, new: &'a [NodeEntry], heads: Option<[u32; 2]>) -> Self
         requires few { length new.now ≤ 2 }
-        ensures splice { result ≡ record { from = from; to = to; new = new; heads = heads } }
+        ensures run { (result.from ≡ from) × (result.to ≡ to) }
+        ensures new { result.new.now ≡ new.now }
+        ensures heads { result.heads ≡ heads }
     {
         Splice {
             from,

@@ -1,4 +1,5 @@
 use Rattle.std.proofs.Common.{◌≤◌, take, All}
+use Rattle.arena.specs.Arena.{key_at}
 use Rattle.boundaries.specs.Node.{keys_of}
 use Rattle.boundaries.proofs.HeadChanges.{BeginsAsFirst}
 use Rattle.boundaries.proofs.node.heads.keys_prefix_len.Given as goal
