@@ -19,7 +19,8 @@ use Rattle.boundaries.specs.Finding.{CanStep, HasHead, IsHeadFor}
 use Rattle.boundaries.specs.Item.{Item}
 use Rattle.boundaries.specs.Node.{entries_of}
 use Rattle.boundaries.specs.Path.{IsPartitioned, from_last, items_below}
-use Rattle.boundaries.specs.Position.{CanBeSearched, IsFirstKnown}
+use Rattle.boundaries.specs.Position.{CanBeSearched, CanReach, IsFirstKnown}
+use Rattle.boundaries.specs.Store.{AreHeaded}
 use Rattle.boundaries.specs.Subtree.{entries_at, items_in}
 use Rattle.arena.specs.Arena.{header_at}
 
@@ -48,6 +49,11 @@ pub record IsAsked (store : Store) (height slot : ℕ) (q : Question) : Type 0 w
   pub searchable : CanBeSearched store (bound_after q) height slot
   pub to : IsPartitioned (λ x. before_end store.keys q x.key) (items_in store.nodes height slot)
   pub some_below : items_below (begun store.keys q) (items_in store.nodes height slot) ≢ []
+
+-- a tree that a question can be asked of, from its root
+pub record CanAsk (store : Store) (height slot : ℕ) (q : Question) : Type 0 where
+  pub from : CanReach store (bound_after q) height slot
+  pub to : CanReach store (bound_before q) height slot
 
 -- A version of the items before the second bound, of those before the first one the last alone, is above this one.
 abbrev pub IsAboveBetween : (ℕ → Bool) → (ℕ → Bool) → ℤ → List Item → Type 0
@@ -87,6 +93,7 @@ pub record IsSearched (store : Store) (node : Node) (q : Question) (known : ℕ)
 pub record IsHint (store : Store) (q : Question) (hint : Hint) : Type 0 where
   pub live : IsLive store.nodes hint.slot
   pub some : 1 ≤ length (entries_at store.nodes hint.slot)
+  pub headed : AreHeaded store
   pub known : IsFirstKnown store (bound_after q) hint.slot hint.common_prefix_len
 
 -- A leaf of a subtree, whose items are partitioned twice. The answer for them is the answer for the subtree's.

@@ -5,8 +5,8 @@ ghost use Rattle.std.specs.Prelude.{◌<◌, length};
 ghost use Rattle.boundaries.specs.Finding.{HasHead};
 ghost use Rattle.boundaries.specs.Node.{IsHeaded, entries_of};
 ghost use Rattle.boundaries.specs.Path.{IsPartitioned};
-ghost use Rattle.boundaries.specs.Question.{before_end, bound_before, IsApproach, IsAsked};
-ghost use Rattle.boundaries.specs.Question.{IsHint, IsRestAt};
+ghost use Rattle.boundaries.specs.Question.{before_end, bound_before, CanAsk, IsApproach};
+ghost use Rattle.boundaries.specs.Question.{IsAsked, IsHint, IsRestAt};
 
 use crate::node::Node;
 use crate::question::Question;
@@ -47,7 +47,7 @@ pub enum Approach {
 
 /// Goes down a tree, from its root towards the leaf that answers a question.
 pub fn approach(store: &Store, root: Root, question: &Question<'_>) -> Approach
-    requires asked { IsAsked store.now root.height root.slot question.now }
+    requires asked { CanAsk store.now root.height root.slot question.now }
     ensures approach { IsApproach store.now root.height root.slot Rest.Clear question.now result }
 {
     let hint = Hint {

@@ -79,7 +79,7 @@ fn greatest_between(
     let entries = node.entries();
     let (first, last) = (from.step(store, node), to.step(store, node));
     if height == 0 {
-        return greatest_of(&entries[first.index..=last.index], least);
+        return greatest_of(&entries[first.index..last.index + 1], least);
     }
     let from = Sought::new(from.bound, first.common_prefix_len);
     let to = Sought::new(to.bound, last.common_prefix_len);
@@ -132,7 +132,7 @@ fn greatest_to(store: &Store, slot: Slot, height: usize, to: Sought<'_>, least: 
     let entries = node.entries();
     let step = to.step(store, node);
     if height == 0 {
-        return greatest_of(&entries[..=step.index], least);
+        return greatest_of(&entries[..step.index + 1], least);
     }
     let most = greatest_of(&entries[..step.index], least);
     let entry = entries[step.index];

@@ -8,9 +8,9 @@ ghost use Rattle.std.specs.List.{All, AllZip};
 ghost use Rattle.keys.specs.Range.{IsEmpty};
 ghost use Rattle.boundaries.specs.Bound.{is_below};
 ghost use Rattle.boundaries.specs.Finding.{CanFind, IsLowerBound};
-ghost use Rattle.boundaries.specs.Question.{bound_after, bound_before, AsksFor, Exceeds, IsAnswer};
-ghost use Rattle.boundaries.specs.Question.{IsApproach, IsAsked, IsHint, IsLeading, IsLooked};
-ghost use Rattle.boundaries.specs.Question.{IsLookedAt, IsSearched};
+ghost use Rattle.boundaries.specs.Question.{bound_after, bound_before, AsksFor, CanAsk, Exceeds};
+ghost use Rattle.boundaries.specs.Question.{IsAnswer, IsApproach, IsAsked, IsHint, IsLeading};
+ghost use Rattle.boundaries.specs.Question.{IsLooked, IsLookedAt, IsSearched};
 ghost use Rattle.boundaries.specs.Subtree.{items_in};
 ghost use Rattle.boundaries.specs.declared.question.TheConstants.{SIDE};
 
@@ -51,7 +51,7 @@ pub fn questions<'a, L: QueryList>(queries: &'a L, places: &[usize]) -> ArrayVec
 /// Answers each question, in their order. There are at most [`SIDE`].
 pub fn answer_each(store: &Store, root: Root, questions: &[Question<'_>]) -> ArrayVec<bool, SIDE>
     requires few { length questions.now ≤ SIDE }
-    requires asked { All (IsAsked store.now root.height root.slot) questions.now }
+    requires asked { All (CanAsk store.now root.height root.slot) questions.now }
     ensures answered { AllZip (λ q above. IsTrue above
         ↔ Exceeds store.now.keys q (items_in store.now.nodes root.height root.slot))
         questions.now result.items }
@@ -68,7 +68,7 @@ pub fn answer_each(store: &Store, root: Root, questions: &[Question<'_>]) -> Arr
 // Goes down a tree for each question.
 fn approach_each(store: &Store, root: Root, questions: &[Question<'_>]) -> ArrayVec<Approach, SIDE>
     requires few { length questions.now ≤ SIDE }
-    requires asked { All (IsAsked store.now root.height root.slot) questions.now }
+    requires asked { All (CanAsk store.now root.height root.slot) questions.now }
     ensures approaches { AllZip (IsApproach store.now root.height root.slot Rest.Clear)
         questions.now result.items }
 {
@@ -115,7 +115,7 @@ fn look(store: &Store, question: &Question<'_>, approach: Approach) -> Look
 
 // Answers a question.
 fn answer(store: &Store, root: Root, question: &Question<'_>, look: Look) -> bool
-    requires asked { IsAsked store.now root.height root.slot question.now }
+    requires asked { CanAsk store.now root.height root.slot question.now }
     requires approach { IsApproach store.now root.height root.slot Rest.Clear question.now
         look.approach }
     requires looked { IsLooked store.now question.now look }
