@@ -4,7 +4,7 @@ use Rattle.std.proofs.lemmas.List.{length-map}
 use Rattle.std.proofs.Math.Nat.{mul-le-mul_left, pow-le-pow_right, two-pow-succ}
 use Rattle.std.proofs.lemmas.Bool.{cases_lt}
 use Rattle.std.proofs.lemmas.List.Elements.{All-head, All-tail}
-use Rattle.boundaries.proofs.Words.{Arena, spare_of, NodeEntry, Node, item_of, AreChildren, items_of, slots_of, entries_at, items_in, slots_in, IsSubtree, IsTree, least_of}
+use Rattle.boundaries.proofs.Words.{Arena, spare_of, NodeEntry, Node, item_of, AreChildren, items_of, slots_of, entries_at, items_in, slots_in, IsSubtree, IsTree, HALF_FULL}
 use Rattle.boundaries.proofs.Frames.{IsRight}
 use Rattle.boundaries.proofs.LeafChange.{root_some}
 
@@ -42,7 +42,7 @@ module _ (nodes : Arena Node) (least : ℕ) where
 -- a tree that a machine can count is lower than 63
 pub low : (nodes : Arena Node) (root height len room : ℕ) → IsTree nodes root height len room
     → len < 2 ^ 64 → height < 63
-low {N} nodes root height len room t fits = elim (cases_lt height 63) [
+low nodes root height len room t fits = elim (cases_lt height 63) [
   | inl less ↦ less
   | inr high ↦
       let many = many_items nodes HALF_FULL (omega arith) height root t.rooted.subtree (t.rooted.branches (omega arith)) in
@@ -53,7 +53,7 @@ low {N} nodes root height len room t fits = elim (cases_lt height 63) [
 -- enough nodes are spare for a change
 pub enough_spare : (nodes : Arena Node) (root height len room : ℕ) → IsTree nodes root height len room
     → 66 ≤ spare_of nodes 0
-enough_spare {N} nodes root height len room t = elim (cases_lt (spare_of nodes 0) 66) [
+enough_spare nodes root height len room t = elim (cases_lt (spare_of nodes 0) 66) [
   | inl few ↦
       let count = few_nodes nodes HALF_FULL (HALF_FULL - 1) (omega arith) height root t.rooted.subtree in
       let filled = root_some nodes root height len room t in

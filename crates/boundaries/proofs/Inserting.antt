@@ -5,32 +5,28 @@ use Rattle.std.proofs.lemmas.List.Filters.{length-filter_both}
 use Rattle.arena.specs.Arena.{Arena, spare_of}
 use Rattle.boundaries.specs.declared.node.Node.{Node}
 use Rattle.boundaries.specs.declared.entry.NodeEntry.{NodeEntry}
-use Rattle.boundaries.specs.Heads.{KeyBytes, AllAreHeads}
-use Rattle.boundaries.specs.Node.{all_heads_of}
 use Rattle.boundaries.specs.Item.{Item}
-use Rattle.boundaries.specs.Path.{IsPartitioned, items_below, following}
+use Rattle.boundaries.specs.Path.{items_below, following}
 use Rattle.boundaries.specs.Subtree.{items_in}
-use Rattle.boundaries.specs.Walk.{CanChangeBy}
+use Rattle.boundaries.specs.Bound.{Keys}
+use Rattle.boundaries.specs.Position.{CanReach}
+use Rattle.boundaries.specs.Walk.{CanChangeTree, items_of_tree}
+use Rattle.boundaries.specs.declared.key_bound.KeyBound.{KeyBound}
+use Rattle.boundaries.specs.declared.tree.Tree.{Tree}
 use Rattle.boundaries.proofs.Counting.{low, enough_spare}
-use Rattle.boundaries.proofs.LeafChange.{root_some}
-use Rattle.boundaries.specs.Store.{IsRooted}
+use Rattle.boundaries.specs.Store.{IsRooted, IsTree}
 
 -- A tree can be changed.
-pub can_change : {bytes : KeyBytes} {is_below : ℕ → Bool} {Wants : List Item → Type 0} {nodes : Arena Node}
-    {root height len room : ℕ} {taken : List NodeEntry} → IsTree nodes root height len room → len < 2 ^ 64
-    → IsPartitioned (λ x. is_below x.key) (items_in nodes height root) → AllAreHeads bytes (all_heads_of nodes)
-    → Wants (items_in nodes height root) → taken ≡ [] → CanChangeBy bytes is_below Wants nodes root height taken
-can_change {bytes} {is_below} {Wants} {nodes} {root} {height} {len} {room} {taken} t fits partitioned headed wanted none =
-    let low_is = low nodes root height len room t fits in
-    let room_is : height + 1 < spare_of nodes 0 = omega (arith, enough_spare nodes root height len room t) in
-    let some = root_some nodes root height len room t in
-    record {
-      changeable = record { fan_out = t.fan_out; few = t.few; low = low_is; rooted = t.rooted; some = some; room = room_is };
-      partitioned = partitioned;
-      headed = headed;
-      wanted = wanted;
-      none_taken = none;
-    }
+pub can_change : {bound : KeyBound} {Wants : Keys → List Item → Type 0} {tree : Tree} {len room : ℕ}
+    → IsTree tree.store.nodes tree.root.slot tree.root.height len room → len < 2 ^ 64
+    → CanReach tree.store bound tree.root.height tree.root.slot → Wants tree.store.keys (items_of_tree tree)
+    → tree.store.removed.items ≡ [] → CanChangeTree bound Wants tree
+can_change {bound} {Wants} {tree} {len} {room} t fits reach wanted none =
+    let nodes = tree.store.nodes in
+    let low_is = low nodes tree.root.slot tree.root.height len room t fits in
+    let room_is : tree.root.height + 1 < spare_of nodes 0 =
+    omega (arith, enough_spare nodes tree.root.slot tree.root.height len room t) in
+    record { low = low_is; rooted = t.rooted; room = room_is; reach = reach; wanted = wanted; none_removed = none }
 
 -- the tree after a change that puts other items in its nodes
 pub tree_put : (a b : Arena Node) (root height slot above len now room : ℕ)
@@ -40,8 +36,6 @@ pub tree_put : (a b : Arena Node) (root height slot above len now room : ℕ)
 tree_put a b root height slot above len now room t rooted spare counted some within =
     let same : finite.len a.records + spare_of a 0 ≡ finite.len b.records + spare_of b 0 = omega arith in
     record {
-      fan_out = t.fan_out;
-      few = t.few;
       rooted = rooted;
       counted = counted;
       some = some;

@@ -10,12 +10,10 @@ use Rattle.boundaries.specs.declared.entry.NodeEntry.{NodeEntry}
 use Rattle.boundaries.specs.declared.node.Node.{Node}
 use Rattle.boundaries.specs.Heads.{KeyBytes, Begins, AreHeads, AllAreHeads}
 use Rattle.boundaries.specs.Item.{item_of}
-use Rattle.boundaries.specs.Node.{entries_of, key_heads_of, all_heads_of, heads_list, keys_of}
+use Rattle.boundaries.specs.Node.{entries_of, key_heads_of, all_heads_of, keys_of}
 use Rattle.boundaries.specs.Path.{IsPartitioned}
-use Rattle.boundaries.specs.ReachedLeaf.{IsSearchable}
 use Rattle.boundaries.specs.Subtree.{entries_at, items_in}
-use Rattle.boundaries.specs.declared.node.TheConstants.{HALF_FULL}
-use Rattle.boundaries.proofs.HeadList.{headed_from_list}
+use Rattle.boundaries.specs.Store.{IsTree}
 use Rattle.boundaries.proofs.HeadOrder.{empty_head}
 use Rattle.boundaries.proofs.Headed.{headed_put}
 
@@ -32,16 +30,6 @@ pub root_some : (nodes : Arena Node) (slot height len room : ℕ) → IsTree nod
     → 1 ≤ length (entries_at nodes slot)
 root_some nodes slot zero len room t = omega (arith, t.some, t.counted, length-map (entries_at nodes slot) item_of)
 root_some nodes slot (suc height) len room t = t.rooted.subtree.1
-
--- What a search from the root asks of the nodes, where a tree can be searched.
-pub can_reach_root : {nodes : Arena Node} {slot height len room : ℕ} {bytes : KeyBytes} {is_below : ℕ → Bool}
-    → IsTree nodes slot height len room
-    → CanSearchItems is_below bytes
-    (record { items = items_in nodes height slot; room = room; all_heads = heads_list nodes })
-    → IsSearchable bytes is_below nodes HALF_FULL height slot
-can_reach_root {nodes} {slot} {height} {len} {room} {bytes} t can =
-    let headed = headed_from_list bytes nodes can.headed in
-    search (rules, t.rooted.subtree, root_some nodes slot height len room t, headed, can.partitioned)
 
 -- A node whose keys stay knows as much as before.
 pub key_heads_stays : (bytes : KeyBytes) (old new : Node) (i : ℕ) (d e : NodeEntry)
@@ -71,7 +59,7 @@ pub headed_alone : (bytes : KeyBytes) (a b : Arena Node) (slot : ℕ) (node : No
     → ((s : ℕ) → s ≢ slot → record_at b s ≡ record_at a s)
     → key_heads_of node ≡ record { keys = key ∷ []; prefix_len = 0; heads = 0 ∷ [] } → bytes key ≡ Some []
     → AllAreHeads bytes (all_heads_of b)
-headed_alone {N} bytes a b slot node key none is others key_heads empty =
+headed_alone bytes a b slot node key none is others key_heads empty =
     let nothing : AllAreHeads bytes (all_heads_of a) = λ s. (rw (none, finite.get-empty nat_cmp s) tt) in
     headed_put bytes a b slot node nothing (ap (option_map (λ (r : Record Node). r.header)) is)
     (rw key_heads (headed_empty bytes key empty)) others

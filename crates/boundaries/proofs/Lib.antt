@@ -26,7 +26,6 @@ pub mod Halves
 pub mod HeadAt
 pub mod HeadChanges
 pub mod HeadCounts
-pub mod HeadList
 pub mod HeadOrder
 pub mod Headed
 pub mod InTurn
@@ -36,7 +35,6 @@ pub mod Indexes
 pub mod Inserting
 pub mod KeyBytes
 pub mod Keys
-pub mod KnownItems
 pub mod KnownKeys
 pub mod LastAndInside
 pub mod LastFound

@@ -2,7 +2,7 @@
 use Rattle.std.proofs.Common.{rules, ◌≡◌, ℕ, zero, suc, ◌+◌, ◌-◌, ◌<◌, ◌≤◌, Bool, true, false, List, ◌∷◌, ◌++◌, take, drop, Option, Some, None, option_map, length, get_or, filter, flat_map, map, All, IfSome, sym, refl, ◌∙◌, ap, subst, arith, slice_range, append-nil}
 use Rattle.std.proofs.lemmas.Grind.{flat_map-append}
 use Rattle.std.proofs.lemmas.List.{drop-map, length-map, take-map}
-use Rattle.boundaries.proofs.Words.{Arena, header_at, NodeEntry, Node, Item, Describes, item_of, entries_of, IsPartitioned, below_from, below_to, entries_at, items_in, IsChild, IsSubtree, CanFind, CanStep, IsLowerBound, KeyBytes, IsCommonPrefixAt, IsSearchable}
+use Rattle.boundaries.proofs.Words.{Arena, header_at, key_at, is_below, KeyBound, Store, NodeEntry, Node, Item, Describes, item_of, entries_of, IsPartitioned, entries_at, items_in, IsChild, IsSubtree, CanFind, CanStep, IsLowerBound, IsCommonPrefixAt, IsSearchable}
 use Rattle.boundaries.proofs.callers.Partitions.{none_pass, none_fail}
 use Rattle.boundaries.proofs.Ways.{around_element, children_partitioned, index_inside}
 use Rattle.boundaries.proofs.Found.{partitioned-entries, entries_read, read_partitioned}
@@ -10,32 +10,6 @@ use Rattle.boundaries.proofs.Headed.{headed_at}
 use Rattle.boundaries.proofs.Placing.{entries_from_header}
 use Rattle.boundaries.proofs.Keys.{filter-items}
 use Rattle.boundaries.proofs.FromLast.{from_last_of, from_last_range, fewer_before}
-
--- What `requires` says of a bound that may be missing, as a bound.
-module _ {A : Type 0} (bytes : A → KeyBytes) (lets : A → ℕ → Bool) (nodes : Arena Node) (least height slot : ℕ) where
-  pub from_asked : (o : Option A) → IfSome o (λ p. IsSearchable (bytes p) (lets p) nodes least height slot)
-      → IsPartitioned (λ x. below_from (option_map lets o) x.key) (items_in nodes height slot)
-  from_asked None h =
-      let n = none_pass (λ (x : Item). false) (items_in nodes height slot) (λ i d inside. refl) in rw (n.0, n.1) refl
-  from_asked (Some p) h = h.partitioned
-
-  pub to_asked : (o : Option A) → IfSome o (λ p. IsSearchable (bytes p) (lets p) nodes least height slot)
-      → IsPartitioned (λ x. below_to (option_map lets o) x.key) (items_in nodes height slot)
-  to_asked None h =
-      let n = none_fail (λ (x : Item). true) (items_in nodes height slot) (λ i d inside. refl) in
-      rw (n.0, n.1) (sym (append-nil (items_in nodes height slot)))
-  to_asked (Some p) h = h.partitioned
-
-pub ask_any : {A : Type 0} (o : Option A) (P : A → Type 0) → ((p : A) → P p) → IfSome o P
-ask_any None P h = tt
-ask_any (Some p) P h = h p
-
-pub nested_asked : {A B : Type 0} (f : A → ℕ → Bool) (t : B → ℕ → Bool) (o : Option A) (u : Option B)
-    → IfSome o (λ p. IfSome u (λ q. (key : ℕ) → f p key ≡ true → t q key ≡ true))
-    → (key : ℕ) → below_from (option_map f o) key ≡ true → below_to (option_map t u) key ≡ true
-nested_asked f t None u h key e = absurd (cc)
-nested_asked f t (Some p) None h key e = refl
-nested_asked f t (Some p) (Some q) h key e = h key e
 
 -- a node with its entries, and two bounds through its items
 pub record IsLook (nodes : Arena Node) (least height slot : ℕ) (f t : ℕ → Bool) (es : List NodeEntry)
@@ -60,36 +34,34 @@ look_bound nodes least (suc height) slot is_below header es s c h e =
     read_partitioned nodes least (suc height) slot is_below header es (λ z. omega arith) s c h e
 
 -- A node that the code has read can be searched.
-module _ {nodes : Arena Node} {least height slot : ℕ} {bytes : KeyBytes} {is_below : ℕ → Bool} {node : Node}
-    (can : IsSearchable bytes is_below nodes least height slot) (header : header_at nodes slot ≡ Some node) where
-  abbrev read : entries_at nodes slot ≡ entries_of node
-  read = entries_from_header nodes slot node header
+module _ {store : Store} {bound : KeyBound} {least height slot : ℕ} {node : Node}
+    (can : IsSearchable (key_at store.keys) (is_below store.keys bound) store.nodes least height slot)
+    (header : header_at store.nodes slot ≡ Some node) where
+  abbrev read : entries_at store.nodes slot ≡ entries_of node
+  read = entries_from_header store.nodes slot node header
 
-  pub can_find_at : CanFind bytes is_below node
+  pub can_find_at : CanFind store.keys bound node
   can_find_at =
-      let headed = headed_at bytes nodes slot node can.headed header in
-      let partitioned = look_bound nodes least height slot is_below node _ can.subtree can.partitioned header refl in
+      let headed = headed_at (key_at store.keys) store.nodes slot node can.headed header in
+      let partitioned = look_bound store.nodes least height slot (is_below store.keys bound) node _ can.subtree can.partitioned header refl in
       let some = rw read at can.some in
       search rules
 
-  pub can_step_at : {target : List ℕ} {known : Option ℕ} → IsCommonPrefixAt bytes is_below target known (entries_at nodes slot) 0
-      → CanStep bytes is_below target node known
+  pub can_step_at : {known : ℕ} → IsCommonPrefixAt (key_at store.keys) (is_below store.keys bound) bound.key.now (Some known)
+      (entries_at store.nodes slot) 0 → CanStep store.keys bound node known
   can_step_at knows = record { can_find = can_find_at; known = rw read at knows }
 
-pub look_of : {A B : Type 0} (nodes : Arena Node) (least height slot : ℕ) (bytes : A → KeyBytes) (f : A → ℕ → Bool)
-    (hint : B → KeyBytes) (t : B → ℕ → Bool) (from : Option A) (to : Option B) (header : Node) (es : List NodeEntry) (begin end : ℕ)
-    → IsSubtree nodes least height slot
-    → IfSome from (λ p. IsSearchable (bytes p) (f p) nodes least height slot)
-    → IfSome to (λ q. IsSearchable (hint q) (t q) nodes least height slot)
-    → IfSome from (λ p. IfSome to (λ q. (key : ℕ) → f p key ≡ true → t q key ≡ true))
-    → header_at nodes slot ≡ Some header → es ≡ entries_of header
-    → IsLowerBound (below_from (option_map f from)) header begin → IsLowerBound (below_to (option_map t to)) header end
-    → IsLook nodes least height slot (below_from (option_map f from)) (below_to (option_map t to)) es begin end
-look_of nodes least height slot bytes f hint t from to header es begin end s c d n h e b l = record {
+-- two bounds in a node that the code has read
+pub look_of : (nodes : Arena Node) (least height slot : ℕ) (f t : ℕ → Bool) (header : Node) (es : List NodeEntry) (begin end : ℕ)
+    → IsSubtree nodes least height slot → IsPartitioned (λ x. f x.key) (items_in nodes height slot)
+    → IsPartitioned (λ x. t x.key) (items_in nodes height slot) → ((key : ℕ) → f key ≡ true → t key ≡ true)
+    → header_at nodes slot ≡ Some header → es ≡ entries_of header → IsLowerBound f header begin → IsLowerBound t header end
+    → IsLook nodes least height slot f t es begin end
+look_of nodes least height slot f t header es begin end s c d n h e b l = record {
   subtree = s;
-  from = from_asked bytes f nodes least height slot from c;
-  to = to_asked hint t nodes least height slot to d;
-  nested = nested_asked f t from to n;
+  from = c;
+  to = d;
+  nested = n;
   read = entries_read nodes slot header es h e;
   begin_is = rw e b.count_is;
   end_is = rw e l.count_is;

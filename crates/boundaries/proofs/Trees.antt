@@ -9,7 +9,9 @@ use Rattle.boundaries.specs.declared.node.Node.{Node}
 use Rattle.boundaries.specs.declared.walk.RaisedLeaf.{RaisedLeaf}
 use Rattle.boundaries.specs.Node.{entries_of}
 use Rattle.boundaries.specs.Subtree.{slots_in}
+use Rattle.boundaries.specs.declared.boundary_list.TheConstants.{LONGEST_PATH}
 use Rattle.boundaries.specs.declared.node.TheConstants.{HALF_FULL}
+use Rattle.boundaries.specs.Store.{IsTree}
 use Rattle.boundaries.specs.Walk.{IsRaisedInTree}
 use Rattle.boundaries.proofs.callers.Times.{distinct_if_once}
 use Rattle.boundaries.proofs.Frames.{Agree, agree_own, items_same, raised_same, slots_same, subtree_same}
@@ -20,20 +22,17 @@ pub enough_nodes : (k room total : ℕ) → 1 ≤ k → room / k + 67 ≤ total 
 enough_nodes k room total some many = omega (arith, mul-le-mul_left k many)
 
 -- a tree of a single node of one entry, placed in an arena without records
-pub tree_of_one : (a b : Arena Node) (slot : ℕ) (node : Node) (e : NodeEntry) → 4 ≤ N → N ≤ 65536
-    → a.records ≡ finite.empty → longest_path + 1 ≤ spare_of a 0 → record_at a slot ≡ None
+pub tree_of_one : (a b : Arena Node) (slot : ℕ) (node : Node) (e : NodeEntry) → a.records ≡ finite.empty → LONGEST_PATH + 1 ≤ spare_of a 0 → record_at a slot ≡ None
     → b.records ≡ finite.insert a.records slot (record { header = node; key = [] })
     → record_at b slot ≡ Some (record { header = node; key = [] })
     → ((s : ℕ) → s ≢ slot → record_at b s ≡ record_at a s)
     → spare_of b 0 + 1 ≡ spare_of a 0 → entries_of node ≡ e ∷ [] → IsTree b slot 0 1 1
-tree_of_one a b slot node e fan_out few empty enough free placed here others spare one =
+tree_of_one a b slot node e empty enough free placed here others spare one =
     let moves = moves_placed a b slot node (λ s. rw (empty, finite.get-empty nat_cmp s) tt) free placed here others spare in
     let none : finite.len a.records ≡ 0 = ap finite.len empty ∙ finite.len-empty nat_cmp (Record Node) in
     let linked : finite.len b.records ≡ 1 = omega (arith, moves.live) in
     let total : 67 ≤ finite.len b.records + spare_of b 0 = omega arith in
     record {
-      fan_out = fan_out;
-      few = few;
       rooted = record {
         subtree = ap is_some here;
         branches = λ above. absurd (omega arith);
@@ -55,14 +54,12 @@ raised_stays a b root height (Some leaf) same there = raised_same a b leaf heigh
 
 -- the same nodes, with other spare ones
 pub tree_stays : (a b : Arena Node) (root height len room more : ℕ) → b.records ≡ a.records → IsTree a root height len room
-    → room ≤ more → more + (HALF_FULL - 1) * longest_path ≤ (HALF_FULL - 1) * (finite.len a.records + spare_of b 0)
+    → room ≤ more → more + (HALF_FULL - 1) * LONGEST_PATH ≤ (HALF_FULL - 1) * (finite.len a.records + spare_of b 0)
     → IsTree b root height len more
 tree_stays a b root height len room more same t wider enough =
     let agree : Agree a b (slots_in a height root) = λ s some. rw same refl in
     let slots = slots_same a b height root agree in
     record {
-      fan_out = t.fan_out;
-      few = t.few;
       rooted = record {
         subtree = subtree_same a b HALF_FULL height root agree t.rooted.subtree;
         branches = λ above. rw (agree_own a b height root agree) (t.rooted.branches above);

@@ -23,5 +23,5 @@ pub use Rattle.boundaries.specs.Question.{Answers, IsApproach, IsLeading, IsAnsw
 pub use Rattle.boundaries.specs.Children.{Changes, IsKeyless, AreChildren, items_of, slots_of, child_at, IsFamily, IsRebalanced}
 pub use Rattle.boundaries.specs.Subtree.{items_in, entries_at, slots_in, IsSubtree, IsChild}
 pub use Rattle.boundaries.specs.Items.{IsLast, unexpired, expired, ended_by}
-pub use Rattle.boundaries.specs.Store.{AreHeaded, IsRooted}
+pub use Rattle.boundaries.specs.Store.{AreHeaded, IsRooted, IsTree}
 pub use Rattle.boundaries.specs.Walk.{IsChangedWithin}

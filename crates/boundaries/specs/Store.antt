@@ -3,6 +3,7 @@ use Rattle.std.specs.Prelude.{◌≡◌, ◌≢◌, ◌≤◌, ◌+◌, ◌-◌,
 use Rattle.std.specs.List.{All, Contains, IsDistinct}
 use Rattle.std.specs.FinMap as finite
 use Rattle.arena.specs.Arena.{IsLive, key_at, record_at, spare_of, wanted_of}
+use Rattle.boundaries.specs.declared.boundary_list.TheConstants.{LONGEST_PATH}
 use Rattle.boundaries.specs.declared.node.TheConstants.{HALF_FULL}
 use Rattle.boundaries.specs.declared.store.Store.{Store}
 use Rattle.boundaries.specs.Bound.{Keys}
@@ -38,3 +39,13 @@ pub record IsRooted (nodes : Arena Node) (root height : ℕ) : Type 0 where
   pub distinct : IsDistinct nat_eq (slots_in nodes height root)
   pub linked : finite.len nodes.records ≡ length (slots_in nodes height root)
   pub keyless : IsKeyless nodes
+
+-- what a tree keeps: its nodes, and how many items they hold and have room for
+pub record IsTree (nodes : Arena Node) (root height len room : ℕ) : Type 0 where
+  pub rooted : IsRooted nodes root height
+  pub counted : len ≡ length (items_in nodes height root)
+  pub some : 1 ≤ len
+  pub within : len ≤ room
+  -- Nodes for n items, and for one change more. Other than the root, each node has enough entries that it takes the place
+  -- of one item less than the least number of them.
+  pub reserved : room + (HALF_FULL - 1) * LONGEST_PATH ≤ (HALF_FULL - 1) * (finite.len nodes.records + spare_of nodes 0)

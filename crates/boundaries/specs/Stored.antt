@@ -1,16 +1,15 @@
 -- How boundaries are stored: their versions in a tree of items, and their keys in an arena. This project's own.
-use Rattle.std.specs.Prelude.{◌≡◌, ◌≤◌, ◌+◌, ◌*◌, ℕ, ℤ, List, [], ◌∷◌, length, map, nat_eq, slice_index, unwrap_or, None, Some, IfSome}
+use Rattle.std.specs.Prelude.{◌≡◌, ◌≤◌, ◌+◌, ℕ, ℤ, List, [], ◌∷◌, length, map, nat_eq, slice_index, unwrap_or}
 use Rattle.std.specs.List.{All, IsDistinct, flat_map}
 use Rattle.std.specs.FinMap as finite
-use Rattle.arena.specs.Arena.{IsLive, spare_of, wanted_of}
+use Rattle.arena.specs.Arena.{IsLive, wanted_of}
 use Rattle.keys.specs.declared.range.Range.{Range}
-use Rattle.boundaries.specs.declared.boundary_list.TheConstants.{LONGEST_PATH}
 use Rattle.boundaries.specs.declared.overwrite.Overwrite.{Overwrite}
 use Rattle.boundaries.specs.declared.tree.Tree.{Tree}
 use Rattle.boundaries.specs.Bound.{Keys, bytes_at}
 use Rattle.boundaries.specs.Boundary.{Boundary, AreBoundaries, AreInOrder, value_at}
 use Rattle.boundaries.specs.Item.{Item}
-use Rattle.boundaries.specs.Store.{AreHeaded, IsRooted}
+use Rattle.boundaries.specs.Store.{AreHeaded, IsTree}
 use Rattle.boundaries.specs.Walk.{IsRaisedInTree, items_of_tree}
 use Rattle.boundaries.specs.Written.{written_between}
 
@@ -50,13 +49,9 @@ pub record AreStored (tree : Tree) (room : ℕ) : Type 0 where
   pub distinct : IsDistinct nat_eq (map (λ x. x.key) (items_of_tree tree))
   pub counted : finite.len tree.store.keys.records ≡ length (items_of_tree tree)
   pub headed : AreHeaded tree.store
-  pub rooted : IsRooted tree.store.nodes tree.root.slot tree.root.height
+  pub tree_is : IsTree tree.store.nodes tree.root.slot tree.root.height (length (items_of_tree tree)) room
   pub raised : IsRaisedInTree tree.store.nodes tree.root.height tree.root.slot tree.raised
   pub none_removed : tree.store.removed.items ≡ []
-  pub within : length (items_of_tree tree) ≤ room
-  -- Nodes for n items, and for one change more. Other than the root, each node takes the place of 63 items.
-  pub reserved : room + 63 * LONGEST_PATH
-      ≤ 63 * (finite.len tree.store.nodes.records + spare_of tree.store.nodes 0)
 
 -- the version at the end of what is written
 abbrev pub version_at_end : Overwrite → List Boundary → ℤ
