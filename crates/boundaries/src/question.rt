@@ -1,10 +1,7 @@
 //! What boundaries are asked.
 
-ghost use Rattle.std.specs.Prelude.{◌≡◌, ◌∷◌, ◌++◌, [], true, false, take};
-ghost use Rattle.keys.specs.Hash.{IsHashOf};
+ghost use Rattle.std.specs.Prelude.{◌≡◌, ◌∷◌, ◌++◌, [], true, take};
 ghost use Rattle.keys.specs.Key.{IsBefore};
-ghost use Rattle.keys.specs.Range.{IsEmpty};
-ghost use Rattle.boundaries.specs.Question.{bound_after, bound_before, AsksFor};
 
 use crate::key_bound::KeyBound;
 use crate::query::RangeQuery;
@@ -33,6 +30,11 @@ pub struct Question<'a> {
 }
 
 impl<'a> Question<'a> {
+    ghost use Rattle.std.specs.Prelude.{◌≡◌};
+    ghost use Rattle.keys.specs.Hash.{IsHashOf};
+    ghost use Rattle.keys.specs.Range.{IsEmpty};
+    ghost use Rattle.boundaries.specs.Question.{bound_after, bound_before, AsksFor};
+
     /// Returns the question for a query whose range isn't empty.
     pub fn of(query: RangeQuery<'a>) -> Self
         requires filled { ¬ IsEmpty query.range }

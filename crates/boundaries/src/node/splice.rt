@@ -1,9 +1,6 @@
 //! Entries that replace others of a node.
 
-ghost use Rattle.std.specs.Prelude.{◌≡◌, ◌<◌, ◌≤◌, ◌++◌, length, take, drop, IfSome};
-ghost use Rattle.boundaries.specs.Node.{IsHeaded, ShareHeads, entries_of, key_heads_of};
-ghost use Rattle.boundaries.specs.Splice.{AreHalfFull, CanSplice, spliced};
-ghost use Rattle.boundaries.specs.declared.node.TheConstants.{FAN_OUT};
+ghost use Rattle.std.specs.Prelude.{◌≡◌, ◌≤◌, length};
 
 use super::{FAN_OUT, HALF_FULL, Node};
 use crate::entry::NodeEntry;
@@ -38,6 +35,11 @@ impl<'a> Splice<'a> {
 }
 
 impl Node {
+    ghost use Rattle.std.specs.Prelude.{◌≡◌, ◌<◌, ◌≤◌, ◌++◌, length, take, drop, IfSome};
+    ghost use Rattle.boundaries.specs.Node.{IsHeaded, ShareHeads, entries_of, key_heads_of};
+    ghost use Rattle.boundaries.specs.Splice.{AreHalfFull, CanSplice, spliced};
+    ghost use Rattle.boundaries.specs.declared.node.TheConstants.{FAN_OUT};
+
     /// Replaces entries.
     pub fn splice(&mut self, keys: &Keys, splice: Splice<'_>)
         requires can_splice { CanSplice keys.now self.old splice }
