@@ -11,7 +11,6 @@ ghost use Rattle.boundaries.specs.Overwrite.{before_start, bound_to};
 ghost use Rattle.boundaries.specs.Rebalancing.{IsStored};
 ghost use Rattle.boundaries.specs.Store.{KeysStay};
 ghost use Rattle.boundaries.specs.Subtree.{entries_at};
-ghost use Rattle.boundaries.specs.declared.entry.NodeEntry.{NodeEntry as EntryValue};
 ghost use Rattle.boundaries.specs.declared.node.TheConstants.{FAN_OUT};
 
 use crate::descent::Position;
@@ -155,7 +154,7 @@ impl<'a, 'b> LeafChange for Overwriting<'a, 'b> {
 fn has_first(store: &Store, slot: Slot) -> bool
     requires live { IsLive store.now.nodes slot }
     requires some { 0 < length (entries_at store.now.nodes slot) }
-    ensures first { (e : EntryValue) → slice_get (entries_at store.now.nodes slot) 0 ≡ Some e
+    ensures first { (e : NodeEntry) → slice_get (entries_at store.now.nodes slot) 0 ≡ Some e
         → IsTrue result ↔ (bytes_at store.now.keys e.key ≡ []) }
 {
     let entries = store.nodes.header_ref(slot).entries();
