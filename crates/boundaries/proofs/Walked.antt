@@ -17,7 +17,8 @@ use Rattle.boundaries.specs.Splice.{AreHalfFull}
 use Rattle.boundaries.specs.Subtree.{entries_at, items_in, slots_in, IsSubtree}
 use Rattle.boundaries.specs.declared.node.TheConstants.{HALF_FULL}
 use Rattle.boundaries.specs.Walk.{added_by, IsChanged, IsChangedWithin, IsRaisedIn}
-use Rattle.boundaries.specs.Rebalancing.{CanInsertChild, CanRebalance, IsStored, LosesOneAtMost}
+use Rattle.boundaries.specs.Rebalancing.{CanInsertChild, CanRebalance, IsStored, KeepsKeys, LosesOneAtMost}
+use Rattle.boundaries.specs.declared.store.Store.{Store}
 use Rattle.boundaries.proofs.callers.Times.{distinct_if_once, none_or_some, once_same, times, times_if_contains}
 use Rattle.boundaries.proofs.Changing.{Moves, changes_if_moves, moves_if_changes, moves_trans}
 use Rattle.boundaries.proofs.Families.{Loose}
@@ -28,10 +29,9 @@ use Rattle.boundaries.proofs.Storing.{Stored, moves_own, stored}
 use Rattle.boundaries.proofs.Walking.{raised_above, raised_at}
 
 -- The items of a leaf that was changed.
-pub within_leaf : (is_below : ℕ → Bool) (Gives : Bool → Option ℕ → List Item → List Item → Type 0) (is_first : Bool)
-    (key : Option ℕ) (was now : List Item) → Gives is_first key was now
-    → IsChangedWithin is_below Gives is_first key was now
-within_leaf is_below Gives is_first key was now gives = record {
+pub within_leaf : (is_below : ℕ → Bool) (Gives : Option ℕ → List Item → List Item → Type 0) (key : Option ℕ) (was now : List Item)
+    → Any (λ x. is_below x.key ≡ true) was → Gives key was now → IsChangedWithin is_below Gives key was now
+within_leaf is_below Gives key was now found gives = record {
   before = [];
   leaf = was;
   changed = now;
@@ -40,26 +40,30 @@ within_leaf is_below Gives is_first key was now gives = record {
   now_is = sym (append-nil now);
   items_below = All-nil (λ (x : Item). is_below x.key ≡ true);
   failing = All-nil (λ (x : Item). is_below x.key ≡ false);
-  found = inl refl;
-  first = is_first;
-  first_is = (λ h. (h, refl), λ h. h.0);
+  found = found;
   gives = gives;
 }
 
 -- Both parts of a node that was split have this many entries.
-both_filled : (n : ℕ) (w : Arena Node) (slot : ℕ) (added : Option ℕ) → 2 * n ≤ N
-    → IfSome added (λ s. AreHalfFull N (entries_at w slot) (entries_at w s))
+both_filled : (n : ℕ) (w : Arena Node) (slot : ℕ) (added : Option ℕ) → n ≤ HALF_FULL
+    → IfSome added (λ s. AreHalfFull (entries_at w slot) (entries_at w s))
     → IfSome added (λ s. (n ≤ length (entries_at w slot)) × (n ≤ length (entries_at w s)))
 both_filled n w slot None few half = tt
 both_filled n w slot (Some s) few half = (omega (arith, half.left), omega (arith, half.right))
 
-module _ {a : Arena Node} {height lower slot i x : ℕ} (at : IsAt a height lower slot i x) where
+module _ {old : Store} {height lower slot i x : ℕ} (at : IsAt old.nodes height lower slot i x) where
+  abbrev a : Arena Node
+  a = old.nodes
+
   abbrev es : List NodeEntry
   es = entries_at a slot
 
   -- The child was changed, and wasn't split.
-  module _ {bytes : KeyBytes} {b : Arena Node} {outcome : LeafOutcome} (put : IsChanged bytes a b lower x outcome)
+  module _ {between : Store} {outcome : LeafOutcome} (put : IsChanged old between lower x outcome)
       (entire : added_by outcome ≡ None) where
+    abbrev b : Arena Node
+    b = between.nodes
+
     moves : Moves a b (slots_in a lower x) (slots_in b lower x)
     moves = moves_if_changes a b _ _ (subst (λ o. Changes a b (slots_in a lower x) (slots_with b lower x o)) entire put.changes)
 
@@ -87,15 +91,13 @@ module _ {a : Arena Node} {height lower slot i x : ℕ} (at : IsAt a height lowe
         }
 
     -- The node can be rebalanced.
-    pub can_rebalance : CanRebalance bytes b slot i
+    pub can_rebalance : CanRebalance between slot i
     can_rebalance = record {
-      fan_out = at.can.fan_out;
+      sound = record { keyless = put.changes.keyless; headed = put.headed };
       live = live_beside at moves;
       within = rw (read_beside at moves) at.within;
       several = omega (arith, at.can.branches (omega (arith, at.next)), ap length (read_beside at moves));
-      keyless = put.changes.keyless;
       family = (lower, family);
-      headed = put.headed;
     }
 
     -- The child's entry would be right with the version of what came in.
@@ -138,7 +140,10 @@ module _ {a : Arena Node} {height lower slot i x : ℕ} (at : IsAt a height lowe
         )
 
     -- The node was rebalanced.
-    module _ {w : Arena Node} (rebalanced : IsRebalancedAt b w HALF_FULL lower slot) where
+    module _ {later : Store} (rebalanced : IsRebalancedAt b later.nodes HALF_FULL lower slot) where
+      abbrev w : Arena Node
+      w = later.nodes
+
       pub step_rebalanced : Stored a w HALF_FULL height slot None (around at (items_in b lower x))
       step_rebalanced = rw (← at.next) record {
         items_are = rebalanced.items ∙ ap (items_of b lower) (read_beside at moves ∙ split at)
@@ -153,7 +158,7 @@ module _ {a : Arena Node} {height lower slot i x : ℕ} (at : IsAt a height lowe
       pub changed_above : (answered : LeafOutcome) → added_by answered ≡ None → (answered ≡ Same → ⊥)
           → ((leaf : RaisedLeaf) → answered ≡ Raised leaf → (outcome ≡ Raised leaf)
           × ((length (entries_at b slot) ≤ length (entries_at w slot)) × IsRaisedIn w leaf (suc lower) slot))
-          → LosesOneAtMost bytes b w (entries_at b slot) (entries_at w slot) → IsChanged bytes a w height slot answered
+          → LosesOneAtMost between later slot → IsChanged old later height slot answered
       changed_above answered alone other raised rest = record {
         same = λ is. absurd (other is);
         raised = λ leaf is. let h = raised leaf is in record {
@@ -170,34 +175,39 @@ module _ {a : Arena Node} {height lower slot i x : ℕ} (at : IsAt a height lowe
             step_rebalanced.changes;
         taken = omega (arith, put.taken, rest.spare, at.next);
         headed = rest.headed;
+        keys = rw rest.keeps.keys put.keys;
       }
 
   -- The child was split.
-  module _ {bytes : KeyBytes} {b : Arena Node} {s : ℕ} (put : IsChanged bytes a b lower x (Split s)) where
+  module _ {between : Store} {s : ℕ} (put : IsChanged old between lower x (Split s)) where
+    abbrev b : Arena Node
+    b = between.nodes
+
     both_moves : Moves a b (slots_in a lower x) (slots_in b lower x ++ slots_in b lower s)
     both_moves = moves_if_changes a b _ _ put.changes
 
     -- The node can have one child more.
-    pub can_insert : CanInsertChild bytes b slot i s
+    pub can_insert : CanInsertChild between slot i s
     can_insert =
         let read = read_beside at both_moves in
         let child : x ≡ child_at (entries_at b slot) i = rw read (x_at at) in
         record {
-          fan_out = at.can.fan_out;
+          sound = record { keyless = put.changes.keyless; headed = put.headed };
           live = live_beside at both_moves;
           within = rw read at.within;
-          some = omega (arith, rw child at put.filled.0, at.can.fan_out);
-          some_added = omega (arith, put.filled.1, at.can.fan_out);
-          keyless = put.changes.keyless;
+          some = omega (arith, rw child at put.filled.0);
+          some_added = omega (arith, put.filled.1);
           room = omega (arith, put.taken, at.can.room, at.next);
-          headed = put.headed;
         }
 
     -- The node was linked to both parts.
-    module _ {w : Arena Node} (outcome : LeafOutcome)
+    module _ {later : Store} (outcome : LeafOutcome)
         (linked : IsLinked b (child_at (entries_at b slot) i) s (take i (entries_at b slot))
-        (drop (i + 1) (entries_at b slot)) (entries_at_both w slot (added_by outcome)))
-        (stored_at : IsStored bytes b w slot (added_by outcome)) where
+        (drop (i + 1) (entries_at b slot)) (entries_at_both later.nodes slot (added_by outcome)))
+        (stored_at : IsStored between later slot (added_by outcome)) (keeps : KeepsKeys between later) where
+      abbrev w : Arena Node
+      w = later.nodes
+
       linked_here : IsLinked b x s (take i es) (drop (i + 1) es) (entries_at_both w slot (added_by outcome))
       linked_here = rw (x_at at) (rw (read_beside at both_moves) at linked)
 
@@ -220,20 +230,20 @@ module _ {a : Arena Node} {height lower slot i x : ℕ} (at : IsAt a height lowe
           omega (arith, ap length linked_here.entries, length-append (take i es) (t ∷ u ∷ drop (i + 1) es)) in
           let k = stored HALF_FULL lower slot at.few at.subtree.0 (added_by outcome)
           (rw (split at, linked_here.entries) l.moves) (rw linked_here.entries all) some
-          (both_filled 1 w slot _ (omega (arith, at.can.fan_out)) stored_at.filled) stored_at.live stored_at.live_added
+          (both_filled 1 w slot _ (omega arith) stored_at.filled) stored_at.live stored_at.live_added
           (moves_if_changes b w _ _ stored_at.changes) in
           let items : items_of b lower (entries_at_both w slot (added_by outcome)) ≡ around at _ =
           ap (items_of b lower) linked_here.entries ∙ (simp (first, second, append-nil) at l.items) in
           rw (← at.next, ← items) k
 
       pub linked_above : (outcome ≡ Same → ⊥) → ((leaf : RaisedLeaf) → outcome ≡ Raised leaf → ⊥)
-          → IsChanged bytes a w height slot outcome
+          → IsChanged old later height slot outcome
       linked_above other kept = record {
         same = λ is. absurd (other is);
         raised = λ leaf is. absurd (kept leaf is);
         subtree = step_linked.subtree;
         neighbour = step_linked.neighbour;
-        filled = both_filled HALF_FULL w slot _ (omega (arith, at.can.fan_out)) stored_at.filled;
+        filled = both_filled HALF_FULL w slot _ (omega arith) stored_at.filled;
         few_less = λ above none. (
             let is : entries_at w slot ≡ take i es ++ (linked_here.first ∷ linked_here.second ∷ drop (i + 1) es) =
             ap (entries_at_both w slot) (sym none) ∙ linked_here.entries in
@@ -248,4 +258,5 @@ module _ {a : Arena Node} {height lower slot i x : ℕ} (at : IsAt a height lowe
         changes = step_linked.changes;
         taken = omega (arith, put.taken, stored_at.taken, at.next);
         headed = stored_at.headed;
+        keys = rw keeps.keys put.keys;
       }

@@ -15,7 +15,7 @@ use Rattle.boundaries.specs.Path.{IsPartitioned, first_key, index_in}
 use Rattle.boundaries.specs.Children.{child_at, items_of, AreChildren, DescribesWritten}
 use Rattle.boundaries.specs.Subtree.{entries_at, items_in}
 use Rattle.boundaries.specs.declared.node.TheConstants.{HALF_FULL}
-use Rattle.boundaries.specs.Walk.{IsChangedWithin, IsFoundAmong, IsRaised}
+use Rattle.boundaries.specs.Walk.{IsChangedWithin, IsRaised}
 use Rattle.boundaries.proofs.callers.Partitions.{not_both}
 use Rattle.boundaries.proofs.callers.Times.{none_or_some}
 use Rattle.boundaries.proofs.Frames.{IsRight}
@@ -38,18 +38,6 @@ same_first key [] [] e = refl
 same_first key [] (y ∷ ys) e = absurd (cc)
 same_first key (x ∷ xs) [] e = absurd (cc)
 same_first key (x ∷ xs) (y ∷ ys) e = e
-
--- No item stands before the child's where none stands before the node's and the child is the first one.
-pub first_if : (below is_first : Bool) (i : ℕ) → (below ≡ true → (is_first ≡ true) × (i ≡ 0))
-    → (below ≡ false → ((is_first ≡ true) × (i ≡ 0 → ⊥)) ⊎ (is_first ≡ false))
-    → IsTrue below ↔ (IsTrue is_first × (i ≡ 0))
-first_if below is_first i both one = (
-  both,
-  λ h. elim (cases_Bool below) [
-    | inl t ↦ t
-    | inr f ↦ absurd (elim (one f) [ inl some ↦ some.1 h.1 | inr following ↦ not_both is_first h.0 following ])
-  ],
-)
 
 -- The entry that told the items tells what they are now, once it has the version of what came in, unless it has a greater one.
 describes_raised : (e : NodeEntry) (version : ℤ) (was now : List Item) → Describes e was → IsRaised version was now
@@ -74,16 +62,6 @@ describes_raised e version was (x ∷ xs) describes raised le =
       };
     }
 
--- No item stands before those of a child if it is the first one.
-none_at : (a : Arena Node) (least lower : ℕ) (es : List NodeEntry) (i : ℕ) → AreChildren a least lower es
-    → i < length es → items_of a lower (take i es) ≡ [] → i ≡ 0
-none_at a least lower [] i right within none = absurd (omega (arith, within))
-none_at a least lower (e ∷ es) zero right within none = refl
-none_at a least lower (e ∷ es) (suc i) right within none =
-    let t = (All-head (IsRight a least lower) e es right).describes in
-    let empty = both_empty (items_in a lower e.child) (items_of a lower (take i es)) none in
-    absurd (cc (t.items_are, empty.0))
-
 module _ {a : Arena Node} {height lower slot i x : ℕ} (at : IsAt a height lower slot i x) where
   abbrev es : List NodeEntry
   es = entries_at a slot
@@ -98,25 +76,16 @@ module _ {a : Arena Node} {height lower slot i x : ℕ} (at : IsAt a height lowe
   back = items_of a lower (drop (i + 1) es)
 
   -- A leaf of the child, at which a bound goes on, is changed.
-  pub within_at : {is_below : ℕ → Bool} → i ≡ index_in is_below es → (Gives : Bool → Option ℕ → List Item → List Item → Type 0) (is_first below_first : Bool)
+  pub within_at : {is_below : ℕ → Bool} → i ≡ index_in is_below es → (Gives : Option ℕ → List Item → List Item → Type 0)
       (key below_key : Option ℕ) (now all : List Item) → IsPartitioned (λ x. is_below x.key) (items_in a height slot)
-      → (IsTrue below_first ↔ (IsTrue is_first × (i ≡ 0)))
       → below_key ≡ first_key key (map item_of (drop (i + 1) es)) → all ≡ front ++ (now ++ back)
-      → IsChangedWithin is_below Gives below_first below_key part now
-      → IsChangedWithin is_below Gives is_first key (items_in a height slot) all
-  within_at {is_below} index Gives is_first below_first key below_key now all partitioned first_is key_is all_is c =
+      → IsChangedWithin is_below Gives below_key part now
+      → IsChangedWithin is_below Gives key (items_in a height slot) all
+  within_at {is_below} index Gives key below_key now all partitioned key_is all_is c =
       let Passes = λ (x : Item). is_below x.key ≡ true in
       let Fails = λ (x : Item). is_below x.key ≡ false in
       let QuestionAnswers = λ (e : NodeEntry). Describes e (items_in a lower e.child) in
       let w = way a HALF_FULL lower slot is_below at.subtree (rw (← at.next) at partitioned) in
-      let child : x ≡ w.entry.child = x_at at ∙ ap (child_at es) index ∙ sym w.child in
-      let found : IsFoundAmong is_below front part = elim (none_or_some (length (filter (λ (e : NodeEntry). is_below e.key) es))) [
-        | inl none ↦ (let zero_is : i ≡ 0 = omega (arith, index) in inl (ap (λ n. items_of a lower (take n es)) zero_is))
-        | inr some ↦
-            let passed = index_passes (λ (e : NodeEntry). is_below e.key) es w.entry w.entries some w.is in
-            let t = w.kept.describes in
-            inr (rw (child, t.items_are) (Any-first Passes t.first t.others (rw t.key at passed)))
-      ] in
       let below_is : below_key ≡ first_key key back = key_is ∙ first_key-children (λ (e : NodeEntry). items_in a lower e.child) key
       (drop (i + 1) es) (All-drop QuestionAnswers (i + 1) es (λ k d within. (at.subtree.2 k d within).describes)) in
       rw (items_split at, all_is) record {
@@ -128,24 +97,8 @@ module _ {a : Arena Node} {height lower slot i x : ℕ} (at : IsAt a height lowe
         now_is = simp (c.now_is, append_assoc);
         items_below = All-append Passes front c.before (rw (← index) at w.before) c.items_below;
         failing = All-append Fails c.following back c.failing (rw (← index) at w.following);
-        found = elim c.found [
-          | inl none ↦ elim found [
-            | inl first ↦ inl (ap₂ (λ xs ys. xs ++ ys) first none)
-            | inr there ↦ elim (Any-parts Passes c.leaf c.following (rw (c.was_is, none) at there)) [
-              | inl here ↦ inr here
-              | inr later ↦ absurd (not_both _ later.4 (rw later.3 at (c.failing later.0 later.1 later.2)))
-            ]
-          ]
-          | inr there ↦ inr there
-        ];
-        first = c.first;
-        first_is = (
-          λ h. (let b = c.first_is.0 h in let f = first_is.0 b.0 in
-              (f.0, ap₂ (λ n ys. items_of a lower (take n es) ++ ys) f.1 b.1)),
-          λ h. (let none = both_empty front c.before h.1 in
-              c.first_is.1 (first_is.1 (h.0, none_at a HALF_FULL lower es i at.subtree.2 at.within none.0), none.1)),
-        );
-        gives = subst (λ k. Gives c.first k c.leaf c.changed)
+        found = c.found;
+        gives = subst (λ k. Gives k c.leaf c.changed)
             (ap (λ k. first_key k c.following) below_is ∙ sym (first_key-append key c.following back)) c.gives;
       }
 
