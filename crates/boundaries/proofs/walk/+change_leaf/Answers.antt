@@ -1,5 +1,6 @@
 use Rattle.std.proofs.Common.{◌≡◌, ◌+◌, ◌-◌, ℕ, suc, inl, inr, None, Bool, List, Option, length, get_or, take, drop, refl, sym, ap, ◌∙◌, arith, rules}
 use Rattle.boundaries.specs.declared.entry.NodeEntry.{NodeEntry}
+use Rattle.boundaries.specs.Bound.{is_below as below}
 use Rattle.boundaries.specs.Item.{Item}
 use Rattle.boundaries.specs.Node.{entries_of}
 use Rattle.boundaries.specs.Path.{index_in}
@@ -16,7 +17,7 @@ use Rattle.boundaries.proofs.Headed.{headed_at}
 use Rattle.boundaries.proofs.Placing.{entries_from_header}
 use Rattle.boundaries.proofs.Found.{read_partitioned, found, found_partitioned}
 use Rattle.boundaries.proofs.Stepping.{IsAt, around, child_can, items_split}
-use Rattle.boundaries.proofs.Walking.{first_if, within_at}
+use Rattle.boundaries.proofs.Walking.{within_at}
 use Rattle.boundaries.proofs.Walked.{within_leaf, can_rebalance, can_insert, child_filled, family, raised_below, describes_written, step_rebalanced, changed_above, step_linked, linked_above}
 use Rattle.boundaries.proofs.walk.+change_leaf.Goals as goal
 use Rattle.boundaries.proofs.walk.+change_leaf.Goals.{After-index-entries-step, After-change_leaf, After-raise_entry, After-rebalance_child}
@@ -28,37 +29,37 @@ pub returns-then-height-eq0 : goal.returns-then-height-eq0
 returns-then-height-eq0 g t c = rw c.if-height-eq0.true record {
   changed = c.change.ensures.changed;
   items = within_leaf _ _ _ _ _ _ c.change.ensures.items;
-  leaf_bound = c.change.ensures.leaf_bound;
+  bound = c.change.ensures.bound;
 }
 
 pub step-step-requires : goal.step-step-requires
 step-step-requires g t c =
-    let a = c.args.nodes.now in
+    let a = c.args.store.now.nodes in
     let can = c.requires.can_change in
     let node = c.header_ref-node.result.now in
     let header = c.header_ref-node.ensures.header in
-    let read = entries_from_header a c.args.slot node header in
-    let partitioned = read_partitioned a (least_of FAN_OUT) c.args.height c.args.slot _ node _ c.if-height-eq0.false
-    can.changeable.subtree can.searched.partitioned header refl in
-    rw c.leaf_bound.ensures.leaf_bound (
+    let read = entries_from_header a c.args.position.slot node header in
+    let partitioned = read_partitioned a (HALF_FULL) c.args.height c.args.position.slot _ node _ c.if-height-eq0.false
+    can.changeable.subtree can.partitioned header refl in
+    rw c.bound.ensures.bound (
       search rules,
       record {
         can_find = record {
-          headed = headed_at _ a c.args.slot node can.searched.headed header;
+          headed = headed_at _ a c.args.position.slot node can.headed header;
           partitioned = partitioned;
           some = omega (arith, ap length read, can.changeable.some);
         };
-        known = rw read at can.searched.known;
+        known = rw read at can.known;
       },
     )
 
 -- the node at the slot, and the child at which the walk goes on
 module _ (g : Over) (t : ℕ) (c : After-index-entries-step g t) where
   abbrev is_below : ℕ → Bool
-  is_below = g.C.LeafBound.Bound.below (g.C.LeafChange.bound_of c.args.change.now)
+  is_below = below c.args.store.now.keys (g.C.LeafChange.bound_of c.args.change.now)
 
   abbrev es : List NodeEntry
-  es = entries_at c.args.nodes.now c.args.slot
+  es = entries_at c.args.store.now.nodes c.args.position.slot
 
   abbrev h : ℕ
   h = c.args.height - 1
@@ -70,12 +71,12 @@ module _ (g : Over) (t : ℕ) (c : After-index-entries-step g t) where
   x = (get_or c.entries-entries.result.now i c.index-entries-step.result).child
 
   read : es ≡ entries_of c.header_ref-node.result.now
-  read = entries_from_header c.args.nodes.now c.args.slot c.header_ref-node.result.now c.header_ref-node.ensures.header
+  read = entries_from_header c.args.store.now.nodes c.args.position.slot c.header_ref-node.result.now c.header_ref-node.ensures.header
 
   index_is : i ≡ index_in is_below (entries_of c.header_ref-node.result.now)
-  index_is = rw c.leaf_bound.ensures.leaf_bound at c.step-step.ensures.step.index_is
+  index_is = rw c.bound.ensures.bound at c.step-step.ensures.step.index_is
 
-  at_child : IsAt c.args.nodes.now c.args.height h c.args.slot i x
+  at_child : IsAt c.args.store.now.nodes c.args.height h c.args.position.slot i x
   at_child =
       let next : suc h ≡ c.args.height = omega (arith, c.if-height-eq0.false) in
       record {
@@ -89,45 +90,41 @@ module _ (g : Over) (t : ℕ) (c : After-index-entries-step g t) where
       }
 
   -- The child can be changed.
-  can_change_child : CanChangeLeaf (g.C.LeafBound.Bound.bytes (g.C.LeafChange.bound_of c.args.change.now)) is_below
-      (g.C.LeafBound.Bound.target (g.C.LeafChange.bound_of c.args.change.now)) (g.C.LeafChange.wants c.args.change.now)
-      c.args.nodes.now h x c.step-step.result.common_prefix_len c.args.taken.now.items
+  can_change_child : CanChangeLeaf (g.C.LeafChange.bound_of c.args.change.now) (g.C.LeafChange.wants c.args.change.now)
+      c.args.store.now h c.child-below.result
   can_change_child =
       let at = at_child in
-      let a = c.args.nodes.now in
-      let L = least_of FAN_OUT in
+      let a = c.args.store.now.nodes in
+      let L = HALF_FULL in
       let n = c.args.height in
       let can = c.requires.can_change in
       let node = c.header_ref-node.result.now in
       let vs_is = c.entries-entries.ensures.entries in
       let header = c.header_ref-node.ensures.header in
-      let f = found a L n c.args.slot is_below node _ i c.index-entries-step.result c.if-height-eq0.false can.changeable.subtree
-      can.searched.partitioned header vs_is (index_is ∙ ap (index_in is_below) (sym vs_is)) in
+      let f = found a L n c.args.position.slot is_below node _ i c.index-entries-step.result c.if-height-eq0.false can.changeable.subtree
+      can.partitioned header vs_is (index_is ∙ ap (index_in is_below) (sym vs_is)) in
       record {
         changeable = child_can at;
-        searched = record {
-          partitioned = found_partitioned a L n c.args.slot is_below x f;
-          headed = can.searched.headed;
-          known = known_below a L n c.args.slot is_below x f _ _ c.step-step.result.common_prefix_len node i header index_is
-              (rw c.leaf_bound.ensures.leaf_bound at c.step-step.ensures.step.knows);
-        };
-        wanted = g.met.C.LeafChange.part c.args.change.now (items_of a h (take i es)) (items_in a h x)
+        partitioned = found_partitioned a L n c.args.position.slot is_below x f;
+        headed = can.headed;
+        known = known_below a L n c.args.position.slot is_below x f _ _ c.step-step.result.common_prefix_len node i header index_is
+              (rw c.bound.ensures.bound at c.step-step.ensures.step.knows);
+        wanted = g.met.C.LeafChange.part c.args.change.now c.args.store.now.keys (items_of a h (take i es)) (items_in a h x)
             (items_of a h (drop (i + 1) es)) (rw (items_split at) at can.wanted);
-        none_taken = can.none_taken;
+        none_removed = can.none_removed;
       }
 
 -- A leaf of the child is changed.
-within : (g : Over) (t : ℕ) (c : After-change_leaf g t) (Gives : Bool → Option ℕ → List Item → List Item → Type 0)
+within : (g : Over) (t : ℕ) (c : After-change_leaf g t) (Gives : Option ℕ → List Item → List Item → Type 0)
     (now all : List Item) → (let k = (goal.at.After-change_leaf g t c).After-index-entries-step in
-    let below = IsChangedWithin (is_below g t k) Gives c.if-place.below c.key_at.result in
-    let here = IsChangedWithin (is_below g t k) Gives c.args.place.is_first c.args.place.following in
-    let a = c.args.nodes.now in
+    let below = IsChangedWithin (is_below g t k) Gives c.child-below.result.following in
+    let here = IsChangedWithin (is_below g t k) Gives c.args.position.following in
+    let a = c.args.store.now.nodes in
     all ≡ around (at_child g t k) now → below (items_in a (h g t k) (x g t k)) now
-    → here (items_in a c.args.height c.args.slot) all)
+    → here (items_in a c.args.height c.args.position.slot) all)
 within g t c Gives now all all_is changed =
     let k = (goal.at.After-change_leaf g t c).After-index-entries-step in
-    within_at (at_child g t k) (index_is g t k ∙ ap (index_in (is_below g t k)) (sym (read g t k))) Gives _ _ _ _ now all c.requires.can_change.searched.partitioned
-    (first_if _ _ _ c.if-place.below-true c.if-place.below-false)
+    within_at (at_child g t k) (index_is g t k ∙ ap (index_in (is_below g t k)) (sym (read g t k))) Gives _ _ now all c.requires.can_change.partitioned
     (rw (read g t k, ← c.entries-entries.ensures.entries) c.key_at.ensures.key) all_is changed
 
 pub change_leaf-requires : goal.change_leaf-requires
@@ -138,7 +135,7 @@ change_leaf-requires g t c κs low =
 pub raise_entry-requires : goal.raise_entry-requires
 raise_entry-requires g t c =
     let at = at_child g t (goal.at.raise_entry-requires g t c).After-index-entries-step in
-    rw (c.leaf_bound-in-Raised.ensures.leaf_bound ∙ c.in-Raised.ensures.leaf_bound) (
+    rw (c.bound-in-Raised.ensures.bound ∙ c.in-Raised.ensures.bound) (
       search rules,
       record {
         rebalance = can_rebalance at c.in-Raised.ensures.changed refl;
@@ -149,13 +146,13 @@ raise_entry-requires g t c =
 pub rebalance_child-requires : goal.rebalance_child-requires
 rebalance_child-requires g t c =
     let at = at_child g t (goal.at.rebalance_child-requires g t c).After-index-entries-step in
-    rw (c.leaf_bound-in-Changed.ensures.leaf_bound ∙ c.in-Changed.ensures.leaf_bound)
+    rw (c.bound-in-Changed.ensures.bound ∙ c.in-Changed.ensures.bound)
     (search rules, can_rebalance at c.in-Changed.ensures.changed refl)
 
 pub insert_child-requires : goal.insert_child-requires
 insert_child-requires g t c =
     let at = at_child g t (goal.at.insert_child-requires g t c).After-index-entries-step in
-    rw (c.leaf_bound-in-Split.ensures.leaf_bound ∙ c.in-Split.ensures.leaf_bound)
+    rw (c.bound-in-Split.ensures.bound ∙ c.in-Split.ensures.bound)
     (search rules, can_insert at c.in-Split.ensures.changed)
 
 pub returns-in-Same : goal.returns-in-Same
@@ -164,9 +161,9 @@ returns-in-Same g t c =
     let same = c.in-Same.ensures.changed.same refl in
     let at = at_child g t here.After-index-entries-step in
     rw same record {
-      changed = unchanged _ c.args.nodes.now c.args.height c.args.slot at.can c.requires.can_change.searched.headed;
+      changed = unchanged c.args.store.now c.args.height c.args.position.slot at.can c.requires.can_change.headed;
       items = within g t here.After-change_leaf _ _ _ (items_split at) (rw same at c.in-Same.ensures.items);
-      leaf_bound = search rules;
+      bound = search rules;
     }
 
 raised_not_same : (leaf : RaisedLeaf) → Raised leaf ≡ Same → ⊥
@@ -184,7 +181,7 @@ returns-in-Raised g t c =
     let at = at_child g t here.After-index-entries-step in
     let put = c.in-Raised.ensures.changed in
     let made = c.raise_entry.ensures.rebalanced (c.args.height - 1) (family at put refl) (describes_written at put refl _ refl) in
-    let rest = rw (c.leaf_bound-in-Raised.ensures.leaf_bound ∙ c.in-Raised.ensures.leaf_bound) at c.raise_entry.ensures.rest in
+    let rest = rw (c.bound-in-Raised.ensures.bound ∙ c.in-Raised.ensures.bound) at c.raise_entry.ensures.rest in
     let answered = c.raise_entry.ensures.outcome in
     let alone : added_by c.raise_entry.result ≡ None =
     elim answered [ inl is ↦ ap added_by is | inr is ↦ ap added_by is.0 ] in
@@ -197,7 +194,7 @@ returns-in-Raised g t c =
     rw alone record {
       changed = changed;
       items = within g t here.After-change_leaf _ _ _ (step_rebalanced at put refl made).items_are c.in-Raised.ensures.items;
-      leaf_bound = search rules;
+      bound = search rules;
     }
 
 pub returns-in-Changed : goal.returns-in-Changed
@@ -206,36 +203,36 @@ returns-in-Changed g t c =
     let at = at_child g t here.After-index-entries-step in
     let put = c.in-Changed.ensures.changed in
     let made = c.rebalance_child.ensures.rebalanced (c.args.height - 1) (family at put refl) in
-    let same = c.leaf_bound-in-Changed.ensures.leaf_bound ∙ c.in-Changed.ensures.leaf_bound in
+    let same = c.bound-in-Changed.ensures.bound ∙ c.in-Changed.ensures.bound in
     let rest = rw same at c.rebalance_child.ensures.rest in
     record {
       changed = changed_above at put refl made Changed refl changed_not_same (λ leaf is. absurd (changed_not_raised leaf is)) rest;
       items = within g t here.After-change_leaf _ _ _ (step_rebalanced at put refl made).items_are c.in-Changed.ensures.items;
-      leaf_bound = search rules;
+      bound = search rules;
     }
 
 pub returns-in-Some : goal.returns-in-Some
 returns-in-Some g t c =
     let here = goal.at.returns-in-Some g t c in
     let at = at_child g t here.After-index-entries-step in
-    let put = rw (c.leaf_bound-in-Split.ensures.leaf_bound ∙ c.in-Split.ensures.leaf_bound) at c.in-Some.ensures.stored in
+    let put = rw (c.bound-in-Split.ensures.bound ∙ c.in-Split.ensures.bound) at c.in-Some.ensures.stored in
     let step = step_linked at c.in-Split.ensures.changed (Split c.in-Some.added) c.in-Some.ensures.linked put in
     record {
       changed = linked_above at c.in-Split.ensures.changed (Split c.in-Some.added) c.in-Some.ensures.linked put
           (λ is. absurd (cc)) (λ leaf is. absurd (cc));
       items = within g t here.After-change_leaf _ _ _ step.items_are c.in-Split.ensures.items;
-      leaf_bound = search rules;
+      bound = search rules;
     }
 
 pub returns-in-None : goal.returns-in-None
 returns-in-None g t c =
     let here = goal.at.returns-in-None g t c in
     let at = at_child g t here.After-index-entries-step in
-    let put = rw (c.leaf_bound-in-Split.ensures.leaf_bound ∙ c.in-Split.ensures.leaf_bound) at c.in-None.ensures.stored in
+    let put = rw (c.bound-in-Split.ensures.bound ∙ c.in-Split.ensures.bound) at c.in-None.ensures.stored in
     let step = step_linked at c.in-Split.ensures.changed Changed c.in-None.ensures.linked put in
     record {
       changed = linked_above at c.in-Split.ensures.changed Changed c.in-None.ensures.linked put (λ is. absurd (cc))
           (λ leaf is. absurd (cc));
       items = within g t here.After-change_leaf _ _ _ step.items_are c.in-Split.ensures.items;
-      leaf_bound = search rules;
+      bound = search rules;
     }
