@@ -131,7 +131,10 @@ fn answer(
         → map (query_named batch.now.txns) asked.now ≡ map Some queries
         → AreAnswers steps.now queries answers.new.items) }
 {
-    let queries = AskedReads::new(&batch.txns, asked);
+    let queries = AskedReads {
+        txns: &batch.txns,
+        names: asked,
+    };
     steps.exceeds_each(&queries, answers)?;
     Ok(())
 }
@@ -177,13 +180,13 @@ fn is_settled_by(txn: &TxnRef<'_>, hits: &[bool]) -> bool
     !txn.marked && hits.contains(&true)
 }
 
-/// Names a read range of some transactions.
+// Names a read range of some transactions.
 #[derive(Clone, Copy, Debug)]
-pub struct ReadName {
-    /// The index of the transaction.
-    pub txn: u16,
-    /// The index of the range among those of all transactions.
-    pub range: u32,
+struct ReadName {
+    // The index of the transaction.
+    txn: u16,
+    // The index of the range among those of all transactions.
+    range: u32,
 }
 
 // Appends the names of those read ranges of the transaction at the index that stand from one index
@@ -211,23 +214,12 @@ fn push_reads(
     Ok(())
 }
 
-/// Queries for read ranges of transactions, each at the snapshot of its transaction.
+// Queries for read ranges of transactions, each at the snapshot of its transaction.
 #[derive(Debug, Drop)]
-pub struct AskedReads<'a> {
+struct AskedReads<'a> {
     txns: &'a Txns,
     names: &'a [ReadName],
     ghost named: { AreNamed txns.now names.now },
-}
-
-impl<'a> AskedReads<'a> {
-    /// Lists the queries for the read ranges of these names.
-    pub fn new(txns: &'a Txns, names: &'a [ReadName]) -> Self
-        requires named { AreNamed txns.now names.now }
-        ensures txns { result.txns.now ≡ txns.now }
-        ensures names { result.names.now ≡ names.now }
-    {
-        AskedReads { txns, names }
-    }
 }
 
 impl QueryList for AskedReads<'_> {

@@ -76,11 +76,7 @@ impl UnitedWrites {
 // Replaces the marks by one for each range of the batch, in order: those of the write ranges of
 // committed transactions are `true`, and all others `false`. After an error the marks are
 // unspecified.
-fn mark_written(
-    written: &mut Vec<bool>,
-    batch: &Batch,
-    entries: &[Entry],
-) -> Result<(), AllocError>
+fn mark_written(written: &mut Vec<bool>, batch: &Batch, entries: &[Entry]) -> Result<(), AllocError>
     requires entries { length entries.now ≡ length batch.now.txns }
     ensures written { OnOk result (picked written.new.items (ranges_in batch.now.txns)
         ≡ committed batch.now.txns entries.now) }

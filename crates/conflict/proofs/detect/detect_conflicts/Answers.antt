@@ -18,6 +18,7 @@ use Rattle.stepmap.specs.Limit.{HasRoomFor, made_room, prepared}
 use Rattle.stepmap.specs.Sweeping.{rest, after_sweep}
 use Rattle.stepmap.specs.Uniting.{Unites}
 use Rattle.stepmap.specs.declared.error.StepError.TheVariants as step
+use Rattle.stepmap.specs.declared.step_map.TheConstants.{MAX_LIMIT}
 use Rattle.conflict.specs.ConflictSet.{IsSwept, raised, HasRoomToWrite}
 use Rattle.conflict.specs.InBatch.{in_batches}
 use Rattle.conflict.specs.Pace.{after_writes, with_written, IsPaced}
@@ -254,6 +255,26 @@ module _ (c : After-write_spans) (one : IsUnion (ranges_in c.args.batch.now.txns
       (subst (λ edge. edge ≤ℤ b.version) (sym edge_now) late) in
       subst (IsWriting one.united b.version (length one.united) c.prepare.new.self) (sym exact)
       (written_all one.united b.version turn c.prepare.new.self start)
+
+  -- the ranges were within the limit
+  few : 2 * length c.spans-spans.result.now ≤ MAX_LIMIT
+  few =
+      let b = c.args.batch.now in
+      let prepare = c.in_ok-prepare.ensures in
+      let ready = ap (λ (m : Steps). length m.ready) prepare.ok ∙ ap length c.lengths.ensures.lengths
+      ∙ each_count (ranges_in b.txns) c.spans-spans.result.now c.gather.new.self.lengths.items
+      (committed b.txns c.judge_in_batch.new.entries) one in
+      omega (arith, prepare.steps.within, prepare.steps.limit, ready)
+
+pub overflow_mul-spans : goal.overflow_mul-spans
+overflow_mul-spans c =
+    let at = goal.at.overflow_mul-spans c in
+    omega (arith, few at.After-write_spans (union at.After-spans-spans))
+
+pub overflow_add-spans : goal.overflow_add-spans
+overflow_add-spans c =
+    let at = goal.at.overflow_add-spans c in
+    omega (arith, few at.After-write_spans (union at.After-spans-spans))
 
 pub returns-clause-detects : goal.returns-clause-detects
 returns-clause-detects c =
