@@ -78,12 +78,6 @@ module _ (window : ℤ) (batch : Batch) (old : Steps) (entries : List Entry)
   module _ (only : OnlyJudgeIsRight) (along : CountedAlong) (late : edge window batch ≤ℤ batch.version)
       (spans : List UnitedSpan) (each : List (ℕ × ℕ))
       (one : IsUnion (ranges_in batch.txns) spans each (committed batch.txns entries)) where
-    n : ℕ
-    n = length spans
-
-    up : Steps
-    up = raised (edge window batch) old
-
     same : length spans ≡ length one.united
     same = sym (count (ranges_in batch.txns) spans each (committed batch.txns entries) one)
 

@@ -1,9 +1,9 @@
-use Rattle.std.proofs.Common.{◌≡◌, ◌++◌, Err, refl, sym, ◌∙◌, ap, inr, subst}
+use Rattle.std.proofs.Common.{◌≡◌, ◌++◌, refl, sym, ◌∙◌, ap, inr, subst}
 use Rattle.keyspace.specs.declared.reply.Reply.{Reply}
 use Rattle.keyspace.specs.Writes.{committed, writes_of}
 use Rattle.keyspace.specs.Judged.{edge}
 use Rattle.keyspace.proofs.callers.Judging.{only_judge}
-use Rattle.conflict.specs.declared.error.SetStop.TheVariants.{Memory}
+use Rattle.conflict.specs.declared.error.SetStop.TheVariants.{Memory, ArenaFull}
 use Rattle.conflict.specs.ConflictSet.{raised, stop_after, HasRoomToWrite}
 use Rattle.archcaraway_c.proofs.ReplyLength.{reply_within}
 use Rattle.archcaraway_c.proofs.WhenFull.{met_after}
@@ -37,6 +37,34 @@ returns-clause-remembers c =
         rooted = c.in-Ok.ensures.resolves.map.rooted ws before.rooted;
       },
     )
+
+pub returns-in-Ok-encode_reply-clause-replies : goal.returns-in-Ok-encode_reply-clause-replies
+returns-in-Ok-encode_reply-clause-replies c =
+    let resolves = c.in-Ok.ensures.resolves in
+    record {
+      reply = c.in-Ok.reply;
+      answered = c.in-Ok-encode_reply.ensures.spelled;
+      judged = resolves.map.judged;
+      continues = record {
+        resolved = resolves.resolved;
+        window = resolves.window;
+        limit = resolves.map.limit;
+        stop = resolves.continues.1;
+        covers = resolves.map.covers;
+      };
+    }
+
+pub returns-in-Err-clause-refused : goal.returns-in-Err-clause-refused
+returns-in-Err-clause-refused c = λ refuse full.
+    let is : c.in-Err.stop ≡ ArenaFull = cc full in
+    c.in-Err.ensures.stops.refused refuse is
+
+pub returns-in-Err-clause-remembers : goal.returns-in-Err-clause-remembers
+returns-in-Err-clause-remembers c =
+    let ws = c.requires.remembers.0 in
+    let before = c.requires.remembers.1 in
+    let fails = c.in-Err.ensures.stops.map c.requires.continues in
+    (ws, record { covers = fails.covers ws before.covers; rooted = fails.rooted ws before.rooted })
 
 pub returns-in-Err-clause-stops : goal.returns-in-Err-clause-stops
 returns-in-Err-clause-stops c =

@@ -315,7 +315,9 @@ returns-clause-detects c =
     ⊎ ((mid.round ≡ old.round) × (rest mid ≤ rest old + 2 * n)) = λ ws rooted.
     let raised_edge : c.raise.new.self.edge ≤ℤ b.version =
     subst (λ (m : Steps). m.edge ≤ℤ b.version) (sym up) (late here) in
-    let swept = elim (cases_lt c.raise.new.self.limit (length c.raise.new.self.boundaries + 2 * length c.lengths.result.now)) [
+    let swept : Ends mid.boundaries (ws ++ at_version b.version (committed txns entries)) c.raise.new.self.edge
+    ⊎ ((mid.round ≡ c.raise.new.self.round) × (rest mid ≤ rest c.raise.new.self + 2 * n)) =
+    elim (cases_lt c.raise.new.self.limit (length c.raise.new.self.boundaries + 2 * length c.lengths.result.now)) [
       | inl full ↦ inl (written.ends ws c.raise.new.self.edge raised_edge
           (prepare.ends (λ room. omega (arith, room, full)) ws (c.raise.ensures.rooted ws rooted)))
       | inr room ↦
