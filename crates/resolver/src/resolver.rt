@@ -115,52 +115,7 @@ impl Resolver {
     /// [`share`](crate::share). So it never comes if no client has more than its share of batches
     /// sent and unanswered.
     pub fn turn(&mut self) -> Result<Turn, Stop>
-        // The log that the resolver represents afterwards, from whichever version it started.
-        ensures step { IfOk result (λ turn. StepsBy turn self.old self.new) }
-        ensures stop_met { IfErr result (λ _. self.old.core.stop ≡ None
-            → ((proxy : ℕ) × TakesFrom proxy self.old self.new) ⊎ Finishes self.old self.new) }
-        ensures stopped { IsSome self.old.core.stop → TakesNoStep self.old self.new }
-        ensures stop { IfErr result (λ stop. self.new.core.stop ≡ Some stop) }
-        ensures stop_stays { IfSome self.old.core.stop (λ stop. result ≡ Err stop) }
-        ensures no_stop { OnOk result (self.new.core.stop ≡ None) }
-        ensures resolving { (version : ℤ) → IsResolvingFrom version self.old
-            → IsResolvingFrom version self.new }
-
-        // What it has looked through.
-        ensures looked_through { IfOk result (λ turn. IfNotTaken turn
-            (Each (λ _ l m. IsLookedThrough l m) self.old.lanes self.new.lanes)) }
-        ensures passed { (proxy : ℕ) → result ≡ Ok (Turn.Took proxy)
-            → Each (λ passed l m. ComesBefore self.old.next passed proxy
-            → IsLookedThrough l m) self.old.lanes self.new.lanes }
-        ensures next { (proxy : ℕ) → result ≡ Ok (Turn.Took proxy) → self.new.next ≡ proxy + 1 }
-        ensures next_stays { IfOk result (λ turn. IfNotTaken turn (self.new.next ≡ self.old.next)) }
-
-        // What it has handed out.
-        ensures owed { Each (λ proxy l m. owed_to proxy self.new.core.owed ≢ []
-            → IsFull l m) self.old.lanes self.new.lanes }
-        ensures closed { (proxy : ℕ) (l : Lanes) → slice_get self.new.lanes proxy ≡ Some l
-            → (l.replies.closed ≡ true) ↔ IsThrough self.new }
-        ensures done { (result ≡ Ok Turn.Done) ↔ (IsOk result × (all_ended self.new.lanes ≡ true)
-            × (owed_count self.new.core.owed ≡ 0)) }
-
-        // When each stop comes.
-        ensures gate_full { self.old.core.stop ≡ None → result ≡ Err Stop.GateFull
-            → (proxy : ℕ) × (took : TakesFrom proxy self.old self.new)
-            × (self.old.core.version <ℤ took.batch.previous)
-            × (length self.old.core.held ≡ MAX_HELD) }
-        ensures beyond_share { self.old.core.stop ≡ None → result ≡ Err Stop.GateFull
-            → (version : ℤ) → IsResolvingFrom version self.old
-            → (proxy : ℕ) × (proxy < length self.new.lanes)
-            × HasMoreUnanswered (share_of (length self.new.lanes)) proxy self.new }
-        ensures arena_full { self.old.core.stop ≡ None → result ≡ Err Stop.ArenaFull
-            → (version : ℤ) (log : List Step) → StandsOverFrom version self.old log
-            → (proxy : ℕ) × (took : TakesFrom proxy self.old self.new)
-            × StopsAtLimit self.old.core.set.map.limit self.old.core.set.window proxy took.batch
-            (run self.old.core.set.window (log_from version (length self.old.lanes) log))
-            (sent_to self.new.lanes) self.new.core }
-
-        ensures lanes { Each (λ _ l m. LanesContinue l m) self.old.lanes self.new.lanes }
-        ensures continues { Continues self.old.core self.new.core }
+        ensures turns { Turns result self.old self.new }
     {
         self.turn_observed(&mut Unobserved)
     }

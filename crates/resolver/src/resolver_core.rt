@@ -11,7 +11,7 @@ ghost use Rattle.chain.specs.declared.gate.TheConstants.{MAX_HELD};
 ghost use Rattle.resolver.specs.Owed.{owed_to, given_oldest, owed_count};
 ghost use Rattle.resolver.specs.Core.{Given, Continues, IsCore, StopsAtLimit};
 ghost use Rattle.resolver.specs.Stands.{Stands, given_also};
-ghost use Rattle.resolver.specs.Admits.{Admits};
+ghost use Rattle.resolver.specs.CoreCalls.{AddsStep, Admits};
 ghost use Rattle.resolver.specs.Observed.{HasSeen};
 ghost use Rattle.resolver.specs.OpeningLog.{opening_log};
 
@@ -151,21 +151,7 @@ impl Core {
     /// it are still handed out.
     pub fn admit(&mut self, proxy: usize, batch: Batch) -> Result<(), Stop>
         requires known { proxy < length self.old.owed }
-        ensures stands { self.old.stop ≡ None → (log : List Step) (given : Given)
-            → Stands self.old log given
-            → Stands self.new (log ++ Take proxy batch ∷ []) given }
-        ensures open { OnOk result ((self.old.stop ≡ None) × (self.new.stop ≡ None)) }
-        ensures stops { IfErr result (λ stop. self.new.stop ≡ Some stop) }
-        ensures stopped { IfSome self.old.stop (λ stop. (result ≡ Err stop)
-            × (self.new ≡ self.old)) }
-        ensures continues { Continues self.old self.new }
-        ensures gate_full { self.old.stop ≡ None → (result ≡ Err Stop.GateFull)
-            ↔ (self.old.version <ℤ batch.previous) × (length self.old.held ≡ MAX_HELD) }
-        ensures arena_full { self.old.stop ≡ None → result ≡ Err Stop.ArenaFull
-            → (log : List Step) (given : Given)
-            → Stands self.old log given
-            → StopsAtLimit self.old.set.map.limit self.old.set.window proxy batch
-            (run self.old.set.window log) given self.new }
+        ensures admits { Admits result proxy batch self.old self.new }
     {
         self.admit_observed(&mut Unobserved, proxy, batch)
     }
@@ -210,15 +196,8 @@ impl Core {
     ///
     /// An error is final, as that of [`admit`](Self::admit) is.
     pub fn finish(&mut self) -> Result<(), Stop>
-        ensures stands { self.old.stop ≡ None → (log : List Step) (given : Given)
-            → Stands self.old log given
-            → Stands self.new (log ++ Finish ∷ []) given }
-        ensures open { OnOk result ((self.old.stop ≡ None) × (self.new.stop ≡ None)) }
-        ensures stops { IfErr result (λ stop. self.new.stop ≡ Some stop) }
-        ensures stopped { IfSome self.old.stop (λ stop. (result ≡ Err stop)
-            × (self.new ≡ self.old)) }
+        ensures adds { AddsStep Finish result self.old self.new }
         ensures memory { self.old.stop ≡ None → IfErr result (λ stop. stop ≡ Stop.Memory) }
-        ensures continues { Continues self.old self.new }
     {
         if let Some(stop) = self.stop {
             return Err(stop);
