@@ -1,26 +1,24 @@
 //! The resolver over lanes: each turn takes a batch of some proxy, and sends answers.
 
-ghost use Rattle.std.specs.Prelude.{◌≡◌, ℕ, ℤ, ◌<◌, ◌≤◌, ◌+◌, ◌⊎◌, ◌↔◌, ◌≢◌, ◌<ℤ◌, true, false};
-ghost use Rattle.std.specs.Prelude.{List, [], ◌∷◌, length, All, Some, None, Ok, Err, IsOk, IfOk};
-ghost use Rattle.std.specs.Prelude.{IfErr, OnOk, IfSome, IsSome, slice_get};
-ghost use Rattle.keyspace.specs.Run.{Step, Take, Finish, run};
-ghost use Rattle.chain.specs.declared.gate.TheConstants.{MAX_HELD};
+ghost use Rattle.std.specs.Prelude.{◌≡◌, ℕ, ℤ, ◌<◌, ◌≤◌, ◌+◌, ◌↔◌, true, false};
+ghost use Rattle.std.specs.Prelude.{List, [], ◌∷◌, length, All, Some, None, Ok};
+ghost use Rattle.std.specs.Prelude.{IfSome, slice_get};
+ghost use Rattle.keyspace.specs.Run.{Step, Take, Finish};
 ghost use Rattle.lane.specs.Lane.{HasEnded};
 ghost use Rattle.resolver.specs.declared.client.Client.{Client as ClientEnds};
-ghost use Rattle.resolver.specs.Owed.{owed_to, owed_count};
+ghost use Rattle.resolver.specs.Owed.{owed_count};
 ghost use Rattle.stepmap.specs.StepMap.{AreSteps};
-ghost use Rattle.resolver.specs.Core.{Continues, RemembersWindow, StopsAtLimit};
+ghost use Rattle.resolver.specs.Core.{RemembersWindow};
 ghost use Rattle.resolver.specs.Stands.{Stands};
-ghost use Rattle.resolver.specs.OpeningLog.{opening_log, log_from};
+ghost use Rattle.resolver.specs.OpeningLog.{opening_log};
 ghost use Rattle.resolver.specs.Parts.{AreNewLanes, lanes_of};
 ghost use Rattle.resolver.specs.declared.resolver_core.TheConstants.{MAX_PROXIES};
-ghost use Rattle.resolver.specs.Lanes.{Lanes, all_ended, Each, LanesContinue, IsLookedThrough};
-ghost use Rattle.resolver.specs.Lanes.{ComesBefore, IsFull, AreSameLists, sent_to};
+ghost use Rattle.resolver.specs.Lanes.{Each, LanesContinue};
+ghost use Rattle.resolver.specs.Lanes.{AreSameLists, sent_to};
 ghost use Rattle.resolver.specs.Resolver.{ResolverState, StandsOverFrom, IsResolvingFrom};
-ghost use Rattle.resolver.specs.Resolver.{TakesFrom, Finishes, TakesNoStep, StepsBy, IfNotTaken};
-ghost use Rattle.resolver.specs.Resolver.{IsThrough, AreClients, SameClients};
+ghost use Rattle.resolver.specs.Resolver.{TakesFrom, Finishes, TakesNoStep};
+ghost use Rattle.resolver.specs.Resolver.{AreClients, SameClients};
 ghost use Rattle.resolver.specs.Observed.{Observes};
-ghost use Rattle.resolver.specs.Share.{share_of, HasMoreUnanswered};
 ghost use Rattle.resolver.specs.Turns.{Turns};
 ghost use Rattle.resolver.specs.Settled.{SettledFrom, IsComplete};
 

@@ -1,15 +1,14 @@
 //! The resolver over values, which stops for good at the first refusal.
 
-ghost use Rattle.std.specs.Prelude.{◌≡◌, ◌≢◌, ◌<◌, ◌≤◌, ◌≤ℤ◌, ◌<ℤ◌, ◌↔◌, pos, negsuc, List, []};
+ghost use Rattle.std.specs.Prelude.{◌≡◌, ◌≢◌, ◌<◌, ◌≤◌, ◌≤ℤ◌, ◌↔◌, pos, negsuc, List, []};
 ghost use Rattle.std.specs.Prelude.{◌∷◌, ◌++◌, length};
 ghost use Rattle.std.specs.Prelude.{Some, None, Err};
-ghost use Rattle.std.specs.Prelude.{◌+◌, ◌^◌, OnOk, IfOk, IfErr, IfSome, IsTrue, option_to_list};
+ghost use Rattle.std.specs.Prelude.{◌+◌, ◌^◌, IfOk, IfErr, IfSome, IsTrue, option_to_list};
 ghost use Rattle.keyspace.specs.Run.{Step, Take, Finish, run};
 ghost use Rattle.stepmap.specs.declared.step_map.TheConstants.{MAX_LIMIT};
 ghost use Rattle.conflict.specs.declared.conflict_set.TheConstants.{MAX_WINDOW};
-ghost use Rattle.chain.specs.declared.gate.TheConstants.{MAX_HELD};
 ghost use Rattle.resolver.specs.Owed.{owed_to, given_oldest, owed_count};
-ghost use Rattle.resolver.specs.Core.{Given, Continues, IsCore, StopsAtLimit};
+ghost use Rattle.resolver.specs.Core.{Given, IsCore};
 ghost use Rattle.resolver.specs.Stands.{Stands, given_also};
 ghost use Rattle.resolver.specs.CoreCalls.{AddsStep, Admits};
 ghost use Rattle.resolver.specs.Observed.{HasSeen};
