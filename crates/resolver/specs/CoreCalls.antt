@@ -1,14 +1,34 @@
 -- What the calls on a core do, by what they answer. This project's own.
-use Rattle.std.specs.Prelude.{◌≡◌, ◌≢◌, ℕ, ◌<ℤ◌, ◌↔◌, List, [], ◌∷◌, ◌++◌, length, None, Some, Result, Err, OnOk, OnErr, IfErr, IfSome}
+use Rattle.std.specs.Prelude.{◌≡◌, ◌≢◌, ℕ, ℤ, pos, ◌≤◌, ◌≤ℤ◌, ◌<ℤ◌, ◌↔◌, List, [], ◌∷◌, ◌++◌, length, None, Some, Result, Err, OnOk, OnErr, IfErr, IfSome}
 use Rattle.keyspace.specs.declared.batch.Batch.{Batch}
 use Rattle.keyspace.specs.Processed.{Processed}
 use Rattle.keyspace.specs.Run.{State, Step, Take, run}
+use Rattle.stepmap.specs.declared.step_map.TheConstants.{MAX_LIMIT}
+use Rattle.conflict.specs.declared.conflict_set.TheConstants.{MAX_WINDOW}
 use Rattle.chain.specs.declared.gate.TheConstants.{MAX_HELD}
+use Rattle.resolver.specs.declared.resolver_core.TheConstants.{MAX_PROXIES}
 use Rattle.resolver.specs.declared.stop.Stop.{Stop}
 use Rattle.resolver.specs.declared.stop.Stop.TheVariants as stop
 use Rattle.resolver.specs.Core.{CoreState, Given, IsIn, Continues, MadeBetween, StopsIn, StopsAtLimit}
 use Rattle.resolver.specs.Stands.{Stands}
 use Rattle.resolver.specs.Observed.{HasSeenBetween}
+
+-- what a core can be made with: its proxies, its window, and the limit of its conflict set
+pub record AreSettings (proxies : ℕ) (window : ℤ) (limit : ℕ) : Type 0 where
+  pub least_proxies : 1 ≤ proxies
+  pub most_proxies : proxies ≤ MAX_PROXIES
+  pub least_window : pos 1 ≤ℤ window
+  pub most_window : window ≤ℤ MAX_WINDOW
+  pub least_limit : 1 ≤ limit
+  pub most_limit : limit ≤ MAX_LIMIT
+
+-- a new core, made with these and with the log that it represents
+pub record IsNewCore (count : ℕ) (width : ℤ) (most : ℕ) (log : List Step) (core : CoreState) : Type 0 where
+  pub stands : Stands core log (λ _. [])
+  pub «open» : core.stop ≡ None
+  pub proxies : length core.owed ≡ count
+  pub window : core.set.window ≡ width
+  pub limit : core.set.map.limit ≡ most
 
 -- The log of the core has one more step, unless a stop was met earlier. A stop is for good.
 pub record AddsStep {T : Type 0} (step : Step) (result : Result T Stop) (old new : CoreState) : Type 0 where

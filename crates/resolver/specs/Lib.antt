@@ -9,6 +9,7 @@ pub mod Resolver
 pub mod Observed
 pub mod CoreCalls
 pub mod Share
+pub mod Opens
 pub mod Turns
 pub mod Parts
 pub mod Settled

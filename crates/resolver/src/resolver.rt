@@ -156,8 +156,6 @@ impl Resolver {
             × SettledFrom version self.old.core.set.window log self.old.lanes clients.old result }
         ensures stands { (version : ℤ) (log : List Step) → StandsOverFrom version self.old log
             → StandsOverFrom version self.new log }
-        ensures resolving { (version : ℤ) → IsResolvingFrom version self.old
-            → IsResolvingFrom version self.new }
         ensures complete { (result.complete ≡ true) ↔ IsComplete self.old clients.old }
         // A client that has taken answers to their end has taken all that were sent.
         ensures ended { (proxy : ℕ) (client : ClientEnds)
