@@ -5,4 +5,5 @@ pub mod Written
 pub mod Union
 pub mod ConflictSet
 pub mod Pace
+pub mod Resolves
 pub mod Unknown

@@ -14,7 +14,7 @@ returns-in-Ok-encode_reply-clause-short c =
     let ws = c.requires.remembers.0 in
     let covers = c.requires.remembers.1.covers in
     reply_within _ ws c.args.batch.now c.in-Ok.reply c.in-Ok-encode_reply.frame.items
-    (c.in-Ok.ensures.judged ws covers) c.in-Ok-encode_reply.ensures.spelled
+    (c.in-Ok.ensures.resolves.commits.judged ws covers) c.in-Ok-encode_reply.ensures.spelled
 
 pub returns-in-Ok-encode_reply-clause-remembers : goal.returns-in-Ok-encode_reply-clause-remembers
 returns-in-Ok-encode_reply-clause-remembers c =
@@ -22,8 +22,8 @@ returns-in-Ok-encode_reply-clause-remembers c =
     let before = c.requires.remembers.1 in (
       ws ++ writes_of c.args.batch.now c.in-Ok.reply,
       record {
-        covers = c.in-Ok.ensures.covers ws before.covers;
-        rooted = c.in-Ok.ensures.rooted ws before.rooted;
+        covers = c.in-Ok.ensures.resolves.commits.covers ws before.covers;
+        rooted = c.in-Ok.ensures.resolves.commits.rooted ws before.rooted;
       },
     )
 
@@ -33,8 +33,8 @@ returns-clause-remembers c =
     let before = c.requires.remembers.1 in (
       ws ++ writes_of c.args.batch.now c.in-Ok.reply,
       record {
-        covers = c.in-Ok.ensures.covers ws before.covers;
-        rooted = c.in-Ok.ensures.rooted ws before.rooted;
+        covers = c.in-Ok.ensures.resolves.commits.covers ws before.covers;
+        rooted = c.in-Ok.ensures.resolves.commits.rooted ws before.rooted;
       },
     )
 
@@ -45,12 +45,14 @@ returns-in-Err-clause-stops c =
     let met = c.in-Err.stop in
     record {
       met_now = met_after w met old c.resolve_when.new.self old.stop (stop_after w met) c.requires.continues refl
-          (λ refuse full. c.in-Err.ensures.refused refuse (ap Err full));
-      window = c.in-Err.ensures.window;
-      limit = c.in-Err.ensures.limit;
-      full = λ is. c.in-Err.ensures.full c.requires.continues (ap Err is);
-      no_room = λ is. c.in-Err.ensures.no_room c.requires.continues (ap Err is);
-      memory = λ is. c.in-Err.ensures.memory c.requires.continues (ap Err is);
+          (λ refuse full. c.in-Err.ensures.resolves.refused refuse (ap Err full));
+      window = c.in-Err.ensures.resolves.window;
+      limit = c.in-Err.ensures.resolves.limit;
+      full = λ is ws reply before judged.
+          (c.in-Err.ensures.resolves.full c.requires.continues (ap Err is) ws reply before judged).over_limit;
+      no_room = λ is ws reply before judged.
+          (c.in-Err.ensures.resolves.full c.requires.continues (ap Err is) ws reply before judged).no_room;
+      memory = λ is. c.in-Err.ensures.resolves.memory c.requires.continues (ap Err is);
     }
 
 -- There was room, since the batch was judged and written.
@@ -61,14 +63,14 @@ returns-clause-stops c =
     record {
       met_now = met_after c.args.when_full Memory old c.resolve_when.new.self old.stop (stop_after c.args.when_full Memory)
           c.requires.continues refl (λ refuse full. absurd cc);
-      window = c.in-Ok.ensures.window;
-      limit = c.in-Ok.ensures.limit;
+      window = c.in-Ok.ensures.resolves.window;
+      limit = c.in-Ok.ensures.resolves.limit;
       full = λ is. absurd cc;
       no_room = λ is. absurd cc;
       memory = λ is ws reply before judged.
           let same : c.in-Ok.reply ≡ reply =
-          only_judge old.window ws batch c.in-Ok.reply (c.in-Ok.ensures.judged ws before.covers)
+          only_judge old.window ws batch c.in-Ok.reply (c.in-Ok.ensures.resolves.commits.judged ws before.covers)
           ∙ sym (only_judge old.window ws batch reply judged) in
           inr (subst (λ (r : Reply). HasRoomToWrite (raised (edge old.window batch) old.map) (committed batch.txns r.entries))
-          same c.in-Ok.ensures.room);
+          same c.in-Ok.ensures.resolves.commits.room);
     }

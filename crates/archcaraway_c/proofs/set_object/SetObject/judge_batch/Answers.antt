@@ -20,7 +20,7 @@ invariant_of-self c =
       remembers = (
         ws ++ writes_of batch c.in-Ok.reply,
         record {
-          covers = c.in-Ok.ensures.covers ws before.covers;
+          covers = c.in-Ok.ensures.resolves.commits.covers ws before.covers;
           rooted = c.in-Ok.ensures.rooted ws before.rooted;
         },
       );
@@ -32,7 +32,7 @@ returns-in-Ok-clause-judges c =
     let reply = c.in-Ok.reply in
     let ws = c.self.invariant.remembers.0 in
     let before = c.self.invariant.remembers.1 in
-    let count : length reply.entries ≡ length batch.txns = (c.in-Ok.ensures.judged ws before.covers).count in
+    let count : length reply.entries ≡ length batch.txns = (c.in-Ok.ensures.resolves.commits.judged ws before.covers).count in
     let verdicts = c.put_verdicts.new.verdicts in
     let written : take (length reply.entries) verdicts ≡ verdict_numbers reply.entries =
     subst (λ (entries : List Entry). take (length entries) verdicts ≡ verdict_numbers entries) c.as_slice.ensures.items
@@ -42,13 +42,13 @@ returns-in-Ok-clause-judges c =
     (record {
       reply = reply;
       answered = ap (λ n. take n verdicts) (sym count) ∙ written;
-      judged = c.in-Ok.ensures.judged;
+      judged = c.in-Ok.ensures.resolves.commits.judged;
       continues = record {
-        resolved = c.in-Ok.ensures.resolved;
-        window = c.in-Ok.ensures.window;
-        limit = c.in-Ok.ensures.limit;
+        resolved = c.in-Ok.ensures.resolves.resolved;
+        window = c.in-Ok.ensures.resolves.window;
+        limit = c.in-Ok.ensures.resolves.limit;
         stop = ap (λ (set : SetState). set.stop) c.self.view_is ∙ c.requires.continues;
-        covers = c.in-Ok.ensures.covers;
+        covers = c.in-Ok.ensures.resolves.commits.covers;
       };
     })
 
@@ -57,8 +57,8 @@ invariant_of-self-in-Err c =
     let none : c.self.inside.stop ≡ None = ap (λ (set : SetState). set.stop) c.self.view_is ∙ c.requires.continues in
     let ws = c.self.invariant.remembers.0 in
     parts_after c.args.when_full c.in-Err.stop c.self.inside.set c.resolve_when.new.self _ c.self.inside.stop c.stop_for-self-inside.result
-    c.self.invariant none c.stop_for-self-inside.ensures.stop (λ refuse full. c.in-Err.ensures.refused refuse (ap Err full))
-    (ws, c.in-Err.ensures.kept ws c.self.invariant.remembers.1)
+    c.self.invariant none c.stop_for-self-inside.ensures.stop (λ refuse full. c.in-Err.ensures.resolves.refused refuse (ap Err full))
+    (ws, c.in-Err.ensures.resolves.kept ws c.self.invariant.remembers.1)
 
 pub returns-in-Err-clause-stops : goal.returns-in-Err-clause-stops
 returns-in-Err-clause-stops c =
@@ -66,7 +66,7 @@ returns-in-Err-clause-stops c =
     let w = c.args.when_full in
     let none : c.self.inside.stop ≡ None = ap (λ (set : SetState). set.stop) c.self.view_is ∙ c.requires.continues in
     let going = c.self.invariant.continues none in
-    let reported = c.in-Err.ensures in (
+    let reported = c.in-Err.ensures.resolves in (
       stop,
       search rules,
       subst (λ (set : SetState). StopsAt w set (record c.resolve_when.new.self { stop = c.stop_for-self-inside.result }) c.args.batch.now stop)
@@ -77,9 +77,11 @@ returns-in-Err-clause-stops c =
             window = reported.window;
             limit = reported.limit;
             full = λ is ws reply before judged.
-                reported.full going (ap Err is) ws reply (record { covers = before.covers; rooted = before.rooted }) judged;
+                (reported.full going (ap Err is) ws reply (record { covers = before.covers; rooted = before.rooted })
+                judged).over_limit;
             no_room = λ is ws reply before judged.
-                reported.no_room going (ap Err is) ws reply (record { covers = before.covers; rooted = before.rooted }) judged;
+                (reported.full going (ap Err is) ws reply (record { covers = before.covers; rooted = before.rooted })
+                judged).no_room;
             memory = λ is ws reply before judged.
                 reported.memory going (ap Err is) ws reply (record { covers = before.covers; rooted = before.rooted }) judged;
           }),

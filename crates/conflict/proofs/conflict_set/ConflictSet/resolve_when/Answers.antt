@@ -77,190 +77,129 @@ invariant_of-self c =
       stop = inside.stop;
     })) (sym (to_z-of_z w64 b.version version_fits)) set_now
 
-pub returns-in-Ok-clause-judged : goal.returns-in-Ok-clause-judged
-returns-in-Ok-clause-judged c = λ ws covers.
+pub returns-in-Ok-clause-resolves : goal.returns-in-Ok-clause-resolves
+returns-in-Ok-clause-resolves c =
     let b = c.args.batch.now in
     let given = c.edge_of-edge.result in
     let fits : SFits w64 given = search rules in
     let window_fits : SFits w64 c.self.inside.window = search rules in
     let window : c.self.inside.window ≡ c.args.self.now.window = ap (λ (s : SetState). s.window) c.self.view_is in
     let map : c.self.inside.map ≡ c.args.self.now.map = ap (λ (s : SetState). s.map) c.self.view_is in
-    let is = edge_passed c.self.inside.window given b window_fits fits c.edge_of-edge.ensures.edge
-    ∙ ap (λ w. edge w b) window in
-    let entries = c.in-Ok.ensures.judged ws (subst (λ m. MapCovers m ws) (sym map) covers)
-    ∙ ap (λ e. judge_txns e ws [] b.txns) is in
-    let same : c.in-Ok.reply ≡ judge c.args.self.now.window ws b =
-    reply_same c.in-Ok.reply (judge c.args.self.now.window ws b) c.in-Ok.ensures.version entries in
-    subst (Judged c.args.self.now.window ws b) (sym same)
-    (c.one_reply.ensures.right c.args.self.now.window ws b)
-
-pub returns-in-Ok-clause-covers : goal.returns-in-Ok-clause-covers
-returns-in-Ok-clause-covers c = λ ws covers.
-    let map : c.self.inside.map ≡ c.args.self.now.map = ap (λ (s : SetState). s.map) c.self.view_is in
-    c.in-Ok.ensures.covers ws (subst (λ m. MapCovers m ws) (sym map) covers)
-
-pub returns-in-Ok-clause-edge : goal.returns-in-Ok-clause-edge
-returns-in-Ok-clause-edge c =
-    let b = c.args.batch.now in
-    let given = c.edge_of-edge.result in
-    let fits : SFits w64 given = search rules in
-    let window_fits : SFits w64 c.self.inside.window = search rules in
-    let window : c.self.inside.window ≡ c.args.self.now.window = ap (λ (s : SetState). s.window) c.self.view_is in
-    c.in-Ok.ensures.edge ∙ edge_passed c.self.inside.window given b window_fits fits c.edge_of-edge.ensures.edge
-    ∙ ap (λ w. edge w b) window
-
-pub returns-in-Ok-clause-rooted : goal.returns-in-Ok-clause-rooted
-returns-in-Ok-clause-rooted c = λ ws rooted.
-    let map : c.self.inside.map ≡ c.args.self.now.map = ap (λ (s : SetState). s.map) c.self.view_is in
-    c.in-Ok.ensures.rooted ws (subst (λ m. Rooted m ws) (sym map) rooted)
-
-pub returns-in-Ok-clause-swept : goal.returns-in-Ok-clause-swept
-returns-in-Ok-clause-swept c = λ ws rooted.
-    let b = c.args.batch.now in
-    let given = c.edge_of-edge.result in
-    let fits : SFits w64 given = search rules in
-    let window_fits : SFits w64 c.self.inside.window = search rules in
-    let window : c.self.inside.window ≡ c.args.self.now.window = ap (λ (s : SetState). s.window) c.self.view_is in
-    let map : c.self.inside.map ≡ c.args.self.now.map = ap (λ (s : SetState). s.map) c.self.view_is in
-    let is = edge_passed c.self.inside.window given b window_fits fits c.edge_of-edge.ensures.edge
-    ∙ ap (λ w. edge w b) window in
-    let all = ws ++ writes_of b c.in-Ok.reply in
-    let ranges = committed b.txns c.in-Ok.reply.entries in
-    subst (λ m. IsSwept (edge c.args.self.now.window b) m c.resolve_at.new.steps all ranges) map
-    (subst (λ e. IsSwept e c.self.inside.map c.resolve_at.new.steps all ranges) is
-    (c.in-Ok.ensures.swept ws (subst (λ m. Rooted m ws) (sym map) rooted)))
-
-pub returns-in-Ok-clause-paced : goal.returns-in-Ok-clause-paced
-returns-in-Ok-clause-paced c =
-    let b = c.args.batch.now in
-    let given = c.edge_of-edge.result in
-    let fits : SFits w64 given = search rules in
-    let window_fits : SFits w64 c.self.inside.window = search rules in
-    let window : c.self.inside.window ≡ c.args.self.now.window = ap (λ (s : SetState). s.window) c.self.view_is in
-    let map : c.self.inside.map ≡ c.args.self.now.map = ap (λ (s : SetState). s.map) c.self.view_is in
-    let is = edge_passed c.self.inside.window given b window_fits fits c.edge_of-edge.ensures.edge
-    ∙ ap (λ w. edge w b) window in
-    let ranges = committed b.txns c.in-Ok.reply.entries in
-    subst (λ m. IsPaced (edge c.args.self.now.window b) b.version m c.resolve_at.new.steps ranges) map
-    (subst (λ e. IsPaced e b.version c.self.inside.map c.resolve_at.new.steps ranges) is c.in-Ok.ensures.paced)
-
-pub returns-in-Err-clause-kept : goal.returns-in-Err-clause-kept
-returns-in-Err-clause-kept c = λ ws remembers.
-    let map : c.self.inside.map ≡ c.args.self.now.map = ap (λ (s : SetState). s.map) c.self.view_is in
+    let is : given ≡ edge c.args.self.now.window b =
+    edge_passed c.self.inside.window given b window_fits fits c.edge_of-edge.ensures.edge ∙ ap (λ w. edge w b) window in
+    let now = c.resolve_at.new.steps in
+    let reply = c.in-Ok.reply in
+    let ranges = committed b.txns reply.entries in
     record {
-      covers = c.in-Err.ensures.still_covers ws (subst (λ m. MapCovers m ws) (sym map) remembers.covers);
-      rooted = c.in-Err.ensures.still_rooted ws (subst (λ m. Rooted m ws) (sym map) remembers.rooted);
+      commits = record {
+        judged = λ ws covers.
+            let entries = c.in-Ok.ensures.judged ws (subst (λ m. MapCovers m ws) (sym map) covers)
+            ∙ ap (λ e. judge_txns e ws [] b.txns) is in
+            let same : reply ≡ judge c.args.self.now.window ws b =
+            reply_same reply (judge c.args.self.now.window ws b) c.in-Ok.ensures.version entries in
+            subst (Judged c.args.self.now.window ws b) (sym same)
+            (c.one_reply.ensures.right c.args.self.now.window ws b);
+        covers = λ ws covers. c.in-Ok.ensures.covers ws (subst (λ m. MapCovers m ws) (sym map) covers);
+        rooted = λ ws rooted. c.in-Ok.ensures.rooted ws (subst (λ m. Rooted m ws) (sym map) rooted);
+        edge_is = c.in-Ok.ensures.edge ∙ is;
+        swept = λ ws rooted.
+            let all = ws ++ writes_of b reply in
+            subst (λ m. IsSwept (edge c.args.self.now.window b) m now all ranges) map
+            (subst (λ e. IsSwept e c.self.inside.map now all ranges) is
+            (c.in-Ok.ensures.swept ws (subst (λ m. Rooted m ws) (sym map) rooted)));
+        paced =
+            subst (λ m. IsPaced (edge c.args.self.now.window b) b.version m now ranges) map
+            (subst (λ e. IsPaced e b.version c.self.inside.map now ranges) is c.in-Ok.ensures.paced);
+        room =
+            subst (λ m. HasRoomToWrite (raised (edge c.args.self.now.window b) m) ranges) map
+            (subst (λ e. HasRoomToWrite (raised e c.self.inside.map) ranges) is c.in-Ok.ensures.room);
+      };
+      resolved = search rules;
+      unresolved = search rules;
+      window = search rules;
+      limit = search rules;
+      continues = search rules;
+      kept = search rules;
+      refused = search rules;
+      stops = search rules;
+      memory_stops = search rules;
+      stopped = search rules;
+      full = search rules;
+      memory = search rules;
     }
 
-pub returns-in-Err-clause-full : goal.returns-in-Err-clause-full
-returns-in-Err-clause-full c = λ going full ws reply remembers judged.
+pub returns-in-Err-clause-resolves : goal.returns-in-Err-clause-resolves
+returns-in-Err-clause-resolves c =
     let b = c.args.batch.now in
     let given = c.edge_of-edge.result in
     let fits : SFits w64 given = search rules in
     let window_fits : SFits w64 c.self.inside.window = search rules in
     let window : c.self.inside.window ≡ c.args.self.now.window = ap (λ (s : SetState). s.window) c.self.view_is in
     let map : c.self.inside.map ≡ c.args.self.now.map = ap (λ (s : SetState). s.map) c.self.view_is in
-    let is = edge_passed c.self.inside.window given b window_fits fits c.edge_of-edge.ensures.edge
-    ∙ ap (λ w. edge w b) window in
-    let only : reply.entries ≡ judge_txns (edge c.args.self.now.window b) ws [] b.txns =
-    ap (λ (r : Reply). r.entries) (c.one_reply.ensures.only c.args.self.now.window ws b reply judged) in
-    subst (λ m. IsOverLimit m.limit (edge c.args.self.now.window b) (ws ++ writes_of b reply)) map
-    (subst (λ e. IsOverLimit c.self.inside.map.limit e (ws ++ writes_of b reply)) is
-    (c.in-Err.ensures.full full ws reply.entries (subst (λ m. MapCovers m ws) (sym map) remembers.covers)
-    (subst (λ m. Rooted m ws) (sym map) remembers.rooted)
-    (only ∙ ap (λ e. judge_txns e ws [] b.txns) (sym is))))
-
-pub returns-in-Ok-clause-room : goal.returns-in-Ok-clause-room
-returns-in-Ok-clause-room c =
-    let b = c.args.batch.now in
-    let given = c.edge_of-edge.result in
-    let fits : SFits w64 given = search rules in
-    let window_fits : SFits w64 c.self.inside.window = search rules in
-    let window : c.self.inside.window ≡ c.args.self.now.window = ap (λ (s : SetState). s.window) c.self.view_is in
-    let map : c.self.inside.map ≡ c.args.self.now.map = ap (λ (s : SetState). s.map) c.self.view_is in
-    let is = edge_passed c.self.inside.window given b window_fits fits c.edge_of-edge.ensures.edge
-    ∙ ap (λ w. edge w b) window in
-    let ranges = committed b.txns c.in-Ok.reply.entries in
-    subst (λ m. HasRoomToWrite (raised (edge c.args.self.now.window b) m) ranges) map
-    (subst (λ e. HasRoomToWrite (raised e c.self.inside.map) ranges) is c.in-Ok.ensures.room)
-
-pub returns-in-Err-clause-full_united : goal.returns-in-Err-clause-full_united
-returns-in-Err-clause-full_united c = λ going full ws reply remembers judged.
-    let b = c.args.batch.now in
-    let given = c.edge_of-edge.result in
-    let fits : SFits w64 given = search rules in
-    let window_fits : SFits w64 c.self.inside.window = search rules in
-    let window : c.self.inside.window ≡ c.args.self.now.window = ap (λ (s : SetState). s.window) c.self.view_is in
-    let map : c.self.inside.map ≡ c.args.self.now.map = ap (λ (s : SetState). s.map) c.self.view_is in
-    let is = edge_passed c.self.inside.window given b window_fits fits c.edge_of-edge.ensures.edge
-    ∙ ap (λ w. edge w b) window in
-    let only : reply.entries ≡ judge_txns (edge c.args.self.now.window b) ws [] b.txns =
-    ap (λ (r : Reply). r.entries) (c.one_reply.ensures.only c.args.self.now.window ws b reply judged) in
-    let ranges = committed b.txns reply.entries in
-    subst (λ m. IsOverLimitUnited m.limit (edge c.args.self.now.window b) ws ranges) map
-    (subst (λ e. IsOverLimitUnited c.self.inside.map.limit e ws ranges) is
-    (c.in-Err.ensures.full_united full ws reply.entries (subst (λ m. MapCovers m ws) (sym map) remembers.covers)
-    (subst (λ m. Rooted m ws) (sym map) remembers.rooted)
-    (only ∙ ap (λ e. judge_txns e ws [] b.txns) (sym is))))
-
-pub returns-in-Err-clause-no_room : goal.returns-in-Err-clause-no_room
-returns-in-Err-clause-no_room c = λ going full ws reply remembers judged.
-    let b = c.args.batch.now in
-    let given = c.edge_of-edge.result in
-    let fits : SFits w64 given = search rules in
-    let window_fits : SFits w64 c.self.inside.window = search rules in
-    let window : c.self.inside.window ≡ c.args.self.now.window = ap (λ (s : SetState). s.window) c.self.view_is in
-    let map : c.self.inside.map ≡ c.args.self.now.map = ap (λ (s : SetState). s.map) c.self.view_is in
-    let is = edge_passed c.self.inside.window given b window_fits fits c.edge_of-edge.ensures.edge
-    ∙ ap (λ w. edge w b) window in
-    let only : reply.entries ≡ judge_txns (edge c.args.self.now.window b) ws [] b.txns =
-    ap (λ (r : Reply). r.entries) (c.one_reply.ensures.only c.args.self.now.window ws b reply judged) in
-    let ranges = committed b.txns reply.entries in
-    subst (λ m. HasNoRoomToWrite (raised (edge c.args.self.now.window b) m) ranges) map
-    (subst (λ e. HasNoRoomToWrite (raised e c.self.inside.map) ranges) is
-    (c.in-Err.ensures.no_room full ws reply.entries (subst (λ m. MapCovers m ws) (sym map) remembers.covers)
-    (only ∙ ap (λ e. judge_txns e ws [] b.txns) (sym is))))
-
-pub returns-in-Err-clause-memory : goal.returns-in-Err-clause-memory
-returns-in-Err-clause-memory c = λ going memory ws reply remembers judged.
-    let b = c.args.batch.now in
-    let given = c.edge_of-edge.result in
-    let fits : SFits w64 given = search rules in
-    let window_fits : SFits w64 c.self.inside.window = search rules in
-    let window : c.self.inside.window ≡ c.args.self.now.window = ap (λ (s : SetState). s.window) c.self.view_is in
-    let map : c.self.inside.map ≡ c.args.self.now.map = ap (λ (s : SetState). s.map) c.self.view_is in
-    let is = edge_passed c.self.inside.window given b window_fits fits c.edge_of-edge.ensures.edge
-    ∙ ap (λ w. edge w b) window in
-    let only : reply.entries ≡ judge_txns (edge c.args.self.now.window b) ws [] b.txns =
-    ap (λ (r : Reply). r.entries) (c.one_reply.ensures.only c.args.self.now.window ws b reply judged) in
-    let ranges = committed b.txns reply.entries in
-    subst (λ (m : Steps). (c.resolve_at.new.steps.boundaries ≡ m.boundaries)
-    ⊎ HasRoomToWrite (raised (edge c.args.self.now.window b) m) ranges) map
-    (subst (λ e. (c.resolve_at.new.steps.boundaries ≡ c.self.inside.map.boundaries)
-    ⊎ HasRoomToWrite (raised e c.self.inside.map) ranges) is
-    (c.in-Err.ensures.memory memory ws reply.entries (subst (λ m. MapCovers m ws) (sym map) remembers.covers)
-    (only ∙ ap (λ e. judge_txns e ws [] b.txns) (sym is))))
-
-pub returns-in-Err-clause-refused : goal.returns-in-Err-clause-refused
-returns-in-Err-clause-refused c = λ refuse full.
-    let is : c.in-Err.stop ≡ ArenaFull = cc full in
-    let steps = c.in-Err.ensures.refused refuse full in
-    let stop : c.stop_for-self-inside.result ≡ c.self.inside.stop =
-    c.stop_for-self-inside.ensures.stop ∙ refused_continues c.args.when_full c.in-Err.stop refuse is ∙ sym c.in_default.is in
-    ap₂ (λ (m : Steps) (stop : Option SetStop). record {
-      window = c.self.inside.window;
-      resolved = c.self.inside.resolved;
-      map = m;
-      stop = stop;
-    }) steps stop ∙ c.self.view_is
-
-pub returns-in-Err-clause-stops : goal.returns-in-Err-clause-stops
-returns-in-Err-clause-stops c = λ stops. c.stop_for-self-inside.ensures.stop ∙ ap (λ w. stop_after w c.in-Err.stop) stops
-
-pub returns-in-Err-clause-memory_stops : goal.returns-in-Err-clause-memory_stops
-returns-in-Err-clause-memory_stops c = λ memory.
-    let is : c.in-Err.stop ≡ Memory = cc memory in
-    c.stop_for-self-inside.ensures.stop ∙ memory_stops c.args.when_full c.in-Err.stop is
+    let is : given ≡ edge c.args.self.now.window b =
+    edge_passed c.self.inside.window given b window_fits fits c.edge_of-edge.ensures.edge ∙ ap (λ w. edge w b) window in
+    let now = c.resolve_at.new.steps in
+    let window_now = c.args.self.now.window in
+    record {
+      commits = search rules;
+      resolved = search rules;
+      unresolved = search rules;
+      window = search rules;
+      limit = search rules;
+      continues = search rules;
+      kept = λ ws remembers. record {
+        covers = c.in-Err.ensures.still_covers ws (subst (λ m. MapCovers m ws) (sym map) remembers.covers);
+        rooted = c.in-Err.ensures.still_rooted ws (subst (λ m. Rooted m ws) (sym map) remembers.rooted);
+      };
+      refused = λ refuse full.
+          let stop_is : c.in-Err.stop ≡ ArenaFull = cc full in
+          let steps = c.in-Err.ensures.refused refuse full in
+          let stop : c.stop_for-self-inside.result ≡ c.self.inside.stop =
+          c.stop_for-self-inside.ensures.stop ∙ refused_continues c.args.when_full c.in-Err.stop refuse stop_is
+          ∙ sym c.in_default.is in
+          ap₂ (λ (m : Steps) (stop : Option SetStop). record {
+            window = c.self.inside.window;
+            resolved = c.self.inside.resolved;
+            map = m;
+            stop = stop;
+          }) steps stop ∙ c.self.view_is;
+      stops = λ stops. c.stop_for-self-inside.ensures.stop ∙ ap (λ w. stop_after w c.in-Err.stop) stops;
+      memory_stops = λ memory.
+          let stop_is : c.in-Err.stop ≡ Memory = cc memory in
+          c.stop_for-self-inside.ensures.stop ∙ memory_stops c.args.when_full c.in-Err.stop stop_is;
+      stopped = search rules;
+      full = λ going full ws reply remembers judged.
+          let only : reply.entries ≡ judge_txns (edge window_now b) ws [] b.txns =
+          ap (λ (r : Reply). r.entries) (c.one_reply.ensures.only window_now ws b reply judged) in
+          let entries = only ∙ ap (λ e. judge_txns e ws [] b.txns) (sym is) in
+          let covers = subst (λ m. MapCovers m ws) (sym map) remembers.covers in
+          let rooted = subst (λ m. Rooted m ws) (sym map) remembers.rooted in
+          let ranges = committed b.txns reply.entries in
+          record {
+            over_limit =
+                subst (λ m. IsOverLimit m.limit (edge window_now b) (ws ++ writes_of b reply)) map
+                (subst (λ e. IsOverLimit c.self.inside.map.limit e (ws ++ writes_of b reply)) is
+                (c.in-Err.ensures.full full ws reply.entries covers rooted entries));
+            united =
+                subst (λ m. IsOverLimitUnited m.limit (edge window_now b) ws ranges) map
+                (subst (λ e. IsOverLimitUnited c.self.inside.map.limit e ws ranges) is
+                (c.in-Err.ensures.full_united full ws reply.entries covers rooted entries));
+            no_room =
+                subst (λ m. HasNoRoomToWrite (raised (edge window_now b) m) ranges) map
+                (subst (λ e. HasNoRoomToWrite (raised e c.self.inside.map) ranges) is
+                (c.in-Err.ensures.no_room full ws reply.entries covers entries));
+          };
+      memory = λ going memory ws reply remembers judged.
+          let only : reply.entries ≡ judge_txns (edge window_now b) ws [] b.txns =
+          ap (λ (r : Reply). r.entries) (c.one_reply.ensures.only window_now ws b reply judged) in
+          let ranges = committed b.txns reply.entries in
+          subst (λ (m : Steps). (now.boundaries ≡ m.boundaries)
+          ⊎ HasRoomToWrite (raised (edge window_now b) m) ranges) map
+          (subst (λ e. (now.boundaries ≡ c.self.inside.map.boundaries)
+          ⊎ HasRoomToWrite (raised e c.self.inside.map) ranges) is
+          (c.in-Err.ensures.memory memory ws reply.entries (subst (λ m. MapCovers m ws) (sym map) remembers.covers)
+          (only ∙ ap (λ e. judge_txns e ws [] b.txns) (sym is))));
+    }
 
 pub invariant_of-self-in-Err : goal.invariant_of-self-in-Err
 invariant_of-self-in-Err c =
