@@ -13,16 +13,15 @@ ghost use Rattle.stepmap.specs.Writing.{AreApart};
 ghost use Rattle.stepmap.specs.Sweeping.{rest};
 ghost use Rattle.stepmap.specs.Counting.{live_count};
 ghost use Rattle.stepmap.specs.Limit.{HasRoomFor, made_room};
-ghost use Rattle.stepmap.specs.Covers.{MapCovers};
 ghost use Rattle.stepmap.specs.Rooted.{Rooted};
 ghost use Rattle.stepmap.specs.Rooted as rooted_by;
 ghost use Rattle.stepmap.specs.Uniting.{Unites};
 ghost use Rattle.stepmap.specs.Laws.{IsWriting};
 ghost use Rattle.conflict.specs.declared.union.UnitedSpan as span_type;
 ghost use Rattle.conflict.specs.Union.{Spans, AreSpanned};
-ghost use Rattle.conflict.specs.ConflictSet.{IsOverLimit, IsOverLimitUnited, HasRoomToWrite};
-ghost use Rattle.conflict.specs.ConflictSet.{HasNoRoomToWrite, raised};
+ghost use Rattle.conflict.specs.ConflictSet.{raised};
 ghost use Rattle.conflict.specs.Pace.{after_writes, with_written};
+ghost use Rattle.conflict.specs.Resolves.{Commits, KeepsWrites, AreTooMany, StopsEarly};
 
 use crate::error::SetStop;
 use crate::scratch::Scratch;
@@ -51,40 +50,24 @@ pub fn write_batch(
     requires newest { AreUpTo batch.now.version steps.old.boundaries }
     requires raised { steps.old.edge ≤ℤ edge }
     requires late { edge ≤ℤ batch.now.version }
-    ensures newest { OnOk result (AreUpTo batch.now.version steps.new.boundaries) }
-    ensures edge { OnOk result (steps.new.edge ≡ edge) }
+    ensures commits { OnOk result (Commits edge batch.now.version
+        (committed batch.now.txns entries.now) steps.old steps.new) }
     ensures limit { steps.new.limit ≡ steps.old.limit }
     ensures few { IfOk result (λ count. 2 * count ≤ MAX_LIMIT) }
     ensures united { IfOk result (λ count. (united : List Range)
         × Unites united (committed batch.now.txns entries.now) × (length united ≡ count)
         × (steps.new ≡ with_written united batch.now.version (raised edge steps.old))) }
-    ensures covers { OnOk result ((ws : List Write) → MapCovers steps.old ws
-        → MapCovers steps.new (ws ++ at_version batch.now.version
-        (committed batch.now.txns entries.now))) }
-    ensures rooted { OnOk result ((ws : List Write) → Rooted steps.old ws
-        → Rooted steps.new (ws ++ at_version batch.now.version
-        (committed batch.now.txns entries.now))) }
     ensures swept { IfOk result (λ count. (ws : List Write) → Rooted steps.old ws
         → rooted_by.Ends steps.new.boundaries
         (ws ++ at_version batch.now.version (committed batch.now.txns entries.now)) edge
         ⊎ ((steps.new.round ≡ steps.old.round) × (rest steps.new ≤ rest steps.old + 2 * count))) }
-    ensures still_covers { OnErr result ((ws : List Write) → MapCovers steps.old ws
-        → MapCovers steps.new ws) }
-    ensures still_rooted { OnErr result ((ws : List Write) → Rooted steps.old ws
-        → Rooted steps.new ws) }
-    ensures full { result ≡ Err SetStop.ArenaFull → (ws : List Write) → Rooted steps.old ws
-        → IsOverLimit steps.old.limit edge
-        (ws ++ at_version batch.now.version (committed batch.now.txns entries.now)) }
-    ensures full_united { result ≡ Err SetStop.ArenaFull → (ws : List Write) → Rooted steps.old ws
-        → IsOverLimitUnited steps.old.limit edge ws (committed batch.now.txns entries.now) }
+    ensures keeps { OnErr result (KeepsWrites steps.old steps.new) }
     ensures refused { when_full ≡ WhenFull.Refuse → result ≡ Err SetStop.ArenaFull
         → steps.new ≡ steps.old }
-    ensures room { OnOk result (HasRoomToWrite (raised edge steps.old)
-        (committed batch.now.txns entries.now)) }
-    ensures no_room { result ≡ Err SetStop.ArenaFull
-        → HasNoRoomToWrite (raised edge steps.old) (committed batch.now.txns entries.now) }
-    ensures memory { result ≡ Err SetStop.Memory → (steps.new.boundaries ≡ steps.old.boundaries)
-        ⊎ HasRoomToWrite (raised edge steps.old) (committed batch.now.txns entries.now) }
+    ensures full { result ≡ Err SetStop.ArenaFull → (ws : List Write) → Rooted steps.old ws
+        → AreTooMany edge batch.now.version (committed batch.now.txns entries.now) ws steps.old }
+    ensures memory { result ≡ Err SetStop.Memory
+        → StopsEarly edge (committed batch.now.txns entries.now) steps.old steps.new }
 {
     stepmap::laws::writing();
     stepmap::laws::counts();

@@ -1,19 +1,16 @@
 //! One batch: it is judged, its committed writes are written, and the sweep continues; or it is
 //! refused, or the set stops.
 
-ghost use Rattle.std.specs.Prelude.{◌≡◌, ◌≤ℤ◌, ◌<ℤ◌, ◌++◌, ◌⊎◌, List, [], Some, Err};
-ghost use Rattle.std.specs.Prelude.{IfOk, OnOk, OnErr};
+ghost use Rattle.std.specs.Prelude.{◌≡◌, ◌≤ℤ◌, ◌<ℤ◌, ◌++◌, List, [], Err, IfOk, OnErr};
 ghost use Rattle.keyspace.specs.declared.reply.Entry.{Entry};
-ghost use Rattle.keyspace.specs.Writes.{Write, at_version, committed, writes_of};
+ghost use Rattle.keyspace.specs.Writes.{Write, committed, writes_of};
 ghost use Rattle.keyspace.specs.Judge.{judge_txns};
-ghost use Rattle.keyspace.specs.Judged.{edge};
 ghost use Rattle.stepmap.specs.Boundary.{AreUpTo};
 ghost use Rattle.stepmap.specs.Covers.{MapCovers};
 ghost use Rattle.stepmap.specs.Rooted.{Rooted};
-ghost use Rattle.conflict.specs.ConflictSet.{IsSwept, IsOverLimit, IsOverLimitUnited};
-ghost use Rattle.conflict.specs.ConflictSet.{raised, HasRoomToWrite, HasNoRoomToWrite};
+ghost use Rattle.conflict.specs.ConflictSet.{IsSwept};
 ghost use Rattle.conflict.specs.Pace.{IsPaced};
-ghost use Rattle.conflict.specs.Resolves.{Resolves};
+ghost use Rattle.conflict.specs.Resolves.{Commits, KeepsWrites, AreTooMany, StopsEarly, Resolves};
 
 use super::{ConflictSet, edge_of};
 use crate::batch_writes::write_batch;
@@ -74,42 +71,24 @@ fn resolve_at(
     ensures version { IfOk result (λ reply. reply.version ≡ batch.now.version) }
     ensures judged { IfOk result (λ reply. (ws : List Write) → MapCovers steps.old ws
         → reply.entries ≡ judge_txns edge ws [] batch.now.txns) }
-    ensures covers { IfOk result (λ reply. (ws : List Write) → MapCovers steps.old ws
-        → MapCovers steps.new (ws ++ writes_of batch.now reply)) }
-    ensures rooted { IfOk result (λ reply. (ws : List Write) → Rooted steps.old ws
-        → Rooted steps.new (ws ++ writes_of batch.now reply)) }
+    ensures commits { IfOk result (λ reply. Commits edge batch.now.version
+        (committed batch.now.txns reply.entries) steps.old steps.new) }
     ensures swept { IfOk result (λ reply. (ws : List Write) → Rooted steps.old ws
         → IsSwept edge steps.old steps.new (ws ++ writes_of batch.now reply)
         (committed batch.now.txns reply.entries)) }
     ensures paced { IfOk result (λ reply. IsPaced edge batch.now.version steps.old steps.new
         (committed batch.now.txns reply.entries)) }
-    ensures edge { OnOk result (steps.new.edge ≡ edge) }
-    ensures newest { OnOk result (AreUpTo batch.now.version steps.new.boundaries) }
     ensures limit { steps.new.limit ≡ steps.old.limit }
-    ensures still_covers { OnErr result ((ws : List Write) → MapCovers steps.old ws
-        → MapCovers steps.new ws) }
-    ensures still_rooted { OnErr result ((ws : List Write) → Rooted steps.old ws
-        → Rooted steps.new ws) }
+    ensures keeps { OnErr result (KeepsWrites steps.old steps.new) }
+    ensures refused { when_full ≡ WhenFull.Refuse → result ≡ Err SetStop.ArenaFull
+        → steps.new ≡ steps.old }
     ensures full { result ≡ Err SetStop.ArenaFull → (ws : List Write) (entries : List Entry)
         → MapCovers steps.old ws → Rooted steps.old ws
         → entries ≡ judge_txns edge ws [] batch.now.txns
-        → IsOverLimit steps.old.limit edge
-        (ws ++ at_version batch.now.version (committed batch.now.txns entries)) }
-    ensures full_united { result ≡ Err SetStop.ArenaFull → (ws : List Write) (entries : List Entry)
-        → MapCovers steps.old ws → Rooted steps.old ws
-        → entries ≡ judge_txns edge ws [] batch.now.txns
-        → IsOverLimitUnited steps.old.limit edge ws (committed batch.now.txns entries) }
-    ensures refused { when_full ≡ WhenFull.Refuse → result ≡ Err SetStop.ArenaFull
-        → steps.new ≡ steps.old }
-    ensures room { IfOk result (λ reply. HasRoomToWrite (raised edge steps.old)
-        (committed batch.now.txns reply.entries)) }
-    ensures no_room { result ≡ Err SetStop.ArenaFull → (ws : List Write) (entries : List Entry)
-        → MapCovers steps.old ws → entries ≡ judge_txns edge ws [] batch.now.txns
-        → HasNoRoomToWrite (raised edge steps.old) (committed batch.now.txns entries) }
+        → AreTooMany edge batch.now.version (committed batch.now.txns entries) ws steps.old }
     ensures memory { result ≡ Err SetStop.Memory → (ws : List Write) (entries : List Entry)
         → MapCovers steps.old ws → entries ≡ judge_txns edge ws [] batch.now.txns
-        → (steps.new.boundaries ≡ steps.old.boundaries)
-        ⊎ HasRoomToWrite (raised edge steps.old) (committed batch.now.txns entries) }
+        → StopsEarly edge (committed batch.now.txns entries) steps.old steps.new }
 {
     let entries = judge_batch(
         alloc,

@@ -14,7 +14,7 @@ returns-in-Ok-encode_reply-clause-short c =
     let ws = c.requires.remembers.0 in
     let covers = c.requires.remembers.1.covers in
     reply_within _ ws c.args.batch.now c.in-Ok.reply c.in-Ok-encode_reply.frame.items
-    (c.in-Ok.ensures.resolves.commits.judged ws covers) c.in-Ok-encode_reply.ensures.spelled
+    (c.in-Ok.ensures.resolves.ok.judged ws covers) c.in-Ok-encode_reply.ensures.spelled
 
 pub returns-in-Ok-encode_reply-clause-remembers : goal.returns-in-Ok-encode_reply-clause-remembers
 returns-in-Ok-encode_reply-clause-remembers c =
@@ -22,8 +22,8 @@ returns-in-Ok-encode_reply-clause-remembers c =
     let before = c.requires.remembers.1 in (
       ws ++ writes_of c.args.batch.now c.in-Ok.reply,
       record {
-        covers = c.in-Ok.ensures.resolves.commits.covers ws before.covers;
-        rooted = c.in-Ok.ensures.resolves.commits.rooted ws before.rooted;
+        covers = c.in-Ok.ensures.resolves.ok.commits.covers ws before.covers;
+        rooted = c.in-Ok.ensures.resolves.ok.commits.rooted ws before.rooted;
       },
     )
 
@@ -33,8 +33,8 @@ returns-clause-remembers c =
     let before = c.requires.remembers.1 in (
       ws ++ writes_of c.args.batch.now c.in-Ok.reply,
       record {
-        covers = c.in-Ok.ensures.resolves.commits.covers ws before.covers;
-        rooted = c.in-Ok.ensures.resolves.commits.rooted ws before.rooted;
+        covers = c.in-Ok.ensures.resolves.ok.commits.covers ws before.covers;
+        rooted = c.in-Ok.ensures.resolves.ok.commits.rooted ws before.rooted;
       },
     )
 
@@ -69,8 +69,8 @@ returns-clause-stops c =
       no_room = λ is. absurd cc;
       memory = λ is ws reply before judged.
           let same : c.in-Ok.reply ≡ reply =
-          only_judge old.window ws batch c.in-Ok.reply (c.in-Ok.ensures.resolves.commits.judged ws before.covers)
+          only_judge old.window ws batch c.in-Ok.reply (c.in-Ok.ensures.resolves.ok.judged ws before.covers)
           ∙ sym (only_judge old.window ws batch reply judged) in
           inr (subst (λ (r : Reply). HasRoomToWrite (raised (edge old.window batch) old.map) (committed batch.txns r.entries))
-          same c.in-Ok.ensures.resolves.commits.room);
+          same c.in-Ok.ensures.resolves.ok.commits.room);
     }

@@ -20,6 +20,7 @@ use Rattle.stepmap.specs.Writing.{AreApart}
 use Rattle.conflict.specs.ConflictSet.{raised}
 use Rattle.conflict.specs.Union.{AreSpanned, picked}
 use Rattle.conflict.specs.Pace.{after_writes}
+use Rattle.conflict.specs.Resolves.{KeepsWrites}
 use Rattle.conflict.proofs.Spanned.{spanned_count}
 use Rattle.conflict.proofs.Swept.{on_err, since_raised}
 use Rattle.conflict.proofs.UnionWritten.{IsUnion, apart, all_written, over_limit, full_of, memory_of, memory_not_full, of_err}
@@ -66,41 +67,37 @@ up c = c.raise.ensures.map ∙ ap (λ e. raised e c.args.steps.now) (to_z-of_z w
 
 -- what is refused has no room, whatever its number is called
 pub returns-then-is_refused-clause-full : goal.returns-then-is_refused-clause-full
-returns-then-is_refused-clause-full c = λ full ws rooted.
-    let one = union (goal.at.returns-then-is_refused-clause-full c).After-spans-spans in
-    let bound = subst (λ e. c.args.steps.now.limit < 1 + 2 * (live_count e ws + length c.spans-spans.result.now))
-    (to_z-of_z w64 c.args.edge c.ranges.edge) (c.is_refused.ensures.bound c.if-is_refused.true ws rooted) in
-    over_limit c.ranges-ranges.result c.spans-spans.result.now (committed c.args.batch.now.txns c.args.entries.now) one
-    c.counts.ensures.along c.args.steps.now.limit c.args.edge c.args.batch.now.version ws c.requires.late
-    bound
+returns-then-is_refused-clause-full c = λ full ws rooted. record {
+  over_limit =
+      let one = union (goal.at.returns-then-is_refused-clause-full c).After-spans-spans in
+      let bound = subst (λ e. c.args.steps.now.limit < 1 + 2 * (live_count e ws + length c.spans-spans.result.now))
+      (to_z-of_z w64 c.args.edge c.ranges.edge) (c.is_refused.ensures.bound c.if-is_refused.true ws rooted) in
+      over_limit c.ranges-ranges.result c.spans-spans.result.now (committed c.args.batch.now.txns c.args.entries.now) one
+      c.counts.ensures.along c.args.steps.now.limit c.args.edge c.args.batch.now.version ws c.requires.late
+      bound;
+  united =
+      let one = union (goal.at.returns-then-is_refused-clause-full c).After-spans-spans in
+      let many = spanned_count c.ranges-ranges.result c.spans-spans.result.now one.0 one.1 in
+      let bound = subst (λ e. c.args.steps.now.limit < 1 + 2 * (live_count e ws + length c.spans-spans.result.now))
+      (to_z-of_z w64 c.args.edge c.ranges.edge) (c.is_refused.ensures.bound c.if-is_refused.true ws rooted) in
+      (one.0, one.2, omega (arith, bound, many));
+  no_room =
+      let steps = c.args.steps.now in
+      let one = union (goal.at.returns-then-is_refused-clause-full c).After-spans-spans in
+      let many = spanned_count c.ranges-ranges.result c.spans-spans.result.now one.0 one.1 in
+      let same : length c.spans-spans.result.now ≡ length one.0 = omega (arith, many) in
+      let none = subst (λ e. ¬ HasRoomFor (length c.spans-spans.result.now) (made_room (length c.spans-spans.result.now) (raised e steps)))
+      (to_z-of_z w64 c.args.edge c.ranges.edge) (c.is_refused.ensures.full c.if-is_refused.true) in
+      (one.0, one.2, subst (λ n. ¬ HasRoomFor n (made_room n (raised c.args.edge steps))) same none);
+}
 
-pub returns-then-is_refused-clause-full_united : goal.returns-then-is_refused-clause-full_united
-returns-then-is_refused-clause-full_united c = λ full ws rooted.
-    let one = union (goal.at.returns-then-is_refused-clause-full_united c).After-spans-spans in
-    let many = spanned_count c.ranges-ranges.result c.spans-spans.result.now one.0 one.1 in
-    let bound = subst (λ e. c.args.steps.now.limit < 1 + 2 * (live_count e ws + length c.spans-spans.result.now))
-    (to_z-of_z w64 c.args.edge c.ranges.edge) (c.is_refused.ensures.bound c.if-is_refused.true ws rooted) in
-    (one.0, one.2, omega (arith, bound, many))
-
-pub returns-then-is_refused-clause-no_room : goal.returns-then-is_refused-clause-no_room
-returns-then-is_refused-clause-no_room c = λ full.
-    let steps = c.args.steps.now in
-    let one = union (goal.at.returns-then-is_refused-clause-no_room c).After-spans-spans in
-    let many = spanned_count c.ranges-ranges.result c.spans-spans.result.now one.0 one.1 in
-    let same : length c.spans-spans.result.now ≡ length one.0 = omega (arith, many) in
-    let none = subst (λ e. ¬ HasRoomFor (length c.spans-spans.result.now) (made_room (length c.spans-spans.result.now) (raised e steps)))
-    (to_z-of_z w64 c.args.edge c.ranges.edge) (c.is_refused.ensures.full c.if-is_refused.true) in
-    (one.0, one.2, subst (λ n. ¬ HasRoomFor n (made_room n (raised c.args.edge steps))) same none)
-
-pub returns-in_err-prepare-clause-still_covers : goal.returns-in_err-prepare-clause-still_covers
-returns-in_err-prepare-clause-still_covers c =
-    on_err c.from_residual-in_err-prepare.result
-    (λ (ws : List Write) covers. c.in_err-prepare.ensures.covers ws (c.raise.ensures.covers ws covers))
-
-pub returns-in_err-prepare-clause-still_rooted : goal.returns-in_err-prepare-clause-still_rooted
-returns-in_err-prepare-clause-still_rooted c =
-    on_err c.from_residual-in_err-prepare.result
-    (λ (ws : List Write) rooted. c.in_err-prepare.ensures.rooted ws (c.raise.ensures.rooted ws rooted))
+pub returns-in_err-prepare-clause-keeps : goal.returns-in_err-prepare-clause-keeps
+returns-in_err-prepare-clause-keeps c =
+    let keeps : KeepsWrites c.args.steps.now c.prepare.new.self = record {
+      covers = λ ws covers. c.in_err-prepare.ensures.covers ws (c.raise.ensures.covers ws covers);
+      rooted = λ ws rooted. c.in_err-prepare.ensures.rooted ws (c.raise.ensures.rooted ws rooted);
+    } in
+    on_err c.from_residual-in_err-prepare.result keeps
 
 pub returns-in_err-prepare-clause-limit : goal.returns-in_err-prepare-clause-limit
 returns-in_err-prepare-clause-limit c =
@@ -116,46 +113,44 @@ bound_of c raise is ws rooted =
     (c.in_err-prepare.ensures.bound (ap Err is) ws (c.raise.ensures.rooted ws rooted))
 
 pub returns-in_err-prepare-clause-full : goal.returns-in_err-prepare-clause-full
-returns-in_err-prepare-clause-full c = λ full ws rooted.
-    let at = goal.at.returns-in_err-prepare-clause-full c in
-    let one = union at.After-spans-spans in
-    let is = full_of c.in_err-prepare.field-0.0 (of_err _ full c.from_residual-in_err-prepare.ensures.1) in
-    over_limit c.ranges-ranges.result c.spans-spans.result.now (committed c.args.batch.now.txns c.args.entries.now) one
-    c.counts.ensures.along c.args.steps.now.limit c.args.edge c.args.batch.now.version ws c.requires.late
-    (omega (
-      arith,
-      bound_of at.In_err-prepare (up at.After-raise) is ws rooted,
-      ap length c.deref-2.ensures.value,
-      c.in_ok-gather_lengths.ensures.count,
-    ))
-
-pub returns-in_err-prepare-clause-full_united : goal.returns-in_err-prepare-clause-full_united
-returns-in_err-prepare-clause-full_united c = λ full ws rooted.
-    let at = goal.at.returns-in_err-prepare-clause-full_united c in
-    let one = union at.After-spans-spans in
-    let many = spanned_count c.ranges-ranges.result c.spans-spans.result.now one.0 one.1 in
-    let is = full_of c.in_err-prepare.field-0.0 (of_err _ full c.from_residual-in_err-prepare.ensures.1) in (
-      one.0,
-      one.2,
-      omega (
+returns-in_err-prepare-clause-full c = λ full ws rooted. record {
+  over_limit =
+      let at = goal.at.returns-in_err-prepare-clause-full c in
+      let one = union at.After-spans-spans in
+      let is = full_of c.in_err-prepare.field-0.0 (of_err _ full c.from_residual-in_err-prepare.ensures.1) in
+      over_limit c.ranges-ranges.result c.spans-spans.result.now (committed c.args.batch.now.txns c.args.entries.now) one
+      c.counts.ensures.along c.args.steps.now.limit c.args.edge c.args.batch.now.version ws c.requires.late
+      (omega (
         arith,
         bound_of at.In_err-prepare (up at.After-raise) is ws rooted,
-        many,
         ap length c.deref-2.ensures.value,
         c.in_ok-gather_lengths.ensures.count,
-      ),
-    )
-
-pub returns-in_err-prepare-clause-no_room : goal.returns-in_err-prepare-clause-no_room
-returns-in_err-prepare-clause-no_room c = λ full.
-    let at = goal.at.returns-in_err-prepare-clause-no_room c in
-    let one = union at.After-spans-spans in
-    let many = spanned_count c.ranges-ranges.result c.spans-spans.result.now one.0 one.1 in
-    let is = full_of c.in_err-prepare.field-0.0 (of_err _ full c.from_residual-in_err-prepare.ensures.1) in
-    let same : length c.deref-2.result.now ≡ length one.0 =
-    omega (arith, many, ap length c.deref-2.ensures.value, c.in_ok-gather_lengths.ensures.count) in
-    let none = subst (λ n. ¬ HasRoomFor n (made_room n c.raise.new.self)) same (c.in_err-prepare.ensures.full.0 (ap Err is)) in
-    (one.0, one.2, subst (λ m. ¬ HasRoomFor (length one.0) (made_room (length one.0) m)) (up at.After-raise) none)
+      ));
+  united =
+      let at = goal.at.returns-in_err-prepare-clause-full c in
+      let one = union at.After-spans-spans in
+      let many = spanned_count c.ranges-ranges.result c.spans-spans.result.now one.0 one.1 in
+      let is = full_of c.in_err-prepare.field-0.0 (of_err _ full c.from_residual-in_err-prepare.ensures.1) in (
+        one.0,
+        one.2,
+        omega (
+          arith,
+          bound_of at.In_err-prepare (up at.After-raise) is ws rooted,
+          many,
+          ap length c.deref-2.ensures.value,
+          c.in_ok-gather_lengths.ensures.count,
+        ),
+      );
+  no_room =
+      let at = goal.at.returns-in_err-prepare-clause-full c in
+      let one = union at.After-spans-spans in
+      let many = spanned_count c.ranges-ranges.result c.spans-spans.result.now one.0 one.1 in
+      let is = full_of c.in_err-prepare.field-0.0 (of_err _ full c.from_residual-in_err-prepare.ensures.1) in
+      let same : length c.deref-2.result.now ≡ length one.0 =
+      omega (arith, many, ap length c.deref-2.ensures.value, c.in_ok-gather_lengths.ensures.count) in
+      let none = subst (λ n. ¬ HasRoomFor n (made_room n c.raise.new.self)) same (c.in_err-prepare.ensures.full.0 (ap Err is)) in
+      (one.0, one.2, subst (λ m. ¬ HasRoomFor (length one.0) (made_room (length one.0) m)) (up at.After-raise) none);
+}
 
 -- what isn't refused fits, where the set doesn't stop for its limit
 pub returns-in_err-prepare-clause-refused : goal.returns-in_err-prepare-clause-refused
@@ -252,11 +247,37 @@ wrote_exactly c united spans =
     (to_z-of_z w64 version fits) (rw c.note_keys.ensures.same at c.write_prepared.ensures.exact united
     (subst (λ (ranges : List Range). AreSpanned ranges c.spans-spans.result.now united) c.ranges-ranges.ensures.ranges spans))
 
-pub returns-clause-edge : goal.returns-clause-edge
-returns-clause-edge c =
-    let at = goal.at.returns-clause-edge c in
-    let determined = c.in_ok-prepare.ensures.edge ∙ ap (λ (m : Steps). m.edge) (up at.After-raise) in
-    c.write_prepared.ensures.edge ∙ ap (λ (m : Steps). m.edge) c.note_keys.ensures.same ∙ determined
+pub returns-clause-commits : goal.returns-clause-commits
+returns-clause-commits c = record {
+  covers = λ ws covers.
+      let one = union (goal.at.returns-clause-commits c).After-spans-spans in
+      (all (goal.at.returns-clause-commits c).After-write_prepared one).covers ws
+      (c.in_ok-prepare.ensures.covers ws (c.raise.ensures.covers ws covers));
+  rooted = λ ws rooted.
+      let one = union (goal.at.returns-clause-commits c).After-spans-spans in
+      (all (goal.at.returns-clause-commits c).After-write_prepared one).rooted ws
+      (c.in_ok-prepare.ensures.rooted ws (c.raise.ensures.rooted ws rooted));
+  edge_is =
+      let at = goal.at.returns-clause-commits c in
+      let determined = c.in_ok-prepare.ensures.edge ∙ ap (λ (m : Steps). m.edge) (up at.After-raise) in
+      c.write_prepared.ensures.edge ∙ ap (λ (m : Steps). m.edge) c.note_keys.ensures.same ∙ determined;
+  newest = search rules;
+  room =
+      let at = goal.at.returns-clause-commits c in
+      let one = union at.After-spans-spans in
+      let many = spanned_count c.ranges-ranges.result c.spans-spans.result.now one.0 one.1 in
+      let n = length c.deref-2.result.now in
+      let same : n ≡ length one.0 =
+      omega (arith, many, ap length c.deref-2.ensures.value, c.in_ok-gather_lengths.ensures.count) in
+      let made = made_room n c.raise.new.self in
+      let room : HasRoomFor n made =
+      elim (cases_lt made.limit (length made.boundaries + 2 * n)) [
+        | inl over ↦ let contrary = c.in_ok-prepare.ensures.full.1 (λ room. omega (arith, room, over)) in absurd cc
+        | inr room ↦ room
+      ] in
+      let rooms = subst (λ n. HasRoomFor n (made_room n c.raise.new.self)) same room in
+      (one.0, one.2, subst (λ m. HasRoomFor (length one.0) (made_room (length one.0) m)) (up at.After-raise) rooms);
+}
 
 pub returns-clause-united : goal.returns-clause-united
 returns-clause-united c =
@@ -273,18 +294,6 @@ returns-clause-united c =
       as_many,
       wrote_exactly at.After-write_prepared one.0 one.1 ∙ ap (after_writes one.0 version) determined,
     )
-
-pub returns-clause-covers : goal.returns-clause-covers
-returns-clause-covers c = λ ws covers.
-    let one = union (goal.at.returns-clause-covers c).After-spans-spans in
-    (all (goal.at.returns-clause-covers c).After-write_prepared one).covers ws
-    (c.in_ok-prepare.ensures.covers ws (c.raise.ensures.covers ws covers))
-
-pub returns-clause-rooted : goal.returns-clause-rooted
-returns-clause-rooted c = λ ws rooted.
-    let one = union (goal.at.returns-clause-rooted c).After-spans-spans in
-    (all (goal.at.returns-clause-rooted c).After-write_prepared one).rooted ws
-    (c.in_ok-prepare.ensures.rooted ws (c.raise.ensures.rooted ws rooted))
 
 pub returns-clause-swept : goal.returns-clause-swept
 returns-clause-swept c = λ ws rooted.
@@ -320,20 +329,3 @@ pub returns-clause-limit : goal.returns-clause-limit
 returns-clause-limit c =
     c.write_prepared.ensures.limit ∙ ap (λ (m : Steps). m.limit) c.note_keys.ensures.same ∙ c.in_ok-prepare.ensures.limit
     ∙ ap (λ (m : Steps). m.limit) (up (goal.at.returns-clause-limit c).After-raise)
-
-pub returns-clause-room : goal.returns-clause-room
-returns-clause-room c =
-    let at = goal.at.returns-clause-room c in
-    let one = union at.After-spans-spans in
-    let many = spanned_count c.ranges-ranges.result c.spans-spans.result.now one.0 one.1 in
-    let n = length c.deref-2.result.now in
-    let same : n ≡ length one.0 =
-    omega (arith, many, ap length c.deref-2.ensures.value, c.in_ok-gather_lengths.ensures.count) in
-    let made = made_room n c.raise.new.self in
-    let room : HasRoomFor n made =
-    elim (cases_lt made.limit (length made.boundaries + 2 * n)) [
-      | inl over ↦ let contrary = c.in_ok-prepare.ensures.full.1 (λ room. omega (arith, room, over)) in absurd cc
-      | inr room ↦ room
-    ] in
-    let rooms = subst (λ n. HasRoomFor n (made_room n c.raise.new.self)) same room in
-    (one.0, one.2, subst (λ m. HasRoomFor (length one.0) (made_room (length one.0) m)) (up at.After-raise) rooms)

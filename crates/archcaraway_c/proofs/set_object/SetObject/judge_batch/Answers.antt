@@ -20,7 +20,7 @@ invariant_of-self c =
       remembers = (
         ws ++ writes_of batch c.in-Ok.reply,
         record {
-          covers = c.in-Ok.ensures.resolves.commits.covers ws before.covers;
+          covers = c.in-Ok.ensures.resolves.ok.commits.covers ws before.covers;
           rooted = c.in-Ok.ensures.rooted ws before.rooted;
         },
       );
@@ -32,7 +32,7 @@ returns-in-Ok-clause-judges c =
     let reply = c.in-Ok.reply in
     let ws = c.self.invariant.remembers.0 in
     let before = c.self.invariant.remembers.1 in
-    let count : length reply.entries ≡ length batch.txns = (c.in-Ok.ensures.resolves.commits.judged ws before.covers).count in
+    let count : length reply.entries ≡ length batch.txns = (c.in-Ok.ensures.resolves.ok.judged ws before.covers).count in
     let verdicts = c.put_verdicts.new.verdicts in
     let written : take (length reply.entries) verdicts ≡ verdict_numbers reply.entries =
     subst (λ (entries : List Entry). take (length entries) verdicts ≡ verdict_numbers entries) c.as_slice.ensures.items
@@ -42,13 +42,13 @@ returns-in-Ok-clause-judges c =
     (record {
       reply = reply;
       answered = ap (λ n. take n verdicts) (sym count) ∙ written;
-      judged = c.in-Ok.ensures.resolves.commits.judged;
+      judged = c.in-Ok.ensures.resolves.ok.judged;
       continues = record {
         resolved = c.in-Ok.ensures.resolves.resolved;
         window = c.in-Ok.ensures.resolves.window;
         limit = c.in-Ok.ensures.resolves.limit;
         stop = ap (λ (set : SetState). set.stop) c.self.view_is ∙ c.requires.continues;
-        covers = c.in-Ok.ensures.resolves.commits.covers;
+        covers = c.in-Ok.ensures.resolves.ok.commits.covers;
       };
     })
 

@@ -1,5 +1,5 @@
 use Rattle.std.proofs.Common.{rules, w64, SFits, Err, None, ◌≡◌, [], ◌++◌, ap, ap₂, sym, subst, ◌∙◌}
-use Rattle.std.specs.Prelude.{◌≤ℤ◌, ◌<ℤ◌, ◌⊎◌, Option}
+use Rattle.std.specs.Prelude.{◌≤ℤ◌, ◌<ℤ◌, Option}
 use Rattle.std.proofs.lemmas.Int.{to_z-of_z}
 use Rattle.keyspace.specs.declared.reply.Reply.{Reply}
 use Rattle.keyspace.specs.Judged.{edge, Judged}
@@ -10,20 +10,11 @@ use Rattle.stepmap.specs.Boundary.{AreUpTo}
 use Rattle.stepmap.specs.Covers.{MapCovers}
 use Rattle.stepmap.specs.Rooted.{Rooted}
 use Rattle.stepmap.specs.StepMap.{Steps}
-use Rattle.conflict.specs.ConflictSet.{
-  SetState,
-  IsSet,
-  IsSwept,
-  IsOverLimit,
-  IsOverLimitUnited,
-  raised,
-  HasRoomToWrite,
-  HasNoRoomToWrite,
-  stop_after,
-}
+use Rattle.conflict.specs.ConflictSet.{SetState, IsSet, IsSwept, raised, stop_after}
 use Rattle.conflict.specs.declared.error.SetStop.{SetStop}
 use Rattle.conflict.specs.declared.error.SetStop.TheVariants.{Memory, ArenaFull}
 use Rattle.conflict.specs.Pace.{IsPaced}
+use Rattle.conflict.specs.Resolves.{Commits, AreTooMany, StopsEarly}
 use Rattle.conflict.proofs.Edges.{edge_rises, edge_below, edge_passed, at_most, from_least}
 use Rattle.conflict.proofs.Stopping.{refused_continues, memory_stops, refused_if}
 use Rattle.conflict.proofs.conflict_set.ConflictSet.resolve_when.Goals as goal
@@ -67,8 +58,8 @@ invariant_of-self c =
       least_window = set.least_window;
       most_window = set.most_window;
       resolved = from_least b;
-      edge = λ going. c.in-Ok.ensures.edge ∙ is;
-      newest = λ going. c.in-Ok.ensures.newest;
+      edge = λ going. c.in-Ok.ensures.commits.edge_is ∙ is;
+      newest = λ going. c.in-Ok.ensures.commits.newest;
     } in
     subst (λ version. IsSet (record {
       window = inside.window;
@@ -91,7 +82,7 @@ returns-in-Ok-clause-resolves c =
     let reply = c.in-Ok.reply in
     let ranges = committed b.txns reply.entries in
     record {
-      commits = record {
+      ok = record {
         judged = λ ws covers.
             let entries = c.in-Ok.ensures.judged ws (subst (λ m. MapCovers m ws) (sym map) covers)
             ∙ ap (λ e. judge_txns e ws [] b.txns) is in
@@ -99,9 +90,9 @@ returns-in-Ok-clause-resolves c =
             reply_same reply (judge c.args.self.now.window ws b) c.in-Ok.ensures.version entries in
             subst (Judged c.args.self.now.window ws b) (sym same)
             (c.one_reply.ensures.right c.args.self.now.window ws b);
-        covers = λ ws covers. c.in-Ok.ensures.covers ws (subst (λ m. MapCovers m ws) (sym map) covers);
-        rooted = λ ws rooted. c.in-Ok.ensures.rooted ws (subst (λ m. Rooted m ws) (sym map) rooted);
-        edge_is = c.in-Ok.ensures.edge ∙ is;
+        commits =
+            subst (λ m. Commits (edge c.args.self.now.window b) b.version ranges m now) map
+            (subst (λ e. Commits e b.version ranges c.self.inside.map now) is c.in-Ok.ensures.commits);
         swept = λ ws rooted.
             let all = ws ++ writes_of b reply in
             subst (λ m. IsSwept (edge c.args.self.now.window b) m now all ranges) map
@@ -110,9 +101,6 @@ returns-in-Ok-clause-resolves c =
         paced =
             subst (λ m. IsPaced (edge c.args.self.now.window b) b.version m now ranges) map
             (subst (λ e. IsPaced e b.version c.self.inside.map now ranges) is c.in-Ok.ensures.paced);
-        room =
-            subst (λ m. HasRoomToWrite (raised (edge c.args.self.now.window b) m) ranges) map
-            (subst (λ e. HasRoomToWrite (raised e c.self.inside.map) ranges) is c.in-Ok.ensures.room);
       };
       resolved = search rules;
       unresolved = search rules;
@@ -141,15 +129,15 @@ returns-in-Err-clause-resolves c =
     let now = c.resolve_at.new.steps in
     let window_now = c.args.self.now.window in
     record {
-      commits = search rules;
+      ok = search rules;
       resolved = search rules;
       unresolved = search rules;
       window = search rules;
       limit = search rules;
       continues = search rules;
       kept = λ ws remembers. record {
-        covers = c.in-Err.ensures.still_covers ws (subst (λ m. MapCovers m ws) (sym map) remembers.covers);
-        rooted = c.in-Err.ensures.still_rooted ws (subst (λ m. Rooted m ws) (sym map) remembers.rooted);
+        covers = c.in-Err.ensures.keeps.covers ws (subst (λ m. MapCovers m ws) (sym map) remembers.covers);
+        rooted = c.in-Err.ensures.keeps.rooted ws (subst (λ m. Rooted m ws) (sym map) remembers.rooted);
       };
       refused = λ refuse full.
           let stop_is : c.in-Err.stop ≡ ArenaFull = cc full in
@@ -175,28 +163,15 @@ returns-in-Err-clause-resolves c =
           let covers = subst (λ m. MapCovers m ws) (sym map) remembers.covers in
           let rooted = subst (λ m. Rooted m ws) (sym map) remembers.rooted in
           let ranges = committed b.txns reply.entries in
-          record {
-            over_limit =
-                subst (λ m. IsOverLimit m.limit (edge window_now b) (ws ++ writes_of b reply)) map
-                (subst (λ e. IsOverLimit c.self.inside.map.limit e (ws ++ writes_of b reply)) is
-                (c.in-Err.ensures.full full ws reply.entries covers rooted entries));
-            united =
-                subst (λ m. IsOverLimitUnited m.limit (edge window_now b) ws ranges) map
-                (subst (λ e. IsOverLimitUnited c.self.inside.map.limit e ws ranges) is
-                (c.in-Err.ensures.full_united full ws reply.entries covers rooted entries));
-            no_room =
-                subst (λ m. HasNoRoomToWrite (raised (edge window_now b) m) ranges) map
-                (subst (λ e. HasNoRoomToWrite (raised e c.self.inside.map) ranges) is
-                (c.in-Err.ensures.no_room full ws reply.entries covers entries));
-          };
+          subst (λ m. AreTooMany (edge window_now b) b.version ranges ws m) map
+          (subst (λ e. AreTooMany e b.version ranges ws c.self.inside.map) is
+          (c.in-Err.ensures.full full ws reply.entries covers rooted entries));
       memory = λ going memory ws reply remembers judged.
           let only : reply.entries ≡ judge_txns (edge window_now b) ws [] b.txns =
           ap (λ (r : Reply). r.entries) (c.one_reply.ensures.only window_now ws b reply judged) in
           let ranges = committed b.txns reply.entries in
-          subst (λ (m : Steps). (now.boundaries ≡ m.boundaries)
-          ⊎ HasRoomToWrite (raised (edge window_now b) m) ranges) map
-          (subst (λ e. (now.boundaries ≡ c.self.inside.map.boundaries)
-          ⊎ HasRoomToWrite (raised e c.self.inside.map) ranges) is
+          subst (λ m. StopsEarly (edge window_now b) ranges m now) map
+          (subst (λ e. StopsEarly e ranges c.self.inside.map now) is
           (c.in-Err.ensures.memory memory ws reply.entries (subst (λ m. MapCovers m ws) (sym map) remembers.covers)
           (only ∙ ap (λ e. judge_txns e ws [] b.txns) (sym is))));
     }

@@ -82,7 +82,7 @@ module _ (g : Over) (c : In-Ok g) where
   same : c.in-Ok.reply.version ≡ c.args.batch.version
   same =
       let known = c.self.invariant.remembers in
-      (c.in-Ok.ensures.resolves.commits.judged known.0 known.1.covers).version
+      (c.in-Ok.ensures.resolves.ok.judged known.0 known.1.covers).version
 
   later : c.self.inside.version <ℤ c.args.batch.version
   later =
@@ -102,8 +102,8 @@ module _ (g : Over) (c : In-Ok g) where
   remembers : (ws : List Write) → Remembers c.self.inside.set ws
       → Remembers c.resolve.new.self (ws ++ writes_of c.args.batch c.in-Ok.reply)
   remembers ws old = record {
-    covers = c.in-Ok.ensures.resolves.commits.covers ws old.covers;
-    rooted = c.in-Ok.ensures.resolves.commits.rooted ws old.rooted;
+    covers = c.in-Ok.ensures.resolves.ok.commits.covers ws old.covers;
+    rooted = c.in-Ok.ensures.resolves.ok.commits.rooted ws old.rooted;
   }
 
   remembers_some : (ws : List Write) × Remembers c.resolve.new.self ws
@@ -126,7 +126,7 @@ module _ (g : Over) (c : In-Ok g) where
       → c.in-Ok.reply ≡ judge c.args.self.now.set.window (writes state.processed) c.args.batch
   judged state given was =
       c.one_reply.ensures.only c.self.inside.set.window (writes state.processed) c.args.batch c.in-Ok.reply
-      (c.in-Ok.ensures.resolves.commits.judged (writes state.processed) was.remembers.covers)
+      (c.in-Ok.ensures.resolves.ok.judged (writes state.processed) was.remembers.covers)
       ∙ ap (λ (k : CoreState). judge k.set.window (writes state.processed) c.args.batch) c.self.view_is
 
 pub keep-requires : goal.keep-requires
@@ -200,7 +200,7 @@ returns-clause-answers g c = record {
 pub see-requires : goal.see-requires
 see-requires g c =
     let known = c.self.invariant.remembers in
-    record { entries = (c.in-Ok.ensures.resolves.commits.judged known.0 known.1.covers).count }
+    record { entries = (c.in-Ok.ensures.resolves.ok.judged known.0 known.1.covers).count }
 
 pub returns-clause-shows : goal.returns-clause-shows
 returns-clause-shows g c = record {
