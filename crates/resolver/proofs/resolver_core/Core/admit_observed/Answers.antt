@@ -15,10 +15,10 @@ returns-in-Err-clause-admits g c =
     record {
       adds = record {
         stands = λ none log given stands.
-          subst (λ (core : CoreState). StoppedIn (log ++ x ∷ []) given (record core { stop = stop })) (sym c.self-2.view_is)
-          (StoppedIn-more old.set.window log x given (record met { stop = stop }) c.take-taken.ensures.advances.continues.window
-          (MadeBetween-stopped stop given met _ _
-          (c.in-Err.ensures.advances.err (run old.set.window log) given (IsIn-standing old.stop log given old none stands))));
+            subst (λ (core : CoreState). StoppedIn (log ++ x ∷ []) given (record core { stop = stop })) (sym c.self-2.view_is)
+            (StoppedIn-more old.set.window log x given (record met { stop = stop }) c.take-taken.ensures.advances.continues.window
+            (MadeBetween-stopped stop given met _ _
+            (c.in-Err.ensures.advances.err (run old.set.window log) given (IsIn-standing old.stop log given old none stands))));
         «open» = search rules;
         stops = search rules;
         stopped = search rules;
@@ -47,9 +47,9 @@ returns-in_default-taken-clause-admits g c =
     record {
       adds = record {
         stands = λ none log given stands.
-          StandsBy-more old.set.window log (Take c.args.proxy c.args.batch) given new c.take-taken.ensures.advances.continues.window
-          new.stop c.in_default-taken.ensures.«open»
-          (c.in_default-taken.ensures.advances.ok (run old.set.window log) given (IsIn-standing old.stop log given old none stands));
+            StandsBy-more old.set.window log (Take c.args.proxy c.args.batch) given new c.take-taken.ensures.advances.continues.window
+            new.stop c.in_default-taken.ensures.«open»
+            (c.in_default-taken.ensures.advances.ok (run old.set.window log) given (IsIn-standing old.stop log given old none stands));
         «open» = search rules;
         stops = search rules;
         stopped = search rules;

@@ -22,20 +22,20 @@ pub returns-then-batch-self-clause-answers : goal.returns-then-batch-self-clause
 returns-then-batch-self-clause-answers g c = record {
   advances = record {
     ok =
-      on_ok_weaker c.repeat.result (λ ok state given are.
-      let proxy = c.args.proxy in
-      let b = c.args.batch in
-      let fits : SFits w64 b.version = search rules in
-      let previous : SFits w64 b.previous = search rules in
-      let version : SFits w64 c.self.inside.version = search rules in
-      let is = ap (λ k. k.version) c.self.view_is in
-      let below = less_from_test b.previous c.self.inside.version previous version c.if-batch-self.true in
-      let admitted = admit-repeat c.args.self.now.set.window proxy b state
-      (omega (arith, ints, is, are.version, below)) in
-      subst (λ s. IsIn s given c.repeat.new.self)
-      (ap (λ v. answer proxy (found state.processed proxy v) state) (to_z-of_z w64 b.version fits)
-      ∙ sym admitted)
-      (ok state given are)) c.repeat.ensures.advances.ok;
+        on_ok_weaker c.repeat.result (λ ok state given are.
+        let proxy = c.args.proxy in
+        let b = c.args.batch in
+        let fits : SFits w64 b.version = search rules in
+        let previous : SFits w64 b.previous = search rules in
+        let version : SFits w64 c.self.inside.version = search rules in
+        let is = ap (λ k. k.version) c.self.view_is in
+        let below = less_from_test b.previous c.self.inside.version previous version c.if-batch-self.true in
+        let admitted = admit-repeat c.args.self.now.set.window proxy b state
+        (omega (arith, ints, is, are.version, below)) in
+        subst (λ s. IsIn s given c.repeat.new.self)
+        (ap (λ v. answer proxy (found state.processed proxy v) state) (to_z-of_z w64 b.version fits)
+        ∙ sym admitted)
+        (ok state given are)) c.repeat.ensures.advances.ok;
     err = search rules;
     continues = search rules;
   };
@@ -49,11 +49,11 @@ pub returns-else-batch-self-clause-answers : goal.returns-else-batch-self-clause
 returns-else-batch-self-clause-answers g c = record {
   advances = record {
     ok =
-      on_ok_weaker c.process.result (λ ok state given are.
-      let window = c.args.self.now.set.window in
-      let admitted = admit-process window c.args.proxy c.args.batch state (next g c ∙ are.version) in
-      subst (λ s. IsIn s given c.process.new.self) (sym admitted) (ok state given are))
-      c.process.ensures.answers.advances.ok;
+        on_ok_weaker c.process.result (λ ok state given are.
+        let window = c.args.self.now.set.window in
+        let admitted = admit-process window c.args.proxy c.args.batch state (next g c ∙ are.version) in
+        subst (λ s. IsIn s given c.process.new.self) (sym admitted) (ok state given are))
+        c.process.ensures.answers.advances.ok;
     err = search rules;
     continues = search rules;
   };
