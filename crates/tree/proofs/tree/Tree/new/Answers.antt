@@ -13,10 +13,10 @@ pub invariant_of-result : goal.invariant_of-result
 invariant_of-result g c =
     let a = c.reserve_slots.new.self in
     let b = c.place.new.self in
-    let enough = c.in_ok-reserve_slots.ensures.room in
+    let enough = c.in_ok-reserve_slots.ensures.fills.room in
     let spare = placed_spare a b (omega arith) c.in_ok-slot.ensures.spare in
     let tree = tree_of_one a b _ c.of.result c.item.result c.requires.fan_out c.requires.few
-    (c.reserve_slots.ensures.records ∙ c.new-nodes.ensures.empty) enough c.in_ok-slot.ensures.was_free c.in_ok-slot.ensures.placed
+    (c.reserve_slots.ensures.fills.records ∙ c.new-nodes.ensures.empty) enough c.in_ok-slot.ensures.was_free c.in_ok-slot.ensures.placed
     c.in_ok-slot.ensures.record c.in_ok-slot.ensures.others spare c.of.ensures.entries in
     (tree, tt)
 
@@ -26,5 +26,5 @@ returns-clause-headed g c bytes empty =
     let b = c.place.new.self in
     let key : c.item.result.key ≡ c.args.key = ap (λ (x : Item). x.key) c.item.ensures.item in
     headed_in_list bytes b
-    (headed_alone bytes a b _ c.of.result c.item.result.key (c.reserve_slots.ensures.records ∙ c.new-nodes.ensures.empty)
+    (headed_alone bytes a b _ c.of.result c.item.result.key (c.reserve_slots.ensures.fills.records ∙ c.new-nodes.ensures.empty)
     c.in_ok-slot.ensures.record c.in_ok-slot.ensures.others c.of.ensures.key_heads (rw key empty))

@@ -11,8 +11,8 @@ invariant_of-self g c =
     let t = c.self.inside in
     let nodes = c.reserve_slots.new.self in
     let more : finite.len t.nodes.records + spare_of t.nodes 0 ≤ finite.len t.nodes.records + spare_of nodes 0 =
-    omega (arith, c.reserve_slots.ensures.spare_stays) in
-    let same = c.reserve_slots.ensures.records in (
+    omega (arith, c.reserve_slots.ensures.fills.spare_stays) in
+    let same = c.reserve_slots.ensures.fills.records in (
       tree_stays t.nodes nodes _ _ _ _ _ same c.self.invariant.0 (omega arith)
           (omega (arith, mul-le-mul_left (least_of g.row.N - 1) more, c.self.invariant.0.reserved)),
       raised_stays t.nodes nodes _ _ _ same c.self.invariant.1,
@@ -24,10 +24,10 @@ invariant_of-self-2 g c =
     let nodes = c.reserve_slots.new.self in
     let k = least_of g.row.N - 1 in
     let same : c.args.room / (c.least.result - 1) ≡ c.args.room / k = rw c.least.ensures.least in
-    let reserved = c.in_ok-reserve_slots.ensures.room in
+    let reserved = c.in_ok-reserve_slots.ensures.fills.room in
     let total : c.args.room / k + 67 ≤ finite.len t.nodes.records + spare_of nodes 0 =
     omega (arith, c.in-Some.ensures.1, c.saturating_sub-missing.ensures, c.live.ensures.count) in
-    let kept = c.reserve_slots.ensures.records in
+    let kept = c.reserve_slots.ensures.fills.records in
     let enough = enough_nodes k c.args.room (finite.len t.nodes.records + spare_of nodes 0) (omega arith) total in (
       tree_stays t.nodes nodes _ _ _ _ _ kept c.self.invariant.0 (omega arith) enough,
       raised_stays t.nodes nodes _ _ _ kept c.self.invariant.1,
