@@ -4,7 +4,7 @@
 ghost use Rattle.std.specs.Prelude.{◌≡◌, ◌+◌, ◌*◌, ◌<◌, ◌≤◌, ◌≤ℤ◌, ◌⊎◌, List, ◌++◌, length, map};
 ghost use Rattle.std.specs.Prelude.{OnOk, OnErr, IfOk, MatchOption, Err, Some, IsTrue, slice_get};
 ghost use Rattle.keys.specs.declared.range.Range.{Range};
-ghost use Rattle.keyspace.specs.BatchRanges.{ranges_in};
+ghost use Rattle.keyspace.specs.storage.BatchRanges.{ranges_in};
 ghost use Rattle.keyspace.specs.Writes.{Write, at_version, committed};
 ghost use Rattle.stepmap.specs.declared.step_map.TheConstants.{MAX_LIMIT};
 ghost use Rattle.stepmap.specs.StepMap as map_of;

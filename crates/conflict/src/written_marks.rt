@@ -2,7 +2,7 @@
 
 ghost use Rattle.std.specs.Prelude.{◌≡◌, ℕ, true, false, length, replicate, slice_index_or, OnOk};
 ghost use Rattle.keyspace.specs.Writes.{committed};
-ghost use Rattle.keyspace.specs.BatchRanges.{is_write_in, ranges_in};
+ghost use Rattle.keyspace.specs.storage.BatchRanges.{is_write_in, ranges_in};
 ghost use Rattle.conflict.specs.Union.{picked};
 
 use keyspace::{Batch, Entry, Verdict};

@@ -2,9 +2,9 @@
 //! keeps its limits.
 //!
 //! `specs/` holds the reference definitions, in reading order: all that has to be believed about
-//! verdicts and about the chain of versions, and last how the transactions of a batch are kept. The
-//! contracts of the crates above cite them. A crate above may use the contracts of the types here
-//! and the laws of [`laws`].
+//! verdicts and about the chain of versions. The contracts of the crates above cite them. How the
+//! transactions of a batch are kept is in `specs/storage`. A crate above may use the contracts of
+//! the types here and the laws of [`laws`].
 //!
 //! [`Txn::checked`] and [`Batch::checked`] take what comes from outside, and return a
 //! [`LimitError`] where it is beyond a limit. Callers that know it to be within the limits have

@@ -5,7 +5,7 @@ use Rattle.std.specs.Prelude.{ℕ, Bool, true, false, slice_index_or}
 use Rattle.keys.specs.GapRuns.{AreChosenInOrder}
 use Rattle.keys.specs.declared.range.Range.{Range}
 use Rattle.keys.specs.Singles.{AreRankedFor}
-use Rattle.keyspace.specs.BatchRanges.{is_write_in, writes_in}
+use Rattle.keyspace.specs.storage.BatchRanges.{is_write_in, writes_in}
 use Rattle.keys.proofs.callers.Booleans.{not_both_ways}
 use Rattle.keyspace.specs.Writes.{Write, at_version, committed}
 use Rattle.stepmap.specs.StepMap.{Steps, lengths}
