@@ -10,7 +10,7 @@ use Rattle.keys.proofs.callers.KeyHeads.{after_by_first, before_after_first}
 use Rattle.keys.proofs.callers.Booleans.{not_both_ways}
 use Rattle.keys.proofs.callers.KeyOrder.{before_trans, before_at_most_same, not_before_itself, not_before_if}
 use Rattle.arena.specs.Arena.{Arena}
-use Rattle.tree.specs.Path.{boundaries_after as items_after}
+use Rattle.tree.specs.Path.{items_not_below as items_after}
 use Rattle.tree.specs.Tree.{Items}
 use Rattle.tree.proofs.callers.Partitions.{All-back}
 use Rattle.stepmap.specs.Boundary.{Boundary, AreBoundaries, AreInOrder, RiseFrom, value_from, value_at, last_version, below, from_on}

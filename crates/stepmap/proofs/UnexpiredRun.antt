@@ -15,7 +15,7 @@ use Rattle.tree.specs.Heads.{AllAreHeads}
 use Rattle.tree.specs.Item.{Item}
 use Rattle.tree.specs.Path.{IsPartitioned, items_below, items_not_below}
 use Rattle.tree.specs.Expire.{RemovesExpired}
-use Rattle.tree.specs.Tree.{Items, unexpired_boundaries as unexpired_items, tree_heads, KnowItems}
+use Rattle.tree.specs.Tree.{Items, unexpired_items, tree_heads, KnowItems}
 use Rattle.tree.proofs.callers.Partitions.{All-back}
 use Rattle.stepmap.specs.Boundary.{Boundary, AreInOrder, RiseFrom, last_version}
 use Rattle.stepmap.specs.KeyBound.{slot_is_below}
@@ -258,7 +258,7 @@ module _ {H : Type 0} (keys : Arena H) where
 
           pub passed_are_unexpired : boundaries_of new next.items ≡ passed_to key bs
               ++ (unexpired_boundaries edge before (take n (left_from key bs)) ++ drop n (left_from key bs))
-          unexpired_boundaries =
+          passed_are_unexpired =
               same ∙ now_are
               ∙ ap (λ l. l ++ (unexpired_boundaries edge before looked ++ unseen)) (sym (passed h.front h.first h.front_is))
               ∙ ap₂ (λ xs ys. passed_to key bs ++ (unexpired_boundaries edge before xs ++ ys)) (sym looked_are) (sym rest_are)

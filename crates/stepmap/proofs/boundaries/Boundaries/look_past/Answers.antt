@@ -12,7 +12,7 @@ use Rattle.tree.specs.Tree.{IsLast}
 use Rattle.stepmap.specs.Boundary.{value_at}
 use Rattle.stepmap.specs.KeyBound.{slot_is_below}
 use Rattle.stepmap.specs.Stored.{Stored, bytes_at, boundaries_of, first_key}
-use Rattle.stepmap.specs.Copying.{items_not_below as after_key}
+use Rattle.stepmap.specs.Copying.{boundaries_after as after_key}
 use Rattle.stepmap.proofs.Asking.{can_search}
 use Rattle.stepmap.proofs.CopiedOn.{after_stored}
 use Rattle.stepmap.proofs.LastFound.{some_is_below, last_boundary, value_of_last}
