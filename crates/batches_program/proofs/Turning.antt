@@ -5,12 +5,12 @@ use Rattle.std.specs.Io.KnownBytes.{Consumes, Appends, Keeps, IsAtEnd}
 use Rattle.wire.proofs.callers.Given.{appends_none, appends_then}
 use Rattle.wire.proofs.callers.Known.{consumes_none, consumes_then}
 use Rattle.batches_program.specs.declared.failure.Failure.{Failure}
-use Rattle.batches_program.specs.Turned.{BecomeEach, joined, Turns, TurnsAll, Stops}
+use Rattle.batches_program.specs.Turned.{BecomeEach, concatenation, Turns, TurnsAll, Stops}
 
-joined_last : (parts : List (List ℕ)) (part : List ℕ) → joined parts ++ part ≡ joined (parts ++ part ∷ [])
+joined_last : (parts : List (List ℕ)) (part : List ℕ) → concatenation parts ++ part ≡ concatenation (parts ++ part ∷ [])
 joined_last [] part = sym (append-nil part)
 joined_last (first ∷ parts) part =
-    append_assoc first (joined parts) part ∙ ap (λ (t : List ℕ). first ++ t) (joined_last parts part)
+    append_assoc first (concatenation parts) part ∙ ap (λ (t : List ℕ). first ++ t) (joined_last parts part)
 
 each_last : (Becomes : List ℕ → List ℕ → Type 0) (parts : List (List ℕ)) (part text last : List ℕ)
     → BecomeEach Becomes parts text → Becomes part last → BecomeEach Becomes (parts ++ part ∷ []) (text ++ last)
@@ -52,7 +52,7 @@ one_more Becomes left now next before after later number part last so_far read b
         parts = turned.parts ++ part ∷ [];
         text = turned.text ++ last;
         read = subst (Consumes left next) (joined_last turned.parts part)
-            (consumes_then left now next (joined turned.parts) part turned.read read);
+            (consumes_then left now next (concatenation turned.parts) part turned.read read);
         each = each_last Becomes turned.parts part turned.text last turned.each becomes;
         written = appends_then before after later turned.text last turned.written written;
       };
@@ -71,7 +71,7 @@ at_the_end Becomes left now before after later number so_far end same =
     let turned = so_far.turned in record {
       parts = turned.parts;
       text = turned.text;
-      read = all_parts left now (joined turned.parts) turned.read end;
+      read = all_parts left now (concatenation turned.parts) turned.read end;
       each = turned.each;
       written = subst (λ (out : Option (List ℕ)). Appends before out turned.text) (sym same) turned.written;
     }

@@ -10,15 +10,15 @@ BecomeEach Becomes (part ∷ parts) text =
     (first others : List ℕ) × (text ≡ first ++ others) × Becomes part first × BecomeEach Becomes parts others
 
 -- these parts, in sequence
-abbrev pub joined : List (List ℕ) → List ℕ
-joined [] = []
-joined (part ∷ parts) = part ++ joined parts
+abbrev pub concatenation : List (List ℕ) → List ℕ
+concatenation [] = []
+concatenation (part ∷ parts) = part ++ concatenation parts
 
 -- The bytes that were left are these parts and then what is left now; and the output grew by what the parts become.
 pub record Turns (Becomes : List ℕ → List ℕ → Type 0) (left now before after : Option (List ℕ)) : Type 0 where
   pub parts : List (List ℕ)
   pub text : List ℕ
-  pub read : Consumes left now (joined parts)
+  pub read : Consumes left now (concatenation parts)
   pub each : BecomeEach Becomes parts text
   pub written : Appends before after text
 
@@ -26,7 +26,7 @@ pub record Turns (Becomes : List ℕ → List ℕ → Type 0) (left now before a
 pub record TurnsAll (Becomes : List ℕ → List ℕ → Type 0) (left before after : Option (List ℕ)) : Type 0 where
   pub parts : List (List ℕ)
   pub text : List ℕ
-  pub read : IfSome left (λ bytes. bytes ≡ joined parts)
+  pub read : IfSome left (λ bytes. bytes ≡ concatenation parts)
   pub each : BecomeEach Becomes parts text
   pub written : Appends before after text
 

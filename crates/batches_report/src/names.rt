@@ -3,7 +3,7 @@
 ghost use Rattle.std.specs.Prelude.{◌≡◌, ◌∷◌, ◌++◌, [], List, ℕ, IfOk, OnOk, map, slice_get};
 ghost use Rattle.std.specs.Prelude.{string_bytes};
 ghost use Rattle.batches_report.specs.Names.{AreEachOnce, is_among, name_if_some, name_of};
-ghost use Rattle.batches_report.specs.Names.{names_at, quoted};
+ghost use Rattle.batches_report.specs.Names.{names_at, quoted_key};
 
 use crate::error::ReportError;
 use json_lines::put_key_form;
@@ -84,7 +84,7 @@ fn name_of(alloc: Global, range: &RangeRef<'_>) -> Result<String, ReportError>
 }
 
 fn put_quoted(out: &mut Vec<u8>, key: &[u8]) -> Result<(), AllocError>
-    ensures text { OnOk result (out.new.items ≡ out.old.items ++ quoted key.now) }
+    ensures text { OnOk result (out.new.items ≡ out.old.items ++ quoted_key key.now) }
 {
     out.push(b'"')?;
     put_key_form(out, key)?;

@@ -5,7 +5,7 @@ ghost use Rattle.std.specs.Prelude.{◌≡◌, ◌+◌, ◌*◌, ◌<◌, ◌≤
 ghost use Rattle.std.specs.Prelude.{OnOk, OnErr, IfOk, MatchOption, Err, Some, IsTrue, slice_get};
 ghost use Rattle.keys.specs.declared.range.Range.{Range};
 ghost use Rattle.keyspace.specs.BatchRanges.{ranges_in};
-ghost use Rattle.keyspace.specs.Writes.{Write, at_version, committed};
+ghost use Rattle.keyspace.specs.Writes.{Write, at_version, committed_ranges};
 ghost use Rattle.stepmap.specs.declared.step_map.TheConstants.{MAX_LIMIT};
 ghost use Rattle.stepmap.specs.StepMap as map_of;
 ghost use Rattle.stepmap.specs.Boundary.{AreUpTo};
@@ -21,7 +21,7 @@ ghost use Rattle.stepmap.specs.Laws.{IsWriting};
 ghost use Rattle.conflict.specs.declared.union.UnitedSpan as span_type;
 ghost use Rattle.conflict.specs.Union.{Spans, AreSpanned};
 ghost use Rattle.conflict.specs.ConflictSet.{IsOverLimit, IsOverLimitUnited, HasRoomToWrite};
-ghost use Rattle.conflict.specs.ConflictSet.{HasNoRoomToWrite, raised};
+ghost use Rattle.conflict.specs.ConflictSet.{HasNoRoomToWrite, with_edge};
 ghost use Rattle.conflict.specs.Pace.{after_writes, with_written};
 
 use crate::error::SetStop;
@@ -56,17 +56,17 @@ pub fn write_batch(
     ensures limit { steps.new.limit ≡ steps.old.limit }
     ensures few { IfOk result (λ count. 2 * count ≤ MAX_LIMIT) }
     ensures united { IfOk result (λ count. (united : List Range)
-        × Unites united (committed batch.now.txns entries.now) × (length united ≡ count)
-        × (steps.new ≡ with_written united batch.now.version (raised edge steps.old))) }
+        × Unites united (committed_ranges batch.now.txns entries.now) × (length united ≡ count)
+        × (steps.new ≡ with_written united batch.now.version (with_edge edge steps.old))) }
     ensures covers { OnOk result ((ws : List Write) → MapCovers steps.old ws
         → MapCovers steps.new (ws ++ at_version batch.now.version
-        (committed batch.now.txns entries.now))) }
+        (committed_ranges batch.now.txns entries.now))) }
     ensures rooted { OnOk result ((ws : List Write) → Rooted steps.old ws
         → Rooted steps.new (ws ++ at_version batch.now.version
-        (committed batch.now.txns entries.now))) }
+        (committed_ranges batch.now.txns entries.now))) }
     ensures swept { IfOk result (λ count. (ws : List Write) → Rooted steps.old ws
         → rooted_by.Ends steps.new.boundaries
-        (ws ++ at_version batch.now.version (committed batch.now.txns entries.now)) edge
+        (ws ++ at_version batch.now.version (committed_ranges batch.now.txns entries.now)) edge
         ⊎ ((steps.new.round ≡ steps.old.round) × (rest steps.new ≤ rest steps.old + 2 * count))) }
     ensures still_covers { OnErr result ((ws : List Write) → MapCovers steps.old ws
         → MapCovers steps.new ws) }
@@ -74,17 +74,17 @@ pub fn write_batch(
         → Rooted steps.new ws) }
     ensures full { result ≡ Err SetStop.ArenaFull → (ws : List Write) → Rooted steps.old ws
         → IsOverLimit steps.old.limit edge
-        (ws ++ at_version batch.now.version (committed batch.now.txns entries.now)) }
+        (ws ++ at_version batch.now.version (committed_ranges batch.now.txns entries.now)) }
     ensures full_united { result ≡ Err SetStop.ArenaFull → (ws : List Write) → Rooted steps.old ws
-        → IsOverLimitUnited steps.old.limit edge ws (committed batch.now.txns entries.now) }
+        → IsOverLimitUnited steps.old.limit edge ws (committed_ranges batch.now.txns entries.now) }
     ensures refused { when_full ≡ WhenFull.Refuse → result ≡ Err SetStop.ArenaFull
         → steps.new ≡ steps.old }
-    ensures room { OnOk result (HasRoomToWrite (raised edge steps.old)
-        (committed batch.now.txns entries.now)) }
+    ensures room { OnOk result (HasRoomToWrite (with_edge edge steps.old)
+        (committed_ranges batch.now.txns entries.now)) }
     ensures no_room { result ≡ Err SetStop.ArenaFull
-        → HasNoRoomToWrite (raised edge steps.old) (committed batch.now.txns entries.now) }
+        → HasNoRoomToWrite (with_edge edge steps.old) (committed_ranges batch.now.txns entries.now) }
     ensures memory { result ≡ Err SetStop.Memory → (steps.new.boundaries ≡ steps.old.boundaries)
-        ⊎ HasRoomToWrite (raised edge steps.old) (committed batch.now.txns entries.now) }
+        ⊎ HasRoomToWrite (with_edge edge steps.old) (committed_ranges batch.now.txns entries.now) }
 {
     stepmap::laws::writing();
     stepmap::laws::counts();
@@ -113,11 +113,11 @@ pub fn write_batch(
 fn is_refused(steps: &StepMap, ranges: usize, edge: i64, when_full: WhenFull) -> bool
     requires raised { steps.now.edge ≤ℤ edge }
     ensures full { IsTrue result
-        → ¬ HasRoomFor ranges (made_room ranges (raised edge steps.now)) }
+        → ¬ HasRoomFor ranges (made_room ranges (with_edge edge steps.now)) }
     ensures bound { IsTrue result → (ws : List Write) → Rooted steps.now ws
         → steps.now.limit < 1 + 2 * (live_count edge ws + ranges) }
     ensures fits { when_full ≡ WhenFull.Refuse → ¬ IsTrue result
-        → HasRoomFor ranges (made_room ranges (raised edge steps.now)) }
+        → HasRoomFor ranges (made_room ranges (with_edge edge steps.now)) }
 {
     match when_full {
         WhenFull::Stop => false,

@@ -1,9 +1,9 @@
 //! Which of the ranges of a batch are written.
 
 ghost use Rattle.std.specs.Prelude.{◌≡◌, ℕ, true, false, length, replicate, slice_index_or, OnOk};
-ghost use Rattle.keyspace.specs.Writes.{committed};
+ghost use Rattle.keyspace.specs.Writes.{committed_ranges};
 ghost use Rattle.keyspace.specs.BatchRanges.{is_write_in, ranges_in};
-ghost use Rattle.conflict.specs.Union.{picked};
+ghost use Rattle.conflict.specs.Union.{marked_ranges};
 
 use keyspace::{Batch, Entry, Verdict};
 use std::alloc::AllocError;
@@ -17,8 +17,8 @@ pub fn mark_written(
     entries: &[Entry],
 ) -> Result<(), AllocError>
     requires entries { length entries.now ≡ length batch.now.txns }
-    ensures written { OnOk result (picked written.new.items (ranges_in batch.now.txns)
-        ≡ committed batch.now.txns entries.now) }
+    ensures written { OnOk result (marked_ranges written.new.items (ranges_in batch.now.txns)
+        ≡ committed_ranges batch.now.txns entries.now) }
     ensures count { OnOk result (length written.new.items ≡ length (ranges_in batch.now.txns)) }
     ensures writes { OnOk result ((index : ℕ) → slice_index_or written.new.items index false ≡ true
         → is_write_in batch.now.txns index ≡ true) }

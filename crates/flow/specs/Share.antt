@@ -2,5 +2,5 @@
 use Rattle.std.specs.Prelude.{ℕ, ◌-◌}
 
 -- the number of batches of those sent that aren't answered yet
-abbrev pub unanswered : ℕ → ℕ → ℕ
-unanswered sent answered = sent - answered
+abbrev pub unanswered_count : ℕ → ℕ → ℕ
+unanswered_count sent answered = sent - answered

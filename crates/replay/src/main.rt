@@ -9,7 +9,7 @@ ghost use Rattle.std.specs.Prelude.{◌≡◌, ◌<◌, ◌⊎◌, ℕ, IsErr, L
 ghost use Rattle.std.specs.Io.KnownBytes.{Appends};
 ghost use Rattle.replay_output.specs.Start.{start_line};
 ghost use Rattle.replay_program.specs.Ended.{IsQuiet};
-ghost use Rattle.replay_program.specs.Replayed.{written};
+ghost use Rattle.replay_program.specs.Replayed.{writer_change};
 
 mod disk;
 mod known_files;
@@ -64,7 +64,7 @@ fn start<
     error: &mut E,
 ) -> Status
     ensures quiet { result ≡ Status.Done → (words : List (List ℕ)) × IsQuiet (λ _. None) words
-        (written (E.given error.old) (E.given error.new) (E.failures error.old)
+        (writer_change (E.given error.old) (E.given error.new) (E.failures error.old)
         (E.failures error.new)) }
     ensures no_buffer { IsErr out → (result ≡ Status.Failed)
         × ((E.failures error.old < E.failures error.new)

@@ -3,7 +3,7 @@
 ghost use Rattle.std.specs.Prelude.{◌≡◌, ◌++◌, OnOk, decimal, flat_map};
 ghost use Rattle.std.specs.Fmt.{signed_decimal};
 ghost use Rattle.replay_explanations.specs.Json.{byte_json, key_json, range_json};
-ghost use Rattle.replay_explanations.specs.Lines.{quoted, range_form};
+ghost use Rattle.replay_explanations.specs.Lines.{quoted_key, range_form};
 
 use itoa::Buffer;
 use json_lines::put_key_form;
@@ -37,7 +37,7 @@ pub(crate) fn put_range(out: &mut Vec<u8>, range: &RangeRef<'_>) -> Result<(), A
 }
 
 fn put_quoted(out: &mut Vec<u8>, key: &[u8]) -> Result<(), AllocError>
-    ensures text { OnOk result (out.new.items ≡ out.old.items ++ quoted key.now) }
+    ensures text { OnOk result (out.new.items ≡ out.old.items ++ quoted_key key.now) }
 {
     out.push(b'"')?;
     put_key_form(out, key)?;

@@ -10,12 +10,12 @@ use Rattle.replay_hot_ranges.specs.declared.hot_range.HotRange.{HotRange}
 use Rattle.replay_hot_ranges.specs.declared.hot_range.Top.{Top}
 
 -- a key in its printed form, in quotes
-abbrev pub quoted : List ℕ → List ℕ
-quoted key = codes "\"" ++ key_form key ++ codes "\""
+abbrev pub quoted_key : List ℕ → List ℕ
+quoted_key key = codes "\"" ++ key_form key ++ codes "\""
 
 -- a range: its begin and its end
 abbrev pub range_form : List ℕ → List ℕ → List ℕ
-range_form begin end = codes "[" ++ quoted begin ++ codes "," ++ quoted end ++ codes ")"
+range_form begin end = codes "[" ++ quoted_key begin ++ codes "," ++ quoted_key end ++ codes ")"
 
 -- the line of a range: its count, and then the range
 abbrev pub hot_line : HotRange → List ℕ

@@ -1,7 +1,7 @@
 //! The ranges that conflict most, as lines of words.
 
 ghost use Rattle.std.specs.Prelude.{◌≡◌, ◌++◌, IfOk, OnOk, decimal, flat_map};
-ghost use Rattle.replay_hot_ranges.specs.Text.{hot_line, lines, quoted, range_form};
+ghost use Rattle.replay_hot_ranges.specs.Text.{hot_line, lines, quoted_key, range_form};
 
 use crate::hot_range::{HotRange, Top};
 use itoa::Buffer;
@@ -58,7 +58,7 @@ fn put_range(out: &mut Vec<u8>, begin: &[u8], end: &[u8]) -> Result<(), AllocErr
 }
 
 fn put_quoted(out: &mut Vec<u8>, key: &[u8]) -> Result<(), AllocError>
-    ensures text { OnOk result (out.new.items ≡ out.old.items ++ quoted key.now) }
+    ensures text { OnOk result (out.new.items ≡ out.old.items ++ quoted_key key.now) }
 {
     out.push(b'"')?;
     put_key_form(out, key)?;

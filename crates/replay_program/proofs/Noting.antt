@@ -15,7 +15,7 @@ use Rattle.replay_summary.specs.Counted.{counted_of}
 use Rattle.replay_output.specs.declared.line.Line.{Line}
 use Rattle.replay_output.specs.declared.options.style.Style.{Style}
 use Rattle.replay_output.specs.Line.{AreLines, AreLinesBy, IsLineBy, IsLineOf, answer_of, answers_of}
-use Rattle.replay_program.specs.Explained.{Explained, explained_line, explanation_form, note_at, note_of, noted, noted_each, with_explanation}
+use Rattle.replay_program.specs.Explained.{Explained, explained_line, explanation_form, note_at, note_of, line_with_note, noted_each, with_explanation}
 
 module _ {Y : Type 0} (change : ℕ → Y → Y) where
   -- the first i are changed, each by its number from n on
@@ -102,7 +102,7 @@ no_explanation explanations.Json (letter ∷ text) = refl
 module _ (form : ExplanationForm) (explained : Explained) where
   -- a line whose answer has no explanation stays
   pub stays_noted : (proxy : ℕ) (l : Line) → note_at explained proxy l.counted.version l.counted.outcome ≡ []
-      → l ≡ noted form explained proxy l
+      → l ≡ line_with_note form explained proxy l
   stays_noted proxy l none =
       ap (λ (text : List ℕ). record l { text = text })
       (sym (ap (with_explanation form l.text) none ∙ no_explanation form l.text))
@@ -113,7 +113,7 @@ module _ (form : ExplanationForm) (explained : Explained) where
   note_counted proxy (answer.Held version) = refl
 
   noted_line : (style : Style) → explanation_form style.form ≡ form → (proxy : ℕ) (l : Line) → IsLineOf style proxy l
-      → IsLineBy (explained_line style explained) proxy (noted form explained proxy l)
+      → IsLineBy (explained_line style explained) proxy (line_with_note form explained proxy l)
   noted_line style same proxy l is =
       let note : note_at explained proxy l.counted.version l.counted.outcome ≡ note_of explained proxy (answer_of l) =
       ap (λ (c : Counted). note_at explained proxy c.version c.outcome) is.counted ∙ note_counted proxy (answer_of l) in
@@ -125,23 +125,23 @@ module _ (form : ExplanationForm) (explained : Explained) where
       }
 
   noted_all : (style : Style) → explanation_form style.form ≡ form → (proxy : ℕ) (ls : List Line) → All (IsLineOf style proxy) ls
-      → All (IsLineBy (explained_line style explained) proxy) (map (noted form explained proxy) ls)
+      → All (IsLineBy (explained_line style explained) proxy) (map (line_with_note form explained proxy) ls)
   noted_all style same proxy [] all = λ k d inside. absurd (omega (arith, inside))
   noted_all style same proxy (l ∷ ls) all =
       let Of = IsLineOf style proxy in
-      All-cons (IsLineBy (explained_line style explained) proxy) (noted form explained proxy l) (map (noted form explained proxy) ls)
+      All-cons (IsLineBy (explained_line style explained) proxy) (line_with_note form explained proxy l) (map (line_with_note form explained proxy) ls)
       (noted_line style same proxy l (All-head Of l ls all)) (noted_all style same proxy ls (All-tail Of l ls all))
 
   -- the lines of each proxy from n on, explained, are lines with explanations
   noted_from : (style : Style) → explanation_form style.form ≡ form → (n : ℕ) (ls : List (List Line))
       → ((proxy : ℕ) (own : List Line) → slice_get ls proxy ≡ Some own → All (IsLineOf style (n + proxy)) own)
       → (proxy : ℕ) (own : List Line)
-      → slice_get (map (λ own. map (noted form explained own.0) own.1) (enumerate_from n ls)) proxy ≡ Some own
+      → slice_get (map (λ own. map (line_with_note form explained own.0) own.1) (enumerate_from n ls)) proxy ≡ Some own
       → All (IsLineBy (explained_line style explained) (n + proxy)) own
   noted_from style same n [] are proxy own at = absurd (none-some own at)
   noted_from style same n (first ∷ ls) are zero own at =
       subst (λ (m : ℕ). All (IsLineBy (explained_line style explained) m) own) (sym (add-zero n))
-      (subst (All (IsLineBy (explained_line style explained) n)) (same_Some (map (noted form explained n) first) own at)
+      (subst (All (IsLineBy (explained_line style explained) n)) (same_Some (map (line_with_note form explained n) first) own at)
       (noted_all style same n first (subst (λ (m : ℕ). All (IsLineOf style m) first) (add-zero n) (are zero first refl))))
   noted_from style same n (first ∷ ls) are (suc proxy) own at =
       let more : (n + 1) + proxy ≡ n + suc proxy = omega arith in
@@ -156,12 +156,12 @@ module _ (form : ExplanationForm) (explained : Explained) where
       subst (λ (m : ℕ). All (IsLineBy (explained_line style explained) m) own) first
       (noted_from style same 0 ls (λ p o is. subst (λ (m : ℕ). All (IsLineOf style m) o) (omega arith) (are p o is)) proxy own at)
 
-  same_answers : (proxy : ℕ) (ls : List Line) → answers_of (map (noted form explained proxy) ls) ≡ answers_of ls
+  same_answers : (proxy : ℕ) (ls : List Line) → answers_of (map (line_with_note form explained proxy) ls) ≡ answers_of ls
   same_answers proxy [] = refl
   same_answers proxy (l ∷ ls) = ap (λ (a : List Answer). answer_of l ∷ a) (same_answers proxy ls)
 
   same_from : (n : ℕ) (ls : List (List Line))
-      → map answers_of (map (λ own. map (noted form explained own.0) own.1) (enumerate_from n ls)) ≡ map answers_of ls
+      → map answers_of (map (λ own. map (line_with_note form explained own.0) own.1) (enumerate_from n ls)) ≡ map answers_of ls
   same_from n [] = refl
   same_from n (own ∷ ls) = ap₂ (λ (a : List Answer) (rest : List (List Answer)). a ∷ rest) (same_answers n own) (same_from (n + 1) ls)
 

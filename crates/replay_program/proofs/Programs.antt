@@ -41,7 +41,7 @@ use Rattle.replay_program.specs.Program.{
   ReportsLine,
   texts,
 }
-use Rattle.replay_program.specs.Replayed.{HasFailed, Took, Written, written}
+use Rattle.replay_program.specs.Replayed.{HasFailed, Took, Written, writer_change}
 use Rattle.replay_program.specs.ShardedProgram.{RegularFiles}
 use Rattle.replay_stream.specs.declared.recorder.Recorder.{Recorder}
 use Rattle.replay_stream.specs.Sinks.{SinkState}
@@ -93,7 +93,7 @@ module _ {W : Type 0} (state_of : W → SinkState) (files : NamedFiles) where
   pub is_given : (begun : Option (List ℕ)) (opened last : W) (writer : Option W) → (state_of opened).given ≡ begun
       → writer ≡ Some last
       → IsGiven state_of begun writer
-      (written (state_of opened).given (state_of last).given (state_of opened).failures (state_of last).failures)
+      (writer_change (state_of opened).given (state_of last).given (state_of opened).failures (state_of last).failures)
   is_given begun opened last writer new is =
       record { opened = opened; last = last; new = new; writer_is = is; to_is = refl }
 
@@ -121,10 +121,10 @@ module _ {W : Type 0} (state_of : W → SinkState) (files : NamedFiles) where
     pub to_file : (Holds : Written → Type 0) (name : Bor (List ℕ)) (opened last : W) → line.output ≡ Some name
         → report.output ≡ Some last → (state_of opened).given ≡ files.begun name.now → standard.after ≡ standard.before
         → standard.failures_after ≡ standard.failures_before
-        → Holds (written (state_of opened).given (state_of last).given (state_of opened).failures (state_of last).failures)
+        → Holds (writer_change (state_of opened).given (state_of last).given (state_of opened).failures (state_of last).failures)
         → OfOutput state_of files line report standard Holds
     to_file Holds name opened last named writer new nothing no_failure so =
-        let out = written (state_of opened).given (state_of last).given (state_of opened).failures (state_of last).failures in
+        let out = writer_change (state_of opened).given (state_of last).given (state_of opened).failures (state_of last).failures in
         record {
           out = out;
           goes_to = subst (λ (o : Option (Bor (List ℕ))). GoesTo state_of files.begun o report.output standard out) (sym named)

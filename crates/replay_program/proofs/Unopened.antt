@@ -9,13 +9,13 @@ use Rattle.replay_program.specs.declared.met.Met.{Met}
 use Rattle.replay_program.specs.declared.program.several_resolvers.opened.ShardingError.{ShardingError}
 use Rattle.replay_program.specs.declared.report.RunReport.{RunReport}
 use Rattle.replay_program.specs.Program.{NamedFiles, SaysFurther, ReportsLine, bytes_of, texts}
-use Rattle.replay_program.specs.Replayed.{Written, written}
+use Rattle.replay_program.specs.Replayed.{Written, writer_change}
 use Rattle.replay_program.specs.Sharded.{HasMetByShards, MetStopByShards}
 use Rattle.replay_program.specs.ShardedProgram.{ArePointsOf, IsWhyNotSharded, LineFailsAndSaysByShards, RegularFiles, ReportsCause}
 
 -- nothing more is said
 pub says_nothing : (verbose : Bool) (contents : List ℕ → Option (List ℕ)) (cannot_open : List ℕ → Type 0) (line : CommandLine) (met : Met)
-    (given : Option (List ℕ)) (failures : ℕ) → SaysFurther verbose contents cannot_open line met (written given given failures failures)
+    (given : Option (List ℕ)) (failures : ℕ) → SaysFurther verbose contents cannot_open line met (writer_change given given failures failures)
 says_nothing false contents cannot_open line met given failures = (refl, refl)
 says_nothing true contents cannot_open line met given failures = inl refl
 
@@ -23,9 +23,9 @@ says_nothing true contents cannot_open line met given failures = inl refl
 pub not_sharded : {W : Type 0} (state_of : W → SinkState) (regular : RegularFiles) (files : NamedFiles) (line : CommandLine)
     (report : RunReport W) (standard error : Written) (given : Option (List ℕ)) (failures : ℕ) (cause : ShardingError)
     → IsWhyNotSharded regular.is_regular regular.is_irregular files.has_opened files.cannot_open (texts line.files.items) cause
-    → standard.after ≡ standard.before → ReportsCause cause (ReportsLine (written error.before given error.failures_before failures))
+    → standard.after ≡ standard.before → ReportsCause cause (ReportsLine (writer_change error.before given error.failures_before failures))
     → report.met.stop ≡ None → report.met.output_failed ≡ false
-    → SaysFurther line.verbose files.contents files.cannot_open line report.met (written given error.after failures error.failures_after)
+    → SaysFurther line.verbose files.contents files.cannot_open line report.met (writer_change given error.after failures error.failures_after)
     → LineFailsAndSaysByShards state_of regular files line report standard error
 not_sharded state_of regular files line report standard error given failures cause why nothing reported none not_failed further = record {
   given = given;
@@ -35,7 +35,7 @@ not_sharded state_of regular files line report standard error given failures cau
       (λ (met : Option Stop). IfSome met
       (λ stop. (points : List (List ℕ)) × ArePointsOf files.contents line points
       × MetStopByShards points line.options (bytes_of files line) stop report.met.version
-      (written error.before given error.failures_before failures)))
+      (writer_change error.before given error.failures_before failures)))
       (sym none) tt;
   output_failed = λ is. absurd (false≢true (sym not_failed ∙ is));
   further = further;

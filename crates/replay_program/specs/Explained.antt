@@ -56,13 +56,13 @@ note_at explained proxy version Never = []
 note_at explained proxy version Held = []
 
 -- the line with what explains its answer
-abbrev pub noted : ExplanationForm → Explained → ℕ → Line → Line
-noted form explained proxy l =
+abbrev pub line_with_note : ExplanationForm → Explained → ℕ → Line → Line
+line_with_note form explained proxy l =
     record l { text = with_explanation form l.text (note_at explained proxy l.counted.version l.counted.outcome) }
 
 -- the same of all lines, given those of each proxy; a proxy's number is its index
 abbrev pub noted_each : ExplanationForm → Explained → List (List Line) → List (List Line)
-noted_each form explained lines = map (λ own. map (noted form explained own.0) own.1) (enumerate_from 0 lines)
+noted_each form explained lines = map (λ own. map (line_with_note form explained own.0) own.1) (enumerate_from 0 lines)
 
 -- what explains the rejections in each of these batches, in the form that these options ask for
 abbrev pub explanations_of : Options → List Processed → Explained

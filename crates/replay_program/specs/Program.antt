@@ -15,7 +15,7 @@ use Rattle.replay_arguments.specs.declared.opened_files.written.WrittenFile.TheV
 use Rattle.replay_arguments.specs.Opening.{IsFirstRefused, contents_each, creating_line, opening_line, written_line}
 use Rattle.replay_output.specs.declared.options.Options.{Options}
 use Rattle.replay_output.specs.declared.start.StartError.TheVariants as start
-use Rattle.replay_output.specs.Quieted.{quieted}
+use Rattle.replay_output.specs.Quieted.{options_quieted}
 use Rattle.replay_output.specs.Start.{start_line}
 use Rattle.replay_program.specs.declared.check.replies.RepliesError.{RepliesError}
 use Rattle.replay_program.specs.declared.met.Met.{Met}
@@ -23,7 +23,7 @@ use Rattle.replay_program.specs.declared.report.RunReport.{RunReport}
 use Rattle.replay_program.specs.Checked.{TakesToCompare, check_lines}
 use Rattle.replay_program.specs.Explained.{FailsToExplain, IsReplayedWithExplanations}
 use Rattle.replay_program.specs.Met.{HasMet}
-use Rattle.replay_program.specs.Replayed.{DidNotStart, FailsToPrint, FailsToReplay, HasFailed, IsChecked, IsReplayed, Took, Written, written}
+use Rattle.replay_program.specs.Replayed.{DidNotStart, FailsToPrint, FailsToReplay, HasFailed, IsChecked, IsReplayed, Took, Written, writer_change}
 use Rattle.replay_program.specs.Replies.{IsCauseOf, IsReplyFile, replies_line}
 use Rattle.replay_program.specs.Streamed.{IsStreamDone, StreamedAndFailed}
 use Rattle.replay_program.specs.Summarized.{FailsToReplayAndSummarize, FailsToSummarize, IsReplayedAndSummarized, IsSummarized}
@@ -87,7 +87,7 @@ pub record IsGiven {W : Type 0} (state_of : W → SinkState) (begun : Option (Li
   pub new : (state_of opened).given ≡ begun
   pub writer_is : writer ≡ Some last
   pub to_is :
-      to ≡ written (state_of opened).given (state_of last).given (state_of opened).failures (state_of last).failures
+      to ≡ writer_change (state_of opened).given (state_of last).given (state_of opened).failures (state_of last).failures
 
 -- Where the output goes: to standard output, unless a file is named for it. Then standard output stays as it was.
 abbrev pub GoesTo : {W : Type 0} → (W → SinkState) → (List ℕ → Option (List ℕ)) → Option (Bor (List ℕ)) → Option W → Written
@@ -203,7 +203,7 @@ IsTaskDone state_of files bytes line task.Print report out =
 IsTaskDone state_of files bytes line task.Explain report out =
     IsReplayedWithExplanations line.options bytes out.before out.after
 IsTaskDone state_of files bytes line (task.Summarize form top) report out =
-    IsSummarized form top (quieted line.options) bytes out.before out.after
+    IsSummarized form top (options_quieted line.options) bytes out.before out.after
 IsTaskDone state_of files bytes line (task.Stream records) report out =
     StreamsFiles state_of files.begun line.options bytes (texts records.items) report.recorders.items out.before out.after
 IsTaskDone state_of files bytes line (task.Check replies) report out =
@@ -222,7 +222,7 @@ TaskFails state_of files bytes line task.Print report out error =
     AreNotPrinted state_of files bytes line.options line.summary_to report.summary out error
 TaskFails state_of files bytes line task.Explain report out error = FailsToExplain line.options bytes out error
 TaskFails state_of files bytes line (task.Summarize form top) report out error =
-    FailsToSummarize form top (quieted line.options) bytes out error
+    FailsToSummarize form top (options_quieted line.options) bytes out error
 TaskFails state_of files bytes line (task.Stream records) report out error =
     FailsToStreamFiles state_of files line.options bytes (texts records.items) report.recorders.items out error
 TaskFails state_of files bytes line (task.Check replies) report out error =
@@ -278,23 +278,23 @@ pub record EndsQuietly (contents : List ℕ → Option (List ℕ)) (line : Comma
   pub given : Option (List ℕ)
   pub failures : ℕ
   pub kept : Keeps error.before given
-  pub further : SaysIfHeld line.verbose contents (texts line.files.items) (written given error.after failures error.failures_after)
+  pub further : SaysIfHeld line.verbose contents (texts line.files.items) (writer_change given error.after failures error.failures_after)
 
 -- What a command line asks for has failed, and that was reported: first by the fixed lines, which left standard error in this state.
 pub record LineFailsAndSays {W : Type 0} (state_of : W → SinkState) (files : NamedFiles) (line : CommandLine) (report : RunReport W)
     (standard error : Written) : Type 0 where
   pub given : Option (List ℕ)
   pub failures : ℕ
-  pub failed : LineFails state_of files line report standard (written error.before given error.failures_before failures)
+  pub failed : LineFails state_of files line report standard (writer_change error.before given error.failures_before failures)
   -- The stop and the version are those that a replay of these files met, and the last of the fixed lines names the stop. If the output
   -- failed, its writer failed.
   pub met :
       HasMet line.options (bytes_of files line) report.met
-      (written error.before given error.failures_before failures)
+      (writer_change error.before given error.failures_before failures)
   pub output_failed : report.met.output_failed ≡ true → OfOutput state_of files line report standard HasFailed
   pub further :
       SaysFurther line.verbose files.contents files.cannot_open line report.met
-      (written given error.after failures error.failures_after)
+      (writer_change given error.after failures error.failures_after)
 
 -- the message about arguments that aren't text
 abbrev pub not_text : List ℕ

@@ -116,8 +116,8 @@ pub record Written : Type 0 where
   pub failures_before : ℕ
   pub failures_after : ℕ
 
-abbrev pub written : Option (List ℕ) → Option (List ℕ) → ℕ → ℕ → Written
-written before after failures_before failures_after = record {
+abbrev pub writer_change : Option (List ℕ) → Option (List ℕ) → ℕ → ℕ → Written
+writer_change before after failures_before failures_after = record {
   before = before;
   after = after;
   failures_before = failures_before;

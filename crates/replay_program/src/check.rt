@@ -4,7 +4,7 @@
 ghost use Rattle.std.specs.Prelude.{◌≡◌, ◌≢◌, ◌≤◌, ◌<◌, map, true, vec_items, vec_len};
 ghost use Rattle.std.specs.Io.KnownBytes.{Keeps};
 ghost use Rattle.replay_program.specs.Met.{HasMet};
-ghost use Rattle.replay_program.specs.Replayed.{FailsToPrint, IsChecked, written};
+ghost use Rattle.replay_program.specs.Replayed.{FailsToPrint, IsChecked, writer_change};
 ghost use Rattle.replay_program.specs.Checked.{TakesToCompare, check_lines};
 ghost use Rattle.replay_output.specs.declared.options.form.Form.TheVariants.{Kept};
 
@@ -62,11 +62,12 @@ pub fn check_over<
         → FailsToPrint (check_lines (map vec_items recorded.items))
         (TakesToCompare (map vec_items recorded.items))
         options (map S.remaining readers.items)
-        (written (O.given out.old) (O.given out.new) (O.failures out.old) (O.failures out.new))
-        (written (E.given error.old) (E.given error.new) (E.failures error.old)
+        (writer_change (O.given out.old) (O.given out.new) (O.failures out.old)
+        (O.failures out.new))
+        (writer_change (E.given error.old) (E.given error.new) (E.failures error.old)
         (E.failures error.new)) }
     ensures met { HasMet options (map S.remaining readers.items) result.met
-        (written (E.given error.old) (E.given error.new) (E.failures error.old)
+        (writer_change (E.given error.old) (E.given error.new) (E.failures error.old)
         (E.failures error.new)) }
     ensures output_failed { result.met.output_failed ≡ true
         → O.failures out.old < O.failures out.new }

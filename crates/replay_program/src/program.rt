@@ -4,7 +4,7 @@ ghost use Rattle.std.specs.Prelude.{◌≡◌, ℕ, List, map, string_bytes};
 ghost use Rattle.replay_arguments.specs.Arguments.{IsMistaken};
 ghost use Rattle.replay_program.specs.Ended.{HasDifferences, IsDone, IsFailed, IsQuiet};
 ghost use Rattle.replay_program.specs.Program.{ReportsLine, named_files};
-ghost use Rattle.replay_program.specs.Replayed.{written};
+ghost use Rattle.replay_program.specs.Replayed.{writer_change};
 ghost use Rattle.replay_program.specs.ShardedProgram.{regular_files};
 ghost use Rattle.replay_stream.specs.Sinks.{state_by};
 
@@ -45,14 +45,15 @@ pub fn run<R: Threads + Wait + Copy + Send + 'static, F: Files, O: Sink, E: Sink
         (named_files (F.contents files.now) (F.has_opened files.now) (F.cannot_open files.now)
         (F.begun files.now) (F.has_created files.now) (F.cannot_create files.now))
         (map string_bytes words.now) result
-        (written (O.given out.old) (O.given out.new) (O.failures out.old) (O.failures out.new)) }
+        (writer_change (O.given out.old) (O.given out.new) (O.failures out.old)
+        (O.failures out.new)) }
     ensures quiet { result.status ≡ Status.Done
         → IsQuiet (F.contents files.now) (map string_bytes words.now)
-        (written (E.given error.old) (E.given error.new) (E.failures error.old)
+        (writer_change (E.given error.old) (E.given error.new) (E.failures error.old)
         (E.failures error.new)) }
     ensures quiet_too { result.status ≡ Status.Differs
         → IsQuiet (F.contents files.now) (map string_bytes words.now)
-        (written (E.given error.old) (E.given error.new) (E.failures error.old)
+        (writer_change (E.given error.old) (E.given error.new) (E.failures error.old)
         (E.failures error.new)) }
     ensures failed { result.status ≡ Status.Failed
         → IsFailed (state_by F.Writer.given F.Writer.failures)
@@ -60,20 +61,22 @@ pub fn run<R: Threads + Wait + Copy + Send + 'static, F: Files, O: Sink, E: Sink
         (named_files (F.contents files.now) (F.has_opened files.now) (F.cannot_open files.now)
         (F.begun files.now) (F.has_created files.now) (F.cannot_create files.now))
         (map string_bytes words.now) result
-        (written (O.given out.old) (O.given out.new) (O.failures out.old) (O.failures out.new))
-        (written (E.given error.old) (E.given error.new) (E.failures error.old)
+        (writer_change (O.given out.old) (O.given out.new) (O.failures out.old)
+        (O.failures out.new))
+        (writer_change (E.given error.old) (E.given error.new) (E.failures error.old)
         (E.failures error.new)) }
     ensures mistaken { result.status ≡ Status.Usage → IsMistaken (map string_bytes words.now) }
     ensures nothing { result.status ≡ Status.Usage → O.given out.new ≡ O.given out.old }
     ensures usage { result.status ≡ Status.Usage → (text : List ℕ)
-        × ReportsLine (written (E.given error.old) (E.given error.new) (E.failures error.old)
+        × ReportsLine (writer_change (E.given error.old) (E.given error.new) (E.failures error.old)
         (E.failures error.new)) text }
     ensures differs { result.status ≡ Status.Differs
         → HasDifferences (state_by F.Writer.given F.Writer.failures)
         (named_files (F.contents files.now) (F.has_opened files.now) (F.cannot_open files.now)
         (F.begun files.now) (F.has_created files.now) (F.cannot_create files.now))
         (map string_bytes words.now) result
-        (written (O.given out.old) (O.given out.new) (O.failures out.old) (O.failures out.new)) }
+        (writer_change (O.given out.old) (O.given out.new) (O.failures out.old)
+        (O.failures out.new)) }
 {
     match read_words(alloc, words) {
         Ok(line) if line.sharding.is_several() => {

@@ -3,7 +3,7 @@
 ghost use Rattle.std.specs.Prelude.{◌≡◌, ◌≤◌, ◌<◌, ◌≢◌, map, true, vec_len};
 ghost use Rattle.std.specs.Io.KnownBytes.{Keeps};
 ghost use Rattle.replay_program.specs.Met.{HasMet};
-ghost use Rattle.replay_program.specs.Replayed.{IsReplayed, FailsToReplay, written};
+ghost use Rattle.replay_program.specs.Replayed.{IsReplayed, FailsToReplay, writer_change};
 
 use crate::met::{Ended, Met, is_unwritten};
 use crate::reached::Reached;
@@ -53,11 +53,12 @@ pub fn replay_over<
     // Something failed, and its lines were written, or the writer failed.
     ensures failed { result.status ≡ Status.Failed
         → FailsToReplay options (map S.remaining readers.items)
-        (written (O.given out.old) (O.given out.new) (O.failures out.old) (O.failures out.new))
-        (written (E.given error.old) (E.given error.new) (E.failures error.old)
+        (writer_change (O.given out.old) (O.given out.new) (O.failures out.old)
+        (O.failures out.new))
+        (writer_change (E.given error.old) (E.given error.new) (E.failures error.old)
         (E.failures error.new)) }
     ensures met { HasMet options (map S.remaining readers.items) result.met
-        (written (E.given error.old) (E.given error.new) (E.failures error.old)
+        (writer_change (E.given error.old) (E.given error.new) (E.failures error.old)
         (E.failures error.new)) }
     ensures output_failed { result.met.output_failed ≡ true
         → O.failures out.old < O.failures out.new }

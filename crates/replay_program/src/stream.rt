@@ -8,7 +8,7 @@ ghost use Rattle.replay_output.specs.Failures.{NothingFailed, failure_lines};
 ghost use Rattle.replay_output.specs.Unwritten.{unwritten_lines};
 ghost use Rattle.replay_stream.specs.Sinks.{state_by};
 ghost use Rattle.replay_program.specs.Met.{HasMet};
-ghost use Rattle.replay_program.specs.Replayed.{written};
+ghost use Rattle.replay_program.specs.Replayed.{writer_change};
 ghost use Rattle.replay_program.specs.Streamed.{FailsToStream, IsStreamDone};
 
 use crate::met::Met;
@@ -65,11 +65,12 @@ pub fn stream_over<
     ensures failed { result.status ≡ Status.Failed
         → FailsToStream (state_by W.given W.failures) options (map S.remaining readers.items)
         records.items result.recorders.items
-        (written (O.given out.old) (O.given out.new) (O.failures out.old) (O.failures out.new))
-        (written (E.given error.old) (E.given error.new) (E.failures error.old)
+        (writer_change (O.given out.old) (O.given out.new) (O.failures out.old)
+        (O.failures out.new))
+        (writer_change (E.given error.old) (E.given error.new) (E.failures error.old)
         (E.failures error.new)) }
     ensures met { HasMet options (map S.remaining readers.items) result.met
-        (written (E.given error.old) (E.given error.new) (E.failures error.old)
+        (writer_change (E.given error.old) (E.given error.new) (E.failures error.old)
         (E.failures error.new)) }
     ensures output_failed { result.met.output_failed ≡ true
         → O.failures out.old < O.failures out.new }

@@ -6,7 +6,7 @@ ghost use Rattle.std.specs.Prelude.{IsErr, OnOk, true, vec_len};
 ghost use Rattle.std.specs.Io.KnownBytes.{Appends, Keeps};
 ghost use Rattle.replay_output.specs.Failures.{failure_lines, with_loss};
 ghost use Rattle.replay_program.specs.Met.{HasMet};
-ghost use Rattle.replay_program.specs.Replayed.{written};
+ghost use Rattle.replay_program.specs.Replayed.{writer_change};
 ghost use Rattle.replay_program.specs.Summarized.{FailsToSummarize, IsSummarized};
 
 use crate::explain::report_loss;
@@ -75,11 +75,12 @@ pub fn summarize_over<
     // Something failed, and its lines were written, or the writer failed.
     ensures failed { result.status ≡ Status.Failed
         → FailsToSummarize summary.form summary.top options (map S.remaining readers.items)
-        (written (O.given out.old) (O.given out.new) (O.failures out.old) (O.failures out.new))
-        (written (E.given error.old) (E.given error.new) (E.failures error.old)
+        (writer_change (O.given out.old) (O.given out.new) (O.failures out.old)
+        (O.failures out.new))
+        (writer_change (E.given error.old) (E.given error.new) (E.failures error.old)
         (E.failures error.new)) }
     ensures met { HasMet options (map S.remaining readers.items) result.met
-        (written (E.given error.old) (E.given error.new) (E.failures error.old)
+        (writer_change (E.given error.old) (E.given error.new) (E.failures error.old)
         (E.failures error.new)) }
     ensures output_failed { result.met.output_failed ≡ true
         → O.failures out.old < O.failures out.new }
@@ -121,11 +122,12 @@ fn summarize_alone<
     ensures quiet { result.status ≡ Status.Done → Keeps (E.given error.old) (E.given error.new) }
     ensures failed { result.status ≡ Status.Failed
         → FailsToSummarize form None options (map S.remaining readers.items)
-        (written (O.given out.old) (O.given out.new) (O.failures out.old) (O.failures out.new))
-        (written (E.given error.old) (E.given error.new) (E.failures error.old)
+        (writer_change (O.given out.old) (O.given out.new) (O.failures out.old)
+        (O.failures out.new))
+        (writer_change (E.given error.old) (E.given error.new) (E.failures error.old)
         (E.failures error.new)) }
     ensures met { HasMet options (map S.remaining readers.items) result.met
-        (written (E.given error.old) (E.given error.new) (E.failures error.old)
+        (writer_change (E.given error.old) (E.given error.new) (E.failures error.old)
         (E.failures error.new)) }
     ensures output_failed { result.met.output_failed ≡ true
         → O.failures out.old < O.failures out.new }
@@ -193,11 +195,12 @@ fn summarize_with_top<
     ensures quiet { result.status ≡ Status.Done → Keeps (E.given error.old) (E.given error.new) }
     ensures failed { result.status ≡ Status.Failed
         → FailsToSummarize wanted.form (Some wanted.most) options (map S.remaining readers.items)
-        (written (O.given out.old) (O.given out.new) (O.failures out.old) (O.failures out.new))
-        (written (E.given error.old) (E.given error.new) (E.failures error.old)
+        (writer_change (O.given out.old) (O.given out.new) (O.failures out.old)
+        (O.failures out.new))
+        (writer_change (E.given error.old) (E.given error.new) (E.failures error.old)
         (E.failures error.new)) }
     ensures met { HasMet options (map S.remaining readers.items) result.met
-        (written (E.given error.old) (E.given error.new) (E.failures error.old)
+        (writer_change (E.given error.old) (E.given error.new) (E.failures error.old)
         (E.failures error.new)) }
     ensures output_failed { result.met.output_failed ≡ true
         → O.failures out.old < O.failures out.new }

@@ -6,7 +6,7 @@ ghost use Rattle.keyspace.specs.declared.batch.Batch.{Batch as BatchValue};
 ghost use Rattle.replay_diagnosis.specs.Following.{HasLeast};
 ghost use Rattle.replay_diagnosis.specs.Remedy.{remedy_line, run_remedy_line};
 ghost use Rattle.replay_program.specs.Program.{texts};
-ghost use Rattle.replay_program.specs.Replayed.{written};
+ghost use Rattle.replay_program.specs.Replayed.{writer_change};
 ghost use Rattle.replay_program.specs.Summarized.{TookUnlessFailed};
 ghost use Rattle.replay_program.specs.Verbose.{IsExplained, IsFoundOf, IsGateFinding};
 
@@ -36,7 +36,7 @@ pub fn explain_failure<F: Files, E: Sink>(
 )
     ensures explained { IsExplained (F.contents files.now) (F.cannot_open files.now)
         (texts line.now.files.items) line.now.options.limit met
-        (written (E.given error.old) (E.given error.new) (E.failures error.old)
+        (writer_change (E.given error.old) (E.given error.new) (E.failures error.old)
         (E.failures error.new)) }
 {
     let batches = match examine_files(alloc, files, &line.files) {
@@ -52,7 +52,8 @@ pub fn explain_failure<F: Files, E: Sink>(
 // Writes the line about a file.
 fn say_of_file<E: Sink>(alloc: Global, error: &mut E, found: &FileFinding)
     ensures said { (E.given error.new ≡ E.given error.old)
-        ⊎ TookUnlessFailed (written (E.given error.old) (E.given error.new) (E.failures error.old)
+        ⊎ TookUnlessFailed
+        (writer_change (E.given error.old) (E.given error.new) (E.failures error.old)
         (E.failures error.new)) (remedy_line found.now.name.now found.now.finding) }
 {
     let _ = write_remedy(alloc, error, found.name, &found.finding);
@@ -61,7 +62,8 @@ fn say_of_file<E: Sink>(alloc: Global, error: &mut E, found: &FileFinding)
 // Writes the line about a run.
 fn say_of_run<E: Sink>(alloc: Global, error: &mut E, finding: &RunFinding)
     ensures said { (E.given error.new ≡ E.given error.old)
-        ⊎ TookUnlessFailed (written (E.given error.old) (E.given error.new) (E.failures error.old)
+        ⊎ TookUnlessFailed
+        (writer_change (E.given error.old) (E.given error.new) (E.failures error.old)
         (E.failures error.new)) (run_remedy_line finding.now) }
 {
     let _ = write_run_remedy(alloc, error, finding);

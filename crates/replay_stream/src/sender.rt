@@ -2,7 +2,7 @@
 
 ghost use Rattle.std.specs.Prelude.{◌≡◌, ◌<◌, ◌⊎◌, [], ◌∷◌, ◌++◌, length, None};
 ghost use Rattle.std.specs.Prelude.{IsTrue, OnOk, OnErr, IfErr};
-ghost use Rattle.flow.specs.Share.{unanswered};
+ghost use Rattle.flow.specs.Share.{unanswered_count};
 ghost use Rattle.lane.specs.Lane.{PortContinues};
 ghost use Rattle.lane.specs.Refused.{item_of};
 ghost use Rattle.replay_workers.specs.Reporting.{SendsFrames};
@@ -171,7 +171,7 @@ impl Sender {
         ensures unchanged { OnErr result (self.new.requests.sent ≡ self.old.requests.sent) }
         ensures returned { IfErr result (λ refused. item_of refused ≡ batch) }
         ensures share { OnOk result
-            ((unanswered (length self.old.requests.sent) answered < self.old.share)
+            ((unanswered_count (length self.old.requests.sent) answered < self.old.share)
             ⊎ G.admits gatekeeper.now self.old.proxy
             record { previous = batch.previous; answered = answered }) }
     {
@@ -192,7 +192,7 @@ impl Sender {
         batch: &Batch,
     ) -> bool
         ensures share { IsTrue result
-            → (unanswered (length self.now.requests.sent) answered < self.now.share)
+            → (unanswered_count (length self.now.requests.sent) answered < self.now.share)
             ⊎ G.admits gatekeeper.now self.now.proxy
             record { previous = batch.now.previous; answered = answered } }
     {

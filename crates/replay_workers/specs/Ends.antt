@@ -3,7 +3,7 @@ use Rattle.std.specs.Prelude.{◌≡◌, ℕ, ◌<◌, length}
 use Rattle.keyspace.specs.declared.batch.Batch.{Batch}
 use Rattle.keyspace.specs.declared.answer.Answer.{Answer}
 use Rattle.flow.specs.declared.reported_state.Stand.{Stand}
-use Rattle.flow.specs.Share.{unanswered}
+use Rattle.flow.specs.Share.{unanswered_count}
 use Rattle.lane.specs.Lane.{PortView, IntakeView, PortContinues, IntakeContinues}
 use Rattle.replay_workers.specs.declared.ends.Ends.{Ends}
 
@@ -22,11 +22,11 @@ pub record SendsNothing (old new : Ends) : Type 0 where
 
 -- the number of batches that these ends have sent and that aren't answered yet
 abbrev pub unanswered_of : Ends → ℕ
-unanswered_of ends = unanswered (length ends.requests.sent) (length ends.replies.taken)
+unanswered_of ends = unanswered_count (length ends.requests.sent) (length ends.replies.taken)
 
 -- by what these ends have sent and taken, the share isn't used up
 abbrev pub IsBelowShare : ℕ → PortView Batch → IntakeView Answer → Type 0
-IsBelowShare share requests replies = unanswered (length requests.sent) (length replies.taken) < share
+IsBelowShare share requests replies = unanswered_count (length requests.sent) (length replies.taken) < share
 
 -- the report with this batch ready
 abbrev pub stand_with : Batch → IntakeView Answer → Stand

@@ -224,30 +224,30 @@ stop_met_on h k met running =
     ]
 
 -- what a turn answers, by what the step has taken and whether the reply lanes are closed
-abbrev pub reported : Option ℕ → Bool → Turn
-reported (Some proxy) closed = turn.Took proxy
-reported None true = turn.Done
-reported None false = turn.Idle
+abbrev pub reported_turn : Option ℕ → Bool → Turn
+reported_turn (Some proxy) closed = turn.Took proxy
+reported_turn None true = turn.Done
+reported_turn None false = turn.Idle
 
 pub StepsBy-reported : (old new : ResolverState) (taken : Option ℕ) (closed : Bool)
     → ((proxy : ℕ) → taken ≡ Some proxy → TakesFrom proxy old new)
-    → (taken ≡ None → Finishes old new ⊎ TakesNoStep old new) → StepsBy (reported taken closed) old new
+    → (taken ≡ None → Finishes old new ⊎ TakesNoStep old new) → StepsBy (reported_turn taken closed) old new
 StepsBy-reported old new (Some proxy) closed took none = took proxy refl
 StepsBy-reported old new None true took none = none refl
 StepsBy-reported old new None false took none = none refl
 
 pub IfNotTaken-reported : (taken : Option ℕ) (closed : Bool) (P : Type 0) → (taken ≡ None → P)
-    → IfNotTaken (reported taken closed) P
+    → IfNotTaken (reported_turn taken closed) P
 IfNotTaken-reported (Some proxy) closed P none = tt
 IfNotTaken-reported None true P none = none refl
 IfNotTaken-reported None false P none = none refl
 
-pub took-reported : (taken : Option ℕ) (closed : Bool) (proxy : ℕ) → reported taken closed ≡ turn.Took proxy → taken ≡ Some proxy
+pub took-reported : (taken : Option ℕ) (closed : Bool) (proxy : ℕ) → reported_turn taken closed ≡ turn.Took proxy → taken ≡ Some proxy
 took-reported (Some other) closed proxy is = cc
 took-reported None true proxy is = cc
 took-reported None false proxy is = cc
 
-pub done-reported : (taken : Option ℕ) (closed : Bool) → reported taken closed ≡ turn.Done → (taken ≡ None) × (closed ≡ true)
+pub done-reported : (taken : Option ℕ) (closed : Bool) → reported_turn taken closed ≡ turn.Done → (taken ≡ None) × (closed ≡ true)
 done-reported (Some other) closed is = cc
 done-reported None true is = (refl, refl)
 done-reported None false is = cc
@@ -272,7 +272,7 @@ none_taken_where (Some proxy) not = absurd (not proxy refl)
 -- when a turn answers that all is done
 module _ (mid new : ResolverState) (a : AnswersOver mid new) (taken : Option ℕ) (closed : Bool)
     (running : mid.core.stop ≡ None) where
-  pub done_means : (closed ≡ true → IsThrough new) → reported taken closed ≡ turn.Done
+  pub done_means : (closed ≡ true → IsThrough new) → reported_turn taken closed ≡ turn.Done
       → (all_ended new.lanes ≡ true) × (owed_count new.core.owed ≡ 0)
   done_means through is =
       let ends = through (done-reported taken closed is).1 in (
@@ -284,7 +284,7 @@ module _ (mid new : ResolverState) (a : AnswersOver mid new) (taken : Option ℕ
       )
 
   pub done_where : (IsThrough new → closed ≡ true) → ((proxy : ℕ) → taken ≡ Some proxy → all_ended mid.lanes ≡ false)
-      → (all_ended new.lanes ≡ true) × (owed_count new.core.owed ≡ 0) → reported taken closed ≡ turn.Done
+      → (all_ended new.lanes ≡ true) × (owed_count new.core.owed ≡ 0) → reported_turn taken closed ≡ turn.Done
   done_where through still_open both =
       let is_closed = through (record { nothing_owed = both.1; no_more = inl both.0 }) in
       let none : taken ≡ None = none_taken_where taken (λ proxy is.

@@ -4,14 +4,14 @@
 ghost use Rattle.std.specs.Prelude.{◌≡◌, ◌≤ℤ◌, ◌<ℤ◌, ◌++◌, ◌⊎◌, List, [], None, Some, Err};
 ghost use Rattle.std.specs.Prelude.{IfOk, IfErr, OnOk, OnErr, IfSome};
 ghost use Rattle.keyspace.specs.declared.reply.Entry.{Entry};
-ghost use Rattle.keyspace.specs.Writes.{Write, at_version, committed, writes_of};
+ghost use Rattle.keyspace.specs.Writes.{Write, at_version, committed_ranges, writes_of};
 ghost use Rattle.keyspace.specs.Judge.{judge_txns};
 ghost use Rattle.keyspace.specs.Judged.{edge, Judged};
 ghost use Rattle.stepmap.specs.Boundary.{AreUpTo};
 ghost use Rattle.stepmap.specs.Covers.{MapCovers};
 ghost use Rattle.stepmap.specs.Rooted.{Rooted};
 ghost use Rattle.conflict.specs.ConflictSet.{Remembers, IsSwept, IsOverLimit, IsOverLimitUnited};
-ghost use Rattle.conflict.specs.ConflictSet.{raised, HasRoomToWrite, HasNoRoomToWrite};
+ghost use Rattle.conflict.specs.ConflictSet.{with_edge, HasRoomToWrite, HasNoRoomToWrite};
 ghost use Rattle.conflict.specs.Pace.{IsPaced};
 
 use super::{ConflictSet, edge_of};
@@ -40,10 +40,10 @@ impl ConflictSet {
         ensures swept { IfOk result (λ reply. (ws : List Write) → Rooted self.old.map ws
             → IsSwept (edge self.old.window batch.now) self.old.map self.new.map
             (ws ++ writes_of batch.now reply)
-            (committed batch.now.txns reply.entries)) }
+            (committed_ranges batch.now.txns reply.entries)) }
         ensures paced { IfOk result (λ reply. IsPaced (edge self.old.window batch.now)
             batch.now.version
-            self.old.map self.new.map (committed batch.now.txns reply.entries)) }
+            self.old.map self.new.map (committed_ranges batch.now.txns reply.entries)) }
         ensures resolved { OnOk result (self.new.resolved ≡ batch.now.version) }
         ensures unresolved { OnErr result (self.new.resolved ≡ self.old.resolved) }
         ensures window { self.new.window ≡ self.old.window }
@@ -68,24 +68,24 @@ impl ConflictSet {
             → (ws : List Write) (reply : Reply)
             → Remembers self.old ws → Judged self.old.window ws batch.now reply
             → IsOverLimitUnited self.old.map.limit (edge self.old.window batch.now) ws
-            (committed batch.now.txns reply.entries) }
+            (committed_ranges batch.now.txns reply.entries) }
 
         // What the batch commits fits within the limit where it is resolved, and doesn't where the
         // set is full. A stop for memory comes before a complete round is swept, or it fits then.
         ensures room { IfOk result (λ reply. HasRoomToWrite
-            (raised (edge self.old.window batch.now) self.old.map)
-            (committed batch.now.txns reply.entries)) }
+            (with_edge (edge self.old.window batch.now) self.old.map)
+            (committed_ranges batch.now.txns reply.entries)) }
         ensures no_room { self.old.stop ≡ None → result ≡ Err SetStop.ArenaFull
             → (ws : List Write) (reply : Reply)
             → Remembers self.old ws → Judged self.old.window ws batch.now reply
-            → HasNoRoomToWrite (raised (edge self.old.window batch.now) self.old.map)
-            (committed batch.now.txns reply.entries) }
+            → HasNoRoomToWrite (with_edge (edge self.old.window batch.now) self.old.map)
+            (committed_ranges batch.now.txns reply.entries) }
         ensures memory { self.old.stop ≡ None → result ≡ Err SetStop.Memory
             → (ws : List Write) (reply : Reply)
             → Remembers self.old ws → Judged self.old.window ws batch.now reply
             → (self.new.map.boundaries ≡ self.old.map.boundaries)
-            ⊎ HasRoomToWrite (raised (edge self.old.window batch.now) self.old.map)
-            (committed batch.now.txns reply.entries) }
+            ⊎ HasRoomToWrite (with_edge (edge self.old.window batch.now) self.old.map)
+            (committed_ranges batch.now.txns reply.entries) }
     {
         if let Some(stop) = self.stop {
             return Err(stop);
@@ -134,9 +134,9 @@ fn resolve_at(
         → Rooted steps.new (ws ++ writes_of batch.now reply)) }
     ensures swept { IfOk result (λ reply. (ws : List Write) → Rooted steps.old ws
         → IsSwept edge steps.old steps.new (ws ++ writes_of batch.now reply)
-        (committed batch.now.txns reply.entries)) }
+        (committed_ranges batch.now.txns reply.entries)) }
     ensures paced { IfOk result (λ reply. IsPaced edge batch.now.version steps.old steps.new
-        (committed batch.now.txns reply.entries)) }
+        (committed_ranges batch.now.txns reply.entries)) }
     ensures edge { OnOk result (steps.new.edge ≡ edge) }
     ensures newest { OnOk result (AreUpTo batch.now.version steps.new.boundaries) }
     ensures limit { steps.new.limit ≡ steps.old.limit }
@@ -148,22 +148,22 @@ fn resolve_at(
         → MapCovers steps.old ws → Rooted steps.old ws
         → entries ≡ judge_txns edge ws [] batch.now.txns
         → IsOverLimit steps.old.limit edge
-        (ws ++ at_version batch.now.version (committed batch.now.txns entries)) }
+        (ws ++ at_version batch.now.version (committed_ranges batch.now.txns entries)) }
     ensures full_united { result ≡ Err SetStop.ArenaFull → (ws : List Write) (entries : List Entry)
         → MapCovers steps.old ws → Rooted steps.old ws
         → entries ≡ judge_txns edge ws [] batch.now.txns
-        → IsOverLimitUnited steps.old.limit edge ws (committed batch.now.txns entries) }
+        → IsOverLimitUnited steps.old.limit edge ws (committed_ranges batch.now.txns entries) }
     ensures refused { when_full ≡ WhenFull.Refuse → result ≡ Err SetStop.ArenaFull
         → steps.new ≡ steps.old }
-    ensures room { IfOk result (λ reply. HasRoomToWrite (raised edge steps.old)
-        (committed batch.now.txns reply.entries)) }
+    ensures room { IfOk result (λ reply. HasRoomToWrite (with_edge edge steps.old)
+        (committed_ranges batch.now.txns reply.entries)) }
     ensures no_room { result ≡ Err SetStop.ArenaFull → (ws : List Write) (entries : List Entry)
         → MapCovers steps.old ws → entries ≡ judge_txns edge ws [] batch.now.txns
-        → HasNoRoomToWrite (raised edge steps.old) (committed batch.now.txns entries) }
+        → HasNoRoomToWrite (with_edge edge steps.old) (committed_ranges batch.now.txns entries) }
     ensures memory { result ≡ Err SetStop.Memory → (ws : List Write) (entries : List Entry)
         → MapCovers steps.old ws → entries ≡ judge_txns edge ws [] batch.now.txns
         → (steps.new.boundaries ≡ steps.old.boundaries)
-        ⊎ HasRoomToWrite (raised edge steps.old) (committed batch.now.txns entries) }
+        ⊎ HasRoomToWrite (with_edge edge steps.old) (committed_ranges batch.now.txns entries) }
 {
     let entries = judge_batch(
         alloc,

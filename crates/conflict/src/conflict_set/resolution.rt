@@ -2,12 +2,12 @@
 
 ghost use Rattle.std.specs.Prelude.{◌≡◌, ◌<ℤ◌, ◌++◌, ◌⊎◌, List, None, Some, Err};
 ghost use Rattle.std.specs.Prelude.{IfOk, IfErr, OnOk, OnErr, IfSome};
-ghost use Rattle.keyspace.specs.Writes.{Write, committed, writes_of};
+ghost use Rattle.keyspace.specs.Writes.{Write, committed_ranges, writes_of};
 ghost use Rattle.keyspace.specs.Judged.{edge, Judged};
 ghost use Rattle.stepmap.specs.Covers.{MapCovers};
 ghost use Rattle.stepmap.specs.Rooted.{Rooted};
 ghost use Rattle.conflict.specs.ConflictSet.{Remembers, IsSwept, IsOverLimit, IsOverLimitUnited};
-ghost use Rattle.conflict.specs.ConflictSet.{raised, HasRoomToWrite, HasNoRoomToWrite};
+ghost use Rattle.conflict.specs.ConflictSet.{with_edge, HasRoomToWrite, HasNoRoomToWrite};
 ghost use Rattle.conflict.specs.Pace.{IsPaced};
 
 use super::ConflictSet;
@@ -34,10 +34,10 @@ impl ConflictSet {
         ensures swept { IfOk result (λ reply. (ws : List Write) → Rooted self.old.map ws
             → IsSwept (edge self.old.window batch.now) self.old.map self.new.map
             (ws ++ writes_of batch.now reply)
-            (committed batch.now.txns reply.entries)) }
+            (committed_ranges batch.now.txns reply.entries)) }
         ensures paced { IfOk result (λ reply. IsPaced (edge self.old.window batch.now)
             batch.now.version
-            self.old.map self.new.map (committed batch.now.txns reply.entries)) }
+            self.old.map self.new.map (committed_ranges batch.now.txns reply.entries)) }
         ensures resolved { OnOk result (self.new.resolved ≡ batch.now.version) }
         ensures unresolved { OnErr result (self.new.resolved ≡ self.old.resolved) }
         ensures window { self.new.window ≡ self.old.window }
@@ -57,24 +57,24 @@ impl ConflictSet {
             → (ws : List Write) (reply : Reply)
             → Remembers self.old ws → Judged self.old.window ws batch.now reply
             → IsOverLimitUnited self.old.map.limit (edge self.old.window batch.now) ws
-            (committed batch.now.txns reply.entries) }
+            (committed_ranges batch.now.txns reply.entries) }
 
         // What the batch commits fits within the limit where it is resolved, and doesn't where the
         // set is full. A stop for memory comes before a complete round is swept, or it fits then.
         ensures room { IfOk result (λ reply. HasRoomToWrite
-            (raised (edge self.old.window batch.now) self.old.map)
-            (committed batch.now.txns reply.entries)) }
+            (with_edge (edge self.old.window batch.now) self.old.map)
+            (committed_ranges batch.now.txns reply.entries)) }
         ensures no_room { self.old.stop ≡ None → result ≡ Err SetStop.ArenaFull
             → (ws : List Write) (reply : Reply)
             → Remembers self.old ws → Judged self.old.window ws batch.now reply
-            → HasNoRoomToWrite (raised (edge self.old.window batch.now) self.old.map)
-            (committed batch.now.txns reply.entries) }
+            → HasNoRoomToWrite (with_edge (edge self.old.window batch.now) self.old.map)
+            (committed_ranges batch.now.txns reply.entries) }
         ensures memory { self.old.stop ≡ None → result ≡ Err SetStop.Memory
             → (ws : List Write) (reply : Reply)
             → Remembers self.old ws → Judged self.old.window ws batch.now reply
             → (self.new.map.boundaries ≡ self.old.map.boundaries)
-            ⊎ HasRoomToWrite (raised (edge self.old.window batch.now) self.old.map)
-            (committed batch.now.txns reply.entries) }
+            ⊎ HasRoomToWrite (with_edge (edge self.old.window batch.now) self.old.map)
+            (committed_ranges batch.now.txns reply.entries) }
     {
         self.resolve_when(batch, WhenFull::Stop)
     }
@@ -102,10 +102,10 @@ impl ConflictSet {
         ensures swept { IfOk result (λ reply. (ws : List Write) → Rooted self.old.map ws
             → IsSwept (edge self.old.window batch.now) self.old.map self.new.map
             (ws ++ writes_of batch.now reply)
-            (committed batch.now.txns reply.entries)) }
+            (committed_ranges batch.now.txns reply.entries)) }
         ensures paced { IfOk result (λ reply. IsPaced (edge self.old.window batch.now)
             batch.now.version
-            self.old.map self.new.map (committed batch.now.txns reply.entries)) }
+            self.old.map self.new.map (committed_ranges batch.now.txns reply.entries)) }
         ensures resolved { OnOk result (self.new.resolved ≡ batch.now.version) }
         ensures unresolved { OnErr result (self.new.resolved ≡ self.old.resolved) }
         ensures window { self.new.window ≡ self.old.window }
@@ -126,24 +126,24 @@ impl ConflictSet {
             → (ws : List Write) (reply : Reply)
             → Remembers self.old ws → Judged self.old.window ws batch.now reply
             → IsOverLimitUnited self.old.map.limit (edge self.old.window batch.now) ws
-            (committed batch.now.txns reply.entries) }
+            (committed_ranges batch.now.txns reply.entries) }
 
         // What the batch commits fits within the limit where it is resolved, and doesn't where the
         // set is full. A stop for memory comes before a complete round is swept, or it fits then.
         ensures room { IfOk result (λ reply. HasRoomToWrite
-            (raised (edge self.old.window batch.now) self.old.map)
-            (committed batch.now.txns reply.entries)) }
+            (with_edge (edge self.old.window batch.now) self.old.map)
+            (committed_ranges batch.now.txns reply.entries)) }
         ensures no_room { self.old.stop ≡ None → result ≡ Err SetStop.ArenaFull
             → (ws : List Write) (reply : Reply)
             → Remembers self.old ws → Judged self.old.window ws batch.now reply
-            → HasNoRoomToWrite (raised (edge self.old.window batch.now) self.old.map)
-            (committed batch.now.txns reply.entries) }
+            → HasNoRoomToWrite (with_edge (edge self.old.window batch.now) self.old.map)
+            (committed_ranges batch.now.txns reply.entries) }
         ensures memory { self.old.stop ≡ None → result ≡ Err SetStop.Memory
             → (ws : List Write) (reply : Reply)
             → Remembers self.old ws → Judged self.old.window ws batch.now reply
             → (self.new.map.boundaries ≡ self.old.map.boundaries)
-            ⊎ HasRoomToWrite (raised (edge self.old.window batch.now) self.old.map)
-            (committed batch.now.txns reply.entries) }
+            ⊎ HasRoomToWrite (with_edge (edge self.old.window batch.now) self.old.map)
+            (committed_ranges batch.now.txns reply.entries) }
     {
         self.resolve_when(batch, WhenFull::Refuse)
     }

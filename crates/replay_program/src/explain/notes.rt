@@ -3,7 +3,7 @@
 ghost use Rattle.std.specs.Prelude.{◌≡◌, ◌≢◌, ◌<◌, ℤ, [], map, length, vec_items, IfErr, OnErr};
 ghost use Rattle.std.specs.Prelude.{IsOk, OnOk};
 ghost use Rattle.replay_explanations.specs.Explainer.{text_of};
-ghost use Rattle.replay_program.specs.Explained.{noted, noted_each, with_explanation};
+ghost use Rattle.replay_program.specs.Explained.{line_with_note, noted_each, with_explanation};
 
 use replay_explanations::{Explainer, ExplanationForm};
 use replay_output::Line;
@@ -30,7 +30,7 @@ pub fn explain_lines(explainer: &Explainer, lines: &mut [Vec<Line>]) -> Result<(
 
 fn explain_proxy(explainer: &Explainer, proxy: usize, lines: &mut [Line]) -> io::Result<()>
     ensures noted { OnOk result (lines.new
-        ≡ map (noted explainer.now.form (text_of explainer.now.texts) proxy) lines.old) }
+        ≡ map (line_with_note explainer.now.form (text_of explainer.now.texts) proxy) lines.old) }
     ensures takes { OnErr result ((version : ℤ)
         × (text_of explainer.now.texts proxy version ≢ [])) }
 {
@@ -42,7 +42,7 @@ fn explain_proxy(explainer: &Explainer, proxy: usize, lines: &mut [Line]) -> io:
 
 fn explain_line(explainer: &Explainer, proxy: usize, line: &mut Line) -> io::Result<()>
     ensures noted { OnOk result (line.new
-        ≡ noted explainer.now.form (text_of explainer.now.texts) proxy line.old) }
+        ≡ line_with_note explainer.now.form (text_of explainer.now.texts) proxy line.old) }
     ensures takes { OnErr result ((version : ℤ)
         × (text_of explainer.now.texts proxy version ≢ [])) }
 {

@@ -6,7 +6,7 @@ ghost use Rattle.replay_program.specs.Ended.{HasDifferences, HasNoMemory, IsDone
 ghost use Rattle.replay_program.specs.Ended.{IsQuiet};
 ghost use Rattle.replay_program.specs.Program.{HasReadNoText, ReportsLine, named_files, not_text};
 ghost use Rattle.replay_program.specs.ShardedProgram.{regular_files};
-ghost use Rattle.replay_program.specs.Replayed.{written};
+ghost use Rattle.replay_program.specs.Replayed.{writer_change};
 ghost use Rattle.replay_stream.specs.Sinks.{state_by};
 ghost use Rattle.replay_output.specs.Start.{start_line};
 ghost use Rattle.replay_arguments.specs.Arguments.{IsMistaken};
@@ -45,39 +45,44 @@ pub fn run_in<R: Threads + Wait + Copy + Send + 'static, V: Env, F: Files, O: Si
         × IsDone (state_by F.Writer.given F.Writer.failures)
         (named_files (F.contents files.now) (F.has_opened files.now) (F.cannot_open files.now)
         (F.begun files.now) (F.has_created files.now) (F.cannot_create files.now)) words result
-        (written (O.given out.old) (O.given out.new) (O.failures out.old) (O.failures out.new)) }
+        (writer_change (O.given out.old) (O.given out.new) (O.failures out.old)
+        (O.failures out.new)) }
     ensures quiet { result.status ≡ Status.Done → (words : List (List ℕ))
         × IsQuiet (F.contents files.now) words
-        (written (E.given error.old) (E.given error.new) (E.failures error.old)
+        (writer_change (E.given error.old) (E.given error.new) (E.failures error.old)
         (E.failures error.new)) }
     ensures differs { result.status ≡ Status.Differs → (words : List (List ℕ))
         × HasDifferences (state_by F.Writer.given F.Writer.failures)
         (named_files (F.contents files.now) (F.has_opened files.now) (F.cannot_open files.now)
         (F.begun files.now) (F.has_created files.now) (F.cannot_create files.now)) words result
-        (written (O.given out.old) (O.given out.new) (O.failures out.old) (O.failures out.new)) }
+        (writer_change (O.given out.old) (O.given out.new) (O.failures out.old)
+        (O.failures out.new)) }
     ensures quiet_too { result.status ≡ Status.Differs → (words : List (List ℕ))
         × IsQuiet (F.contents files.now) words
-        (written (E.given error.old) (E.given error.new) (E.failures error.old)
+        (writer_change (E.given error.old) (E.given error.new) (E.failures error.old)
         (E.failures error.new)) }
     ensures failed { result.status ≡ Status.Failed → HasNoMemory
-        (written (O.given out.old) (O.given out.new) (O.failures out.old) (O.failures out.new))
-        (written (E.given error.old) (E.given error.new) (E.failures error.old)
+        (writer_change (O.given out.old) (O.given out.new) (O.failures out.old)
+        (O.failures out.new))
+        (writer_change (E.given error.old) (E.given error.new) (E.failures error.old)
         (E.failures error.new))
         ⊎ ((words : List (List ℕ)) × IsFailed (state_by F.Writer.given F.Writer.failures)
         (regular_files (F.is_regular files.now) (F.is_irregular files.now))
         (named_files (F.contents files.now) (F.has_opened files.now) (F.cannot_open files.now)
         (F.begun files.now) (F.has_created files.now) (F.cannot_create files.now)) words result
-        (written (O.given out.old) (O.given out.new) (O.failures out.old) (O.failures out.new))
-        (written (E.given error.old) (E.given error.new) (E.failures error.old)
+        (writer_change (O.given out.old) (O.given out.new) (O.failures out.old)
+        (O.failures out.new))
+        (writer_change (E.given error.old) (E.given error.new) (E.failures error.old)
         (E.failures error.new))) }
     ensures mistaken { result.status ≡ Status.Usage → HasReadNoText
-        (written (O.given out.old) (O.given out.new) (O.failures out.old) (O.failures out.new))
-        (written (E.given error.old) (E.given error.new) (E.failures error.old)
+        (writer_change (O.given out.old) (O.given out.new) (O.failures out.old)
+        (O.failures out.new))
+        (writer_change (E.given error.old) (E.given error.new) (E.failures error.old)
         (E.failures error.new))
         ⊎ ((words : List (List ℕ)) × IsMistaken words) }
     ensures nothing { result.status ≡ Status.Usage → O.given out.new ≡ O.given out.old }
     ensures usage { result.status ≡ Status.Usage → (text : List ℕ)
-        × ReportsLine (written (E.given error.old) (E.given error.new) (E.failures error.old)
+        × ReportsLine (writer_change (E.given error.old) (E.given error.new) (E.failures error.old)
         (E.failures error.new)) text }
 {
     match command_line(alloc, environment) {

@@ -8,7 +8,7 @@ ghost use Rattle.replay_program.specs.Program.{EndsQuietly, IsLineDone, LineFail
 ghost use Rattle.replay_program.specs.Program.{LineFailsAndSays, LineFindsDifferences, OfOutput};
 ghost use Rattle.replay_program.specs.Program.{SaysFurther, SaysIfHeld, bytes_of, named_files};
 ghost use Rattle.replay_program.specs.Program.{texts};
-ghost use Rattle.replay_program.specs.Replayed.{HasFailed, written};
+ghost use Rattle.replay_program.specs.Replayed.{HasFailed, writer_change};
 ghost use Rattle.replay_stream.specs.Sinks.{state_by};
 
 use crate::met::Met;
@@ -40,23 +40,26 @@ pub fn run_line<R: Threads + Wait + Copy + Send + 'static, F: Files, O: Sink, E:
         (named_files (F.contents files.now) (F.has_opened files.now) (F.cannot_open files.now)
         (F.begun files.now) (F.has_created files.now) (F.cannot_create files.now))
         line.now result
-        (written (O.given out.old) (O.given out.new) (O.failures out.old) (O.failures out.new)) }
+        (writer_change (O.given out.old) (O.given out.new) (O.failures out.old)
+        (O.failures out.new)) }
     ensures differs { result.status ≡ Status.Differs
         → LineFindsDifferences (state_by F.Writer.given F.Writer.failures)
         (named_files (F.contents files.now) (F.has_opened files.now) (F.cannot_open files.now)
         (F.begun files.now) (F.has_created files.now) (F.cannot_create files.now))
         line.now result
-        (written (O.given out.old) (O.given out.new) (O.failures out.old) (O.failures out.new)) }
+        (writer_change (O.given out.old) (O.given out.new) (O.failures out.old)
+        (O.failures out.new)) }
     ensures quiet { result.status ≢ Status.Failed → EndsQuietly (F.contents files.now) line.now
-        (written (E.given error.old) (E.given error.new) (E.failures error.old)
+        (writer_change (E.given error.old) (E.given error.new) (E.failures error.old)
         (E.failures error.new)) }
     ensures failed { result.status ≡ Status.Failed
         → LineFailsAndSays (state_by F.Writer.given F.Writer.failures)
         (named_files (F.contents files.now) (F.has_opened files.now) (F.cannot_open files.now)
         (F.begun files.now) (F.has_created files.now) (F.cannot_create files.now))
         line.now result
-        (written (O.given out.old) (O.given out.new) (O.failures out.old) (O.failures out.new))
-        (written (E.given error.old) (E.given error.new) (E.failures error.old)
+        (writer_change (O.given out.old) (O.given out.new) (O.failures out.old)
+        (O.failures out.new))
+        (writer_change (E.given error.old) (E.given error.new) (E.failures error.old)
         (E.failures error.new)) }
     ensures ends { result.status ≢ Status.Usage }
 {
@@ -82,34 +85,38 @@ fn do_line<R: Threads + Wait + Copy + Send + 'static, F: Files, O: Sink, E: Sink
         (named_files (F.contents files.now) (F.has_opened files.now) (F.cannot_open files.now)
         (F.begun files.now) (F.has_created files.now) (F.cannot_create files.now))
         line.now result
-        (written (O.given out.old) (O.given out.new) (O.failures out.old) (O.failures out.new)) }
+        (writer_change (O.given out.old) (O.given out.new) (O.failures out.old)
+        (O.failures out.new)) }
     ensures differs { result.status ≡ Status.Differs
         → LineFindsDifferences (state_by F.Writer.given F.Writer.failures)
         (named_files (F.contents files.now) (F.has_opened files.now) (F.cannot_open files.now)
         (F.begun files.now) (F.has_created files.now) (F.cannot_create files.now))
         line.now result
-        (written (O.given out.old) (O.given out.new) (O.failures out.old) (O.failures out.new)) }
+        (writer_change (O.given out.old) (O.given out.new) (O.failures out.old)
+        (O.failures out.new)) }
     ensures quiet { result.status ≢ Status.Failed → Keeps (E.given error.old) (E.given error.new) }
     ensures failed { result.status ≡ Status.Failed
         → LineFails (state_by F.Writer.given F.Writer.failures)
         (named_files (F.contents files.now) (F.has_opened files.now) (F.cannot_open files.now)
         (F.begun files.now) (F.has_created files.now) (F.cannot_create files.now))
         line.now result
-        (written (O.given out.old) (O.given out.new) (O.failures out.old) (O.failures out.new))
-        (written (E.given error.old) (E.given error.new) (E.failures error.old)
+        (writer_change (O.given out.old) (O.given out.new) (O.failures out.old)
+        (O.failures out.new))
+        (writer_change (E.given error.old) (E.given error.new) (E.failures error.old)
         (E.failures error.new)) }
     ensures met { HasMet line.now.options
         (bytes_of (named_files (F.contents files.now) (F.has_opened files.now)
         (F.cannot_open files.now) (F.begun files.now) (F.has_created files.now)
         (F.cannot_create files.now)) line.now) result.met
-        (written (E.given error.old) (E.given error.new) (E.failures error.old)
+        (writer_change (E.given error.old) (E.given error.new) (E.failures error.old)
         (E.failures error.new)) }
     ensures output_failed { result.met.output_failed ≡ true
         → OfOutput (state_by F.Writer.given F.Writer.failures)
         (named_files (F.contents files.now) (F.has_opened files.now) (F.cannot_open files.now)
         (F.begun files.now) (F.has_created files.now) (F.cannot_create files.now))
         line.now result
-        (written (O.given out.old) (O.given out.new) (O.failures out.old) (O.failures out.new))
+        (writer_change (O.given out.old) (O.given out.new) (O.failures out.old)
+        (O.failures out.new))
         HasFailed }
     ensures ends { result.status ≢ Status.Usage }
 {
@@ -146,11 +153,11 @@ pub fn say_more<F: Files, E: Sink>(
 )
     ensures quiet { status ≢ Status.Failed → SaysIfHeld line.now.verbose
         (F.contents files.now) (texts line.now.files.items)
-        (written (E.given error.old) (E.given error.new) (E.failures error.old)
+        (writer_change (E.given error.old) (E.given error.new) (E.failures error.old)
         (E.failures error.new)) }
     ensures further { status ≡ Status.Failed → SaysFurther line.now.verbose
         (F.contents files.now) (F.cannot_open files.now) line.now met
-        (written (E.given error.old) (E.given error.new) (E.failures error.old)
+        (writer_change (E.given error.old) (E.given error.new) (E.failures error.old)
         (E.failures error.new)) }
 {
     let verbose = line.verbose;

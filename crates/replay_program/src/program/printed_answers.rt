@@ -4,7 +4,7 @@ ghost use Rattle.std.specs.Prelude.{◌≡◌, ◌≢◌, ◌≤◌, ◌<◌, No
 ghost use Rattle.std.specs.Io.KnownBytes.{Keeps};
 ghost use Rattle.replay_program.specs.Met.{HasMet};
 ghost use Rattle.replay_program.specs.Program.{AreNotPrinted, ArePrinted, named_files};
-ghost use Rattle.replay_program.specs.Replayed.{written};
+ghost use Rattle.replay_program.specs.Replayed.{writer_change};
 ghost use Rattle.replay_stream.specs.Sinks.{state_by};
 
 use crate::program::opened::Opened;
@@ -38,7 +38,8 @@ pub fn print_and_summarize<R: Threads + Wait + Copy + Send + 'static, F: Files, 
         (F.begun files.now) (F.has_created files.now) (F.cannot_create files.now))
         (map F.Reader.remaining opened.readers.items) line.now.options line.now.summary_to
         result.summary
-        (written (O.given out.old) (O.given out.new) (O.failures out.old) (O.failures out.new)) }
+        (writer_change (O.given out.old) (O.given out.new) (O.failures out.old)
+        (O.failures out.new)) }
     ensures quiet { result.status ≡ Status.Done → Keeps (E.given error.old) (E.given error.new) }
     ensures failed { result.status ≡ Status.Failed
         → AreNotPrinted (state_by F.Writer.given F.Writer.failures)
@@ -46,12 +47,13 @@ pub fn print_and_summarize<R: Threads + Wait + Copy + Send + 'static, F: Files, 
         (F.begun files.now) (F.has_created files.now) (F.cannot_create files.now))
         (map F.Reader.remaining opened.readers.items) line.now.options line.now.summary_to
         result.summary
-        (written (O.given out.old) (O.given out.new) (O.failures out.old) (O.failures out.new))
-        (written (E.given error.old) (E.given error.new) (E.failures error.old)
+        (writer_change (O.given out.old) (O.given out.new) (O.failures out.old)
+        (O.failures out.new))
+        (writer_change (E.given error.old) (E.given error.new) (E.failures error.old)
         (E.failures error.new)) }
     ensures met { HasMet line.now.options
         (map F.Reader.remaining opened.readers.items) result.met
-        (written (E.given error.old) (E.given error.new) (E.failures error.old)
+        (writer_change (E.given error.old) (E.given error.new) (E.failures error.old)
         (E.failures error.new)) }
     ensures output_failed { result.met.output_failed ≡ true
         → O.failures out.old < O.failures out.new }

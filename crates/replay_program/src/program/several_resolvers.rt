@@ -11,7 +11,7 @@ ghost use Rattle.replay_program.specs.ShardedProgram.{ArePointsOf, IsLineDoneByS
 ghost use Rattle.replay_program.specs.ShardedProgram.{IsWhyNotSharded, LineFailsAndSaysByShards};
 ghost use Rattle.replay_program.specs.ShardedProgram.{LineFailsByShards, regular_files};
 ghost use Rattle.replay_program.specs.ShardedProgram.{LineFindsDifferencesByShards};
-ghost use Rattle.replay_program.specs.Replayed.{HasFailed, Written, written};
+ghost use Rattle.replay_program.specs.Replayed.{HasFailed, Written, writer_change};
 ghost use Rattle.replay_sharded.specs.Files.{ReadTheFiles};
 ghost use Rattle.replay_stream.specs.Sinks.{state_by};
 
@@ -55,15 +55,17 @@ pub fn run_line_sharded<R: Threads + Wait + Copy + Send + 'static, F: Files, O: 
         (named_files (F.contents files.now) (F.has_opened files.now) (F.cannot_open files.now)
         (F.begun files.now) (F.has_created files.now) (F.cannot_create files.now))
         line.now result
-        (written (O.given out.old) (O.given out.new) (O.failures out.old) (O.failures out.new)) }
+        (writer_change (O.given out.old) (O.given out.new) (O.failures out.old)
+        (O.failures out.new)) }
     ensures differs { result.status ≡ Status.Differs
         → LineFindsDifferencesByShards (state_by F.Writer.given F.Writer.failures)
         (named_files (F.contents files.now) (F.has_opened files.now) (F.cannot_open files.now)
         (F.begun files.now) (F.has_created files.now) (F.cannot_create files.now))
         line.now result
-        (written (O.given out.old) (O.given out.new) (O.failures out.old) (O.failures out.new)) }
+        (writer_change (O.given out.old) (O.given out.new) (O.failures out.old)
+        (O.failures out.new)) }
     ensures quiet { result.status ≢ Status.Failed → EndsQuietly (F.contents files.now) line.now
-        (written (E.given error.old) (E.given error.new) (E.failures error.old)
+        (writer_change (E.given error.old) (E.given error.new) (E.failures error.old)
         (E.failures error.new)) }
     ensures failed { result.status ≡ Status.Failed
         → LineFailsAndSaysByShards (state_by F.Writer.given F.Writer.failures)
@@ -71,8 +73,9 @@ pub fn run_line_sharded<R: Threads + Wait + Copy + Send + 'static, F: Files, O: 
         (named_files (F.contents files.now) (F.has_opened files.now) (F.cannot_open files.now)
         (F.begun files.now) (F.has_created files.now) (F.cannot_create files.now))
         line.now result
-        (written (O.given out.old) (O.given out.new) (O.failures out.old) (O.failures out.new))
-        (written (E.given error.old) (E.given error.new) (E.failures error.old)
+        (writer_change (O.given out.old) (O.given out.new) (O.failures out.old)
+        (O.failures out.new))
+        (writer_change (E.given error.old) (E.given error.new) (E.failures error.old)
         (E.failures error.new)) }
     ensures ends { result.status ≢ Status.Usage }
 {
@@ -102,7 +105,7 @@ fn fail_unopened<F: Files, E: Sink>(
         (named_files (F.contents files.now) (F.has_opened files.now) (F.cannot_open files.now)
         (F.begun files.now) (F.has_created files.now) (F.cannot_create files.now))
         line.now result standard
-        (written (E.given error.old) (E.given error.new) (E.failures error.old)
+        (writer_change (E.given error.old) (E.given error.new) (E.failures error.old)
         (E.failures error.new)) }
     ensures status { result.status ≡ Status.Failed }
 {
@@ -140,13 +143,15 @@ fn do_line_sharded<R: Threads + Wait + Copy + Send + 'static, F: Files, O: Sink,
         (named_files (F.contents files.now) (F.has_opened files.now) (F.cannot_open files.now)
         (F.begun files.now) (F.has_created files.now) (F.cannot_create files.now))
         line.now result
-        (written (O.given out.old) (O.given out.new) (O.failures out.old) (O.failures out.new)) }
+        (writer_change (O.given out.old) (O.given out.new) (O.failures out.old)
+        (O.failures out.new)) }
     ensures differs { result.status ≡ Status.Differs
         → LineFindsDifferencesByShards (state_by F.Writer.given F.Writer.failures)
         (named_files (F.contents files.now) (F.has_opened files.now) (F.cannot_open files.now)
         (F.begun files.now) (F.has_created files.now) (F.cannot_create files.now))
         line.now result
-        (written (O.given out.old) (O.given out.new) (O.failures out.old) (O.failures out.new)) }
+        (writer_change (O.given out.old) (O.given out.new) (O.failures out.old)
+        (O.failures out.new)) }
     ensures quiet { result.status ≢ Status.Failed → Keeps (E.given error.old) (E.given error.new) }
     ensures failed { result.status ≡ Status.Failed
         → LineFailsByShards (state_by F.Writer.given F.Writer.failures)
@@ -154,19 +159,21 @@ fn do_line_sharded<R: Threads + Wait + Copy + Send + 'static, F: Files, O: Sink,
         (named_files (F.contents files.now) (F.has_opened files.now) (F.cannot_open files.now)
         (F.begun files.now) (F.has_created files.now) (F.cannot_create files.now))
         line.now result
-        (written (O.given out.old) (O.given out.new) (O.failures out.old) (O.failures out.new))
-        (written (E.given error.old) (E.given error.new) (E.failures error.old)
+        (writer_change (O.given out.old) (O.given out.new) (O.failures out.old)
+        (O.failures out.new))
+        (writer_change (E.given error.old) (E.given error.new) (E.failures error.old)
         (E.failures error.new)) }
     ensures met { HasMetByShards sharded.points line.now.options
         (contents_each (F.contents files.now) (texts line.now.files.items)) result.met
-        (written (E.given error.old) (E.given error.new) (E.failures error.old)
+        (writer_change (E.given error.old) (E.given error.new) (E.failures error.old)
         (E.failures error.new)) }
     ensures output_failed { result.met.output_failed ≡ true
         → OfOutput (state_by F.Writer.given F.Writer.failures)
         (named_files (F.contents files.now) (F.has_opened files.now) (F.cannot_open files.now)
         (F.begun files.now) (F.has_created files.now) (F.cannot_create files.now))
         line.now result
-        (written (O.given out.old) (O.given out.new) (O.failures out.old) (O.failures out.new))
+        (writer_change (O.given out.old) (O.given out.new) (O.failures out.old)
+        (O.failures out.new))
         HasFailed }
     ensures ends { result.status ≢ Status.Usage }
 {

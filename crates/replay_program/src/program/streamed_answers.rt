@@ -7,7 +7,7 @@ ghost use Rattle.replay_arguments.specs.Opening.{IsFirstRefused};
 ghost use Rattle.replay_program.specs.Met.{HasMet};
 ghost use Rattle.replay_program.specs.Program.{FailsToStreamFiles, HaveWriters, StreamsFiles};
 ghost use Rattle.replay_program.specs.Program.{named_files, texts};
-ghost use Rattle.replay_program.specs.Replayed.{written};
+ghost use Rattle.replay_program.specs.Replayed.{writer_change};
 ghost use Rattle.replay_stream.specs.Sinks.{state_by};
 
 use crate::program::opened::Opened;
@@ -48,12 +48,13 @@ pub fn stream_and_record<R: Threads + Wait + Copy + Send + 'static, F: Files, O:
         (F.begun files.now) (F.has_created files.now) (F.cannot_create files.now))
         options (map F.Reader.remaining opened.readers.items) (texts records.now)
         result.recorders.items
-        (written (O.given out.old) (O.given out.new) (O.failures out.old) (O.failures out.new))
-        (written (E.given error.old) (E.given error.new) (E.failures error.old)
+        (writer_change (O.given out.old) (O.given out.new) (O.failures out.old)
+        (O.failures out.new))
+        (writer_change (E.given error.old) (E.given error.new) (E.failures error.old)
         (E.failures error.new)) }
     ensures met { HasMet options
         (map F.Reader.remaining opened.readers.items) result.met
-        (written (E.given error.old) (E.given error.new) (E.failures error.old)
+        (writer_change (E.given error.old) (E.given error.new) (E.failures error.old)
         (E.failures error.new)) }
     ensures output_failed { result.met.output_failed ≡ true
         → O.failures out.old < O.failures out.new }

@@ -6,7 +6,7 @@ ghost use Rattle.replay_arguments.specs.Asks.{Asks};
 ghost use Rattle.replay_program.specs.Met.{HasMet};
 ghost use Rattle.replay_program.specs.Program.{FindsDifferences, IsTaskDone, TaskFails};
 ghost use Rattle.replay_program.specs.Program.{named_files};
-ghost use Rattle.replay_program.specs.Replayed.{written};
+ghost use Rattle.replay_program.specs.Replayed.{writer_change};
 ghost use Rattle.replay_stream.specs.Sinks.{state_by};
 
 use crate::explain::explain_over;
@@ -41,25 +41,28 @@ pub fn run_task<R: Threads + Wait + Copy + Send + 'static, F: Files, O: Sink, E:
         (named_files (F.contents files.now) (F.has_opened files.now) (F.cannot_open files.now)
         (F.begun files.now) (F.has_created files.now) (F.cannot_create files.now))
         (map F.Reader.remaining opened.readers.items) line.now line.now.task result
-        (written (O.given out.old) (O.given out.new) (O.failures out.old) (O.failures out.new)) }
+        (writer_change (O.given out.old) (O.given out.new) (O.failures out.old)
+        (O.failures out.new)) }
     ensures differs { result.status ≡ Status.Differs
         → FindsDifferences
         (named_files (F.contents files.now) (F.has_opened files.now) (F.cannot_open files.now)
         (F.begun files.now) (F.has_created files.now) (F.cannot_create files.now))
         (map F.Reader.remaining opened.readers.items) line.now line.now.task
-        (written (O.given out.old) (O.given out.new) (O.failures out.old) (O.failures out.new)) }
+        (writer_change (O.given out.old) (O.given out.new) (O.failures out.old)
+        (O.failures out.new)) }
     ensures quiet { result.status ≢ Status.Failed → Keeps (E.given error.old) (E.given error.new) }
     ensures failed { result.status ≡ Status.Failed
         → TaskFails (state_by F.Writer.given F.Writer.failures)
         (named_files (F.contents files.now) (F.has_opened files.now) (F.cannot_open files.now)
         (F.begun files.now) (F.has_created files.now) (F.cannot_create files.now))
         (map F.Reader.remaining opened.readers.items) line.now line.now.task result
-        (written (O.given out.old) (O.given out.new) (O.failures out.old) (O.failures out.new))
-        (written (E.given error.old) (E.given error.new) (E.failures error.old)
+        (writer_change (O.given out.old) (O.given out.new) (O.failures out.old)
+        (O.failures out.new))
+        (writer_change (E.given error.old) (E.given error.new) (E.failures error.old)
         (E.failures error.new)) }
     ensures met { HasMet line.now.options
         (map F.Reader.remaining opened.readers.items) result.met
-        (written (E.given error.old) (E.given error.new) (E.failures error.old)
+        (writer_change (E.given error.old) (E.given error.new) (E.failures error.old)
         (E.failures error.new)) }
     ensures output_failed { result.met.output_failed ≡ true
         → O.failures out.old < O.failures out.new }

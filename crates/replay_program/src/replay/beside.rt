@@ -3,7 +3,7 @@
 ghost use Rattle.std.specs.Prelude.{◌≡◌, ◌≤◌, ◌<◌, ◌≢◌, map, true, vec_len};
 ghost use Rattle.std.specs.Io.KnownBytes.{Keeps};
 ghost use Rattle.replay_program.specs.Met.{HasMet};
-ghost use Rattle.replay_program.specs.Replayed.{written};
+ghost use Rattle.replay_program.specs.Replayed.{writer_change};
 ghost use Rattle.replay_program.specs.Summarized.{FailsToReplayAndSummarize};
 ghost use Rattle.replay_program.specs.Summarized.{IsReplayedAndSummarized};
 
@@ -54,13 +54,14 @@ pub fn replay_and_summarize_over<
     // Something failed, and its lines were written, or the writer failed.
     ensures failed { result.status ≡ Status.Failed
         → FailsToReplayAndSummarize summary.old.form options (map S.remaining readers.items)
-        (written (O.given out.old) (O.given out.new) (O.failures out.old) (O.failures out.new))
-        (written (T.given summary.old.writer) (T.given summary.new.writer)
+        (writer_change (O.given out.old) (O.given out.new) (O.failures out.old)
+        (O.failures out.new))
+        (writer_change (T.given summary.old.writer) (T.given summary.new.writer)
         (T.failures summary.old.writer) (T.failures summary.new.writer))
-        (written (E.given error.old) (E.given error.new) (E.failures error.old)
+        (writer_change (E.given error.old) (E.given error.new) (E.failures error.old)
         (E.failures error.new)) }
     ensures met { HasMet options (map S.remaining readers.items) result.met
-        (written (E.given error.old) (E.given error.new) (E.failures error.old)
+        (writer_change (E.given error.old) (E.given error.new) (E.failures error.old)
         (E.failures error.new)) }
     ensures output_failed { result.met.output_failed ≡ true
         → O.failures out.old < O.failures out.new }

@@ -4,7 +4,7 @@
 ghost use Rattle.std.specs.Prelude.{◌≡◌, ◌≢◌, ◌<◌, ℕ, List, Option, map, true, vec_items};
 ghost use Rattle.std.specs.List.{All};
 ghost use Rattle.std.specs.Io.KnownBytes.{Keeps};
-ghost use Rattle.replay_program.specs.Replayed.{written};
+ghost use Rattle.replay_program.specs.Replayed.{writer_change};
 ghost use Rattle.replay_program.specs.Sharded.{FailsToReplayAndSummarizeByShards, HasMetByShards};
 ghost use Rattle.replay_program.specs.Sharded.{IsReplayedAndSummarizedByShards};
 ghost use Rattle.replay_sharded.specs.Files.{ReadTheFiles};
@@ -49,15 +49,16 @@ pub fn replay_and_summarize_sharded_over<
         → All (ReadTheFiles S.remaining files) (map vec_items sharded.readers.items)
         → result.status ≡ Status.Failed
         → FailsToReplayAndSummarizeByShards summary.old.form sharded.points options files
-        (written (O.given out.old) (O.given out.new) (O.failures out.old) (O.failures out.new))
-        (written (T.given summary.old.writer) (T.given summary.new.writer)
+        (writer_change (O.given out.old) (O.given out.new) (O.failures out.old)
+        (O.failures out.new))
+        (writer_change (T.given summary.old.writer) (T.given summary.new.writer)
         (T.failures summary.old.writer) (T.failures summary.new.writer))
-        (written (E.given error.old) (E.given error.new) (E.failures error.old)
+        (writer_change (E.given error.old) (E.given error.new) (E.failures error.old)
         (E.failures error.new)) }
     ensures met { (files : List (Option (List ℕ)))
         → All (ReadTheFiles S.remaining files) (map vec_items sharded.readers.items)
         → HasMetByShards sharded.points options files result.met
-        (written (E.given error.old) (E.given error.new) (E.failures error.old)
+        (writer_change (E.given error.old) (E.given error.new) (E.failures error.old)
         (E.failures error.new)) }
     ensures output_failed { result.met.output_failed ≡ true
         → O.failures out.old < O.failures out.new }

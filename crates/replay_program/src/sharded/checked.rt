@@ -4,7 +4,7 @@ ghost use Rattle.std.specs.Prelude.{◌≡◌, ◌≢◌, ◌<◌, ℕ, List, Op
 ghost use Rattle.std.specs.List.{All};
 ghost use Rattle.std.specs.Io.KnownBytes.{Keeps};
 ghost use Rattle.replay_output.specs.declared.options.form.Form.TheVariants.{Kept};
-ghost use Rattle.replay_program.specs.Replayed.{written};
+ghost use Rattle.replay_program.specs.Replayed.{writer_change};
 ghost use Rattle.replay_program.specs.Sharded.{FailsToCheckByShards, HasMetByShards};
 ghost use Rattle.replay_program.specs.Sharded.{IsCheckedByShards};
 ghost use Rattle.replay_sharded.specs.Files.{ReadTheFiles};
@@ -56,13 +56,14 @@ pub fn check_sharded_over<
         → All (ReadTheFiles S.remaining files) (map vec_items sharded.readers.items)
         → result.status ≡ Status.Failed
         → FailsToCheckByShards (map vec_items recorded.items) sharded.points options files
-        (written (O.given out.old) (O.given out.new) (O.failures out.old) (O.failures out.new))
-        (written (E.given error.old) (E.given error.new) (E.failures error.old)
+        (writer_change (O.given out.old) (O.given out.new) (O.failures out.old)
+        (O.failures out.new))
+        (writer_change (E.given error.old) (E.given error.new) (E.failures error.old)
         (E.failures error.new)) }
     ensures met { (files : List (Option (List ℕ)))
         → All (ReadTheFiles S.remaining files) (map vec_items sharded.readers.items)
         → HasMetByShards sharded.points options files result.met
-        (written (E.given error.old) (E.given error.new) (E.failures error.old)
+        (writer_change (E.given error.old) (E.given error.new) (E.failures error.old)
         (E.failures error.new)) }
     ensures output_failed { result.met.output_failed ≡ true
         → O.failures out.old < O.failures out.new }

@@ -8,7 +8,7 @@ ghost use Rattle.replay_output.specs.Failures.{NothingFailed};
 ghost use Rattle.replay_output.specs.Line.{AreLines, answers_of, text_of as text_of_lines, texts};
 ghost use Rattle.replay_output.specs.Lines.{lines};
 ghost use Rattle.replay_output.specs.declared.options.style.Style.{Style};
-ghost use Rattle.replay_program.specs.Replayed.{written};
+ghost use Rattle.replay_program.specs.Replayed.{writer_change};
 ghost use Rattle.replay_program.specs.Summarized.{BothFailed, run_summary};
 
 use super::report::text_of;
@@ -65,10 +65,11 @@ pub fn print_with_summary<O: Sink, T: Sink, E: Sink>(
         → result.status ≡ Status.Failed
         → BothFailed summary.old.form occupancy style (map vec_items received.old) failures.old
         ending
-        (written (O.given out.old) (O.given out.new) (O.failures out.old) (O.failures out.new))
-        (written (T.given summary.old.writer) (T.given summary.new.writer)
+        (writer_change (O.given out.old) (O.given out.new) (O.failures out.old)
+        (O.failures out.new))
+        (writer_change (T.given summary.old.writer) (T.given summary.new.writer)
         (T.failures summary.old.writer) (T.failures summary.new.writer))
-        (written (E.given error.old) (E.given error.new) (E.failures error.old)
+        (writer_change (E.given error.old) (E.given error.new) (E.failures error.old)
         (E.failures error.new)) }
     ensures output_failed { result.output_failed ≡ true → O.failures out.old < O.failures out.new }
     ensures ends { result.status ≢ Status.Usage }

@@ -5,7 +5,7 @@ ghost use Rattle.std.specs.Prelude.{IfSome, List};
 ghost use Rattle.keyspace.specs.declared.batch.Batch.{Batch as BatchValue};
 ghost use Rattle.replay_diagnosis.specs.Following.{HasLeast};
 ghost use Rattle.replay_program.specs.Program.{texts};
-ghost use Rattle.replay_program.specs.Replayed.{written};
+ghost use Rattle.replay_program.specs.Replayed.{writer_change};
 ghost use Rattle.replay_program.specs.Verbose.{AreBatches, AreExamined, SaysHeld};
 
 use super::say_of_run;
@@ -26,7 +26,7 @@ const MOST_FRAMES: usize = MAX_HELD + 1;
 /// held, the files have at most [`MAX_HELD`], so it reads no more of each.
 pub fn say_if_held<F: Files, E: Sink>(alloc: Global, files: &F, line: &CommandLine, error: &mut E)
     ensures said { SaysHeld (F.contents files.now) (texts line.now.files.items)
-        (written (E.given error.old) (E.given error.new) (E.failures error.old)
+        (writer_change (E.given error.old) (E.given error.new) (E.failures error.old)
         (E.failures error.new)) }
 {
     let Some(batches) = unbegun_files(alloc, files, &line.files) else {

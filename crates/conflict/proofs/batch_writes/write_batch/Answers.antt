@@ -7,18 +7,18 @@ use Rattle.keys.specs.declared.range.Range.{Range}
 use Rattle.keys.specs.Singles.{AreRankedFor}
 use Rattle.keyspace.specs.BatchRanges.{is_write_in, writes_in}
 use Rattle.keys.proofs.callers.Booleans.{not_both_ways}
-use Rattle.keyspace.specs.Writes.{Write, at_version, committed}
+use Rattle.keyspace.specs.Writes.{Write, at_version, committed_ranges}
 use Rattle.stepmap.specs.StepMap.{Steps, lengths}
 use Rattle.stepmap.specs.Laws.{IsWriting, IsWritten}
-use Rattle.stepmap.specs.Limit.{HasRoomFor, made_room, prepared}
+use Rattle.stepmap.specs.Limit.{HasRoomFor, made_room, after_prepare}
 use Rattle.stepmap.specs.Counting.{live_count}
 use Rattle.stepmap.specs.Rooted.{Ends, Rooted}
 use Rattle.stepmap.specs.declared.error.StepError.TheVariants as step
 use Rattle.stepmap.specs.Sweeping.{rest}
 use Rattle.stepmap.specs.Uniting.{Unites}
 use Rattle.stepmap.specs.Writing.{AreApart}
-use Rattle.conflict.specs.ConflictSet.{raised}
-use Rattle.conflict.specs.Union.{AreSpanned, picked}
+use Rattle.conflict.specs.ConflictSet.{with_edge}
+use Rattle.conflict.specs.Union.{AreSpanned, marked_ranges}
 use Rattle.conflict.specs.Pace.{after_writes}
 use Rattle.conflict.proofs.Spanned.{spanned_count}
 use Rattle.conflict.proofs.Swept.{on_err, since_raised}
@@ -47,13 +47,13 @@ gather-requires-clause-in_order c =
 
 -- the spans are those of ranges that unite what the batch commits
 union : (c : After-spans-spans) → IsUnion c.ranges-ranges.result c.spans-spans.result.now
-    (committed c.args.batch.now.txns c.args.entries.now)
+    (committed_ranges c.args.batch.now.txns c.args.entries.now)
 union c =
     let txns = c.args.batch.now.txns in
     let united = c.in_ok-gather.ensures.united in
-    let picks : picked c.deref.result.now c.ranges-ranges.result ≡ committed txns c.args.entries.now =
-    ap (λ marks. picked marks c.ranges-ranges.result) c.deref.ensures.value
-    ∙ ap (picked c.mark_written.new.written.items) c.ranges-ranges.ensures.ranges
+    let picks : marked_ranges c.deref.result.now c.ranges-ranges.result ≡ committed_ranges txns c.args.entries.now =
+    ap (λ marks. marked_ranges marks c.ranges-ranges.result) c.deref.ensures.value
+    ∙ ap (marked_ranges c.mark_written.new.written.items) c.ranges-ranges.ensures.ranges
     ∙ c.in_ok-mark_written.ensures.written in (
       united.0,
       subst (λ spans. AreSpanned c.ranges-ranges.result spans united.0) (sym c.spans-spans.ensures.spans) united.1,
@@ -61,8 +61,8 @@ union c =
     )
 
 -- the map with its edge raised
-up : (c : After-raise) → c.raise.new.self ≡ raised c.args.edge c.args.steps.now
-up c = c.raise.ensures.map ∙ ap (λ e. raised e c.args.steps.now) (to_z-of_z w64 c.args.edge c.ranges.edge)
+up : (c : After-raise) → c.raise.new.self ≡ with_edge c.args.edge c.args.steps.now
+up c = c.raise.ensures.map ∙ ap (λ e. with_edge e c.args.steps.now) (to_z-of_z w64 c.args.edge c.ranges.edge)
 
 -- what is refused has no room, whatever its number is called
 pub returns-then-is_refused-clause-full : goal.returns-then-is_refused-clause-full
@@ -70,7 +70,7 @@ returns-then-is_refused-clause-full c = λ full ws rooted.
     let one = union (goal.at.returns-then-is_refused-clause-full c).After-spans-spans in
     let bound = subst (λ e. c.args.steps.now.limit < 1 + 2 * (live_count e ws + length c.spans-spans.result.now))
     (to_z-of_z w64 c.args.edge c.ranges.edge) (c.is_refused.ensures.bound c.if-is_refused.true ws rooted) in
-    over_limit c.ranges-ranges.result c.spans-spans.result.now (committed c.args.batch.now.txns c.args.entries.now) one
+    over_limit c.ranges-ranges.result c.spans-spans.result.now (committed_ranges c.args.batch.now.txns c.args.entries.now) one
     c.counts.ensures.along c.args.steps.now.limit c.args.edge c.args.batch.now.version ws c.requires.late
     bound
 
@@ -88,9 +88,9 @@ returns-then-is_refused-clause-no_room c = λ full.
     let one = union (goal.at.returns-then-is_refused-clause-no_room c).After-spans-spans in
     let many = spanned_count c.ranges-ranges.result c.spans-spans.result.now one.0 one.1 in
     let same : length c.spans-spans.result.now ≡ length one.0 = omega (arith, many) in
-    let none = subst (λ e. ¬ HasRoomFor (length c.spans-spans.result.now) (made_room (length c.spans-spans.result.now) (raised e steps)))
+    let none = subst (λ e. ¬ HasRoomFor (length c.spans-spans.result.now) (made_room (length c.spans-spans.result.now) (with_edge e steps)))
     (to_z-of_z w64 c.args.edge c.ranges.edge) (c.is_refused.ensures.full c.if-is_refused.true) in
-    (one.0, one.2, subst (λ n. ¬ HasRoomFor n (made_room n (raised c.args.edge steps))) same none)
+    (one.0, one.2, subst (λ n. ¬ HasRoomFor n (made_room n (with_edge c.args.edge steps))) same none)
 
 pub returns-in_err-prepare-clause-still_covers : goal.returns-in_err-prepare-clause-still_covers
 returns-in_err-prepare-clause-still_covers c =
@@ -108,7 +108,7 @@ returns-in_err-prepare-clause-limit c =
     ∙ ap (λ (m : Steps). m.limit) (up (goal.at.returns-in_err-prepare-clause-limit c).After-raise)
 
 -- more boundaries than the limit, for the ranges that there are
-bound_of : (c : In_err-prepare) → c.raise.new.self ≡ raised c.args.edge c.args.steps.now
+bound_of : (c : In_err-prepare) → c.raise.new.self ≡ with_edge c.args.edge c.args.steps.now
     → c.in_err-prepare.field-0.0 ≡ step.Full → (ws : List Write) → Rooted c.args.steps.now ws
     → c.args.steps.now.limit < 1 + 2 * (live_count c.args.edge ws + length c.deref-2.result.now)
 bound_of c raise is ws rooted =
@@ -120,7 +120,7 @@ returns-in_err-prepare-clause-full c = λ full ws rooted.
     let at = goal.at.returns-in_err-prepare-clause-full c in
     let one = union at.After-spans-spans in
     let is = full_of c.in_err-prepare.field-0.0 (of_err _ full c.from_residual-in_err-prepare.ensures.1) in
-    over_limit c.ranges-ranges.result c.spans-spans.result.now (committed c.args.batch.now.txns c.args.entries.now) one
+    over_limit c.ranges-ranges.result c.spans-spans.result.now (committed_ranges c.args.batch.now.txns c.args.entries.now) one
     c.counts.ensures.along c.args.steps.now.limit c.args.edge c.args.batch.now.version ws c.requires.late
     (omega (
       arith,
@@ -167,9 +167,9 @@ returns-in_err-prepare-clause-refused c = λ refuse full.
     let same : length c.spans-spans.result.now ≡ n =
     omega (arith, ap length c.deref-2.ensures.value, c.in_ok-gather_lengths.ensures.count) in
     let determined = c.is_refused.ensures.fits refuse (λ refused. not_both_ways c.is_refused.result refused c.if-is_refused.false) in
-    let fits = subst (λ e. HasRoomFor (length c.spans-spans.result.now) (made_room (length c.spans-spans.result.now) (raised e steps)))
+    let fits = subst (λ e. HasRoomFor (length c.spans-spans.result.now) (made_room (length c.spans-spans.result.now) (with_edge e steps)))
     (to_z-of_z w64 c.args.edge c.ranges.edge) determined in
-    let room = subst (λ n. HasRoomFor n (made_room n (raised c.args.edge steps))) same fits in
+    let room = subst (λ n. HasRoomFor n (made_room n (with_edge c.args.edge steps))) same fits in
     absurd (c.in_err-prepare.ensures.full.0 (ap Err is) (subst (λ m. HasRoomFor n (made_room n m)) (sym raise) room))
 
 -- where the step map isn't full, there is room
@@ -199,7 +199,7 @@ pub write_prepared-requires-clause-apart : goal.write_prepared-requires-clause-a
 write_prepared-requires-clause-apart c =
     subst (λ (ranges : List Range). (united : List Range) → AreSpanned ranges c.spans-spans.result.now united → AreApart united)
     c.ranges-ranges.ensures.ranges
-    (apart c.ranges-ranges.result c.spans-spans.result.now (committed c.args.batch.now.txns c.args.entries.now)
+    (apart c.ranges-ranges.result c.spans-spans.result.now (committed_ranges c.args.batch.now.txns c.args.entries.now)
     (union (goal.at.write_prepared-requires-clause-apart c).After-spans-spans))
 
 pub write_prepared-requires-clause-start : goal.write_prepared-requires-clause-start
@@ -214,7 +214,7 @@ write_prepared-requires-clause-start c = λ united determined_spans.
     ∙ c.in_ok-gather_lengths.ensures.lengths united spans in
     let edge = determined.edge ∙ ap (λ (m : Steps). m.edge) (up (goal.at.write_prepared-requires-clause-start c).After-raise) in
     let turn = c.writing.ensures.in_turn united version
-    (apart c.ranges-ranges.result c.spans-spans.result.now (committed c.args.batch.now.txns c.args.entries.now) one united
+    (apart c.ranges-ranges.result c.spans-spans.result.now (committed_ranges c.args.batch.now.txns c.args.entries.now) one united
     spans) in
     rw c.note_keys.ensures.same (subst (λ v. IsWriting united v 0 c.prepare.new.self c.prepare.new.self) (sym (to_z-of_z w64 version fits))
     (turn.start c.prepare.new.self determined.steps ready (determined.newest version (c.raise.ensures.newest version c.requires.newest))
@@ -233,11 +233,11 @@ wrote c united spans =
 
 -- and so what the batch commits is
 all : (c : After-write_prepared) → IsUnion c.ranges-ranges.result c.spans-spans.result.now
-    (committed c.args.batch.now.txns c.args.entries.now)
-    → IsWritten (committed c.args.batch.now.txns c.args.entries.now) c.args.batch.now.version c.prepare.new.self
+    (committed_ranges c.args.batch.now.txns c.args.entries.now)
+    → IsWritten (committed_ranges c.args.batch.now.txns c.args.entries.now) c.args.batch.now.version c.prepare.new.self
     c.write_prepared.new.steps
 all c one =
-    all_written c.ranges-ranges.result c.spans-spans.result.now (committed c.args.batch.now.txns c.args.entries.now)
+    all_written c.ranges-ranges.result c.spans-spans.result.now (committed_ranges c.args.batch.now.txns c.args.entries.now)
     one c.writing.ensures.in_turn c.args.batch.now.version c.prepare.new.self c.write_prepared.new.steps
     (wrote c)
 
@@ -265,9 +265,9 @@ returns-clause-united c =
     let version = c.args.batch.now.version in
     let as_many = spanned_count c.ranges-ranges.result c.spans-spans.result.now one.0 one.1 in
     let determined = c.in_ok-prepare.ensures.ok
-    ∙ ap (λ lengths. prepared lengths c.raise.new.self)
+    ∙ ap (λ lengths. after_prepare lengths c.raise.new.self)
     (c.deref-2.ensures.value ∙ c.in_ok-gather_lengths.ensures.lengths one.0 one.1)
-    ∙ ap (prepared (map lengths one.0)) (up at.After-raise) in (
+    ∙ ap (after_prepare (map lengths one.0)) (up at.After-raise) in (
       one.0,
       one.2,
       as_many,
@@ -298,7 +298,7 @@ returns-clause-swept c = λ ws rooted.
     let count = ap length c.deref-2.ensures.value ∙ c.in_ok-gather_lengths.ensures.count in
     let as_many = spanned_count c.ranges-ranges.result c.spans-spans.result.now one.0 one.1 in
     let now = c.write_prepared.new.steps in
-    let all_writes = ws ++ at_version c.args.batch.now.version (committed c.args.batch.now.txns c.args.entries.now) in
+    let all_writes = ws ++ at_version c.args.batch.now.version (committed_ranges c.args.batch.now.txns c.args.entries.now) in
     let late : old.edge ≤ℤ c.args.batch.now.version =
     subst (λ (m : Steps). m.edge ≤ℤ c.args.batch.now.version) (sym is) c.requires.late in
     let swept : Ends now.boundaries all_writes old.edge

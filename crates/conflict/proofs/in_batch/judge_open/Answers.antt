@@ -1,7 +1,7 @@
 use Rattle.std.proofs.Common.{◌≡◌, ◌++◌, ◌∷◌, ◌∙◌, [], cond, length, take, drop, ap, sym, subst}
 use Rattle.keyspace.specs.declared.txn.Txn.{Txn}
 use Rattle.conflict.specs.Written.{AreWrittenGaps, AreRunsOf}
-use Rattle.keyspace.specs.Writes.{counted}
+use Rattle.keyspace.specs.Writes.{counted_ranges}
 use Rattle.conflict.proofs.RunsOfRanges.{determined_split}
 use Rattle.conflict.proofs.Written.{no_more_written}
 use Rattle.conflict.proofs.FirstMet.{unmet_entry, met_entry}
@@ -22,7 +22,7 @@ returns-in_ok-place_if_marked-clause-judged c = λ keys written t shaped determi
 pub returns-in_ok-place_if_marked-clause-marked : goal.returns-in_ok-place_if_marked-clause-marked
 returns-in_ok-place_if_marked-clause-marked c = λ keys written t shaped determine determined have.
     no_more_written keys c.args.gaps.now written _
-    (ap (λ v. counted v t.writes) c.new.ensures.verdict) determined
+    (ap (λ v. counted_ranges v t.writes) c.new.ensures.verdict) determined
 
 pub returns-in_default-clause-judged : goal.returns-in_default-clause-judged
 returns-in_default-clause-judged c = λ keys written t shaped determine determined have.
@@ -41,7 +41,7 @@ returns-in_default-clause-marked c = λ keys written t shaped determine determin
     ∙ ap (λ n. drop n runs) (c.len.ensures.count ∙ ap (λ (u : Txn). length u.reads) c.txn.view_is ∙ sym shaped.reads) in
     let writes : AreRunsOf keys c.split_at.result.1.now t.writes =
     rw back (determined_split keys runs t.reads t.writes determine).1 in
-    let counts : t.writes ≡ counted c.args.entry.now.verdict t.writes =
-    ap (λ v. counted v t.writes) (sym c.requires.open) in
+    let counts : t.writes ≡ counted_ranges c.args.entry.now.verdict t.writes =
+    ap (λ v. counted_ranges v t.writes) (sym c.requires.open) in
     subst (λ ranges. AreWrittenGaps keys c.mark.new.gaps (written ++ ranges)) counts
     (c.mark.ensures.marked keys written t.writes writes determined)

@@ -8,7 +8,7 @@ use Rattle.replay_output.specs.declared.line.Line.{Line}
 use Rattle.replay_program.specs.Checked.{KeepReplies, TakesToCompare, check_lines, differences_of}
 use Rattle.replay_output.specs.Failures.{failure_lines, NothingFailed}
 use Rattle.replay_workers.specs.Run.{IsRun, is_complete}
-use Rattle.replay_program.specs.Replayed.{written, Took}
+use Rattle.replay_program.specs.Replayed.{writer_change, Took}
 use Rattle.replay_program.proofs.Meeting.{has_met, met_nothing, not_failed, stop_reported}
 use Rattle.replay_program.proofs.Replaying.{ending_is, held_ok, are_lines, is_replayed, ran_and_failed, held_at, held_and, ok_at}
 use Rattle.replay_program.proofs.check.check_over.Goals.{then-account, else-account}
@@ -25,7 +25,7 @@ returns-in-Err g c = record {
     reported = c.fail_to_start.ensures.line;
   });
   met = met_nothing c.args.options (map g.S.Source.remaining c.args.readers.items) c.unstarted.result.met
-      (written (g.E.Sink.given c.args.error.now) (g.E.Sink.given c.fail_to_start.new.error) (g.E.Sink.failures c.args.error.now)
+      (writer_change (g.E.Sink.given c.args.error.now) (g.E.Sink.given c.fail_to_start.new.error) (g.E.Sink.failures c.args.error.now)
       (g.E.Sink.failures c.fail_to_start.new.error)) c.unstarted.ensures.stop;
   output_failed = not_failed c.unstarted.result.met.output_failed c.unstarted.ensures.output_failed;
   ends = λ is. cc (c.fail_to_start.ensures.status, c.unstarted.ensures.status, is);
@@ -53,9 +53,9 @@ returns g c =
     let ending = ending_is complete account.stop c.new-ending.result c.new-ending.ensures.ending in
     let report = c.print_check-report.ensures in
     let reported = c.print_check-report.new.failures in
-    let out = written (g.O.Sink.given c.args.out.now) (g.O.Sink.given c.print_check-report.new.out)
+    let out = writer_change (g.O.Sink.given c.args.out.now) (g.O.Sink.given c.print_check-report.new.out)
     (g.O.Sink.failures c.args.out.now) (g.O.Sink.failures c.print_check-report.new.out) in
-    let error = written (g.E.Sink.given c.args.error.now) (g.E.Sink.given c.print_check-report.new.error)
+    let error = writer_change (g.E.Sink.given c.args.error.now) (g.E.Sink.given c.print_check-report.new.error)
     (g.E.Sink.failures c.args.error.now) (g.E.Sink.failures c.print_check-report.new.error) in
     let are : KeepReplies received =
     (options.style, c.requires.kept, are_lines options files received failures complete account.stop run) in

@@ -4,7 +4,7 @@ use Rattle.std.specs.Prelude.{string_bytes}
 use Rattle.replay_output.specs.declared.status.Status.{Status}
 use Rattle.replay_output.specs.declared.status.Status.TheVariants.{Done, Failed, Differs}
 use Rattle.replay_program.specs.Program.{named_files}
-use Rattle.replay_program.specs.Replayed.{written}
+use Rattle.replay_program.specs.Replayed.{writer_change}
 use Rattle.replay_program.specs.ShardedProgram.{regular_files}
 use Rattle.replay_stream.specs.Sinks.{state_by}
 use Rattle.replay_program.proofs.Programs.{Ends, asked_by, ends_by}
@@ -65,9 +65,9 @@ returns-in-Err g c =
     let state = state_by g.F.Writer.Sink.given g.F.Writer.Sink.failures in
     let report = c.unstarted.result in
     let words : List (List ℕ) = map string_bytes c.args.words.now in
-    let out = written (g.O.Sink.given c.args.out.now) (g.O.Sink.given c.end.new.out)
+    let out = writer_change (g.O.Sink.given c.args.out.now) (g.O.Sink.given c.end.new.out)
     (g.O.Sink.failures c.args.out.now) (g.O.Sink.failures c.end.new.out) in
-    let error = written (g.E.Sink.given c.args.error.now) (g.E.Sink.given c.end.new.error)
+    let error = writer_change (g.E.Sink.given c.args.error.now) (g.E.Sink.given c.end.new.error)
     (g.E.Sink.failures c.args.error.now) (g.E.Sink.failures c.end.new.error) in
     let end = c.end.ensures in
     let ends_by_status = ends_by state regular files words report out error c.end.result c.in-Err.refusal

@@ -6,7 +6,7 @@ use Rattle.replay_output.specs.Unwritten.{unwritten_lines}
 use Rattle.replay_stream.specs.Outlet.{TookText}
 use Rattle.replay_stream.specs.Sinks.{SinkState, state_by}
 use Rattle.replay_stream.specs.Streaming.{IsStreamed, recorded_each}
-use Rattle.replay_program.specs.Replayed.{ending_of, written, Took}
+use Rattle.replay_program.specs.Replayed.{ending_of, writer_change, Took}
 use Rattle.replay_program.specs.Streamed.{unwritten_each}
 use Rattle.replay_program.proofs.Meeting.{met_nothing, not_failed, stop_reported, stream_has_met}
 use Rattle.replay_program.proofs.Replaying.{ending_is, held_ok}
@@ -24,7 +24,7 @@ returns-in-Err g c = record {
     reported = c.fail_to_start.ensures.line;
   });
   met = met_nothing c.args.options (map g.S.Source.remaining c.args.readers.items) c.unstarted.result.met
-      (written (g.E.Sink.given c.args.error.now) (g.E.Sink.given c.fail_to_start.new.error) (g.E.Sink.failures c.args.error.now)
+      (writer_change (g.E.Sink.given c.args.error.now) (g.E.Sink.given c.fail_to_start.new.error) (g.E.Sink.failures c.args.error.now)
       (g.E.Sink.failures c.fail_to_start.new.error)) c.unstarted.ensures.stop;
   output_failed = not_failed c.unstarted.result.met.output_failed c.unstarted.ensures.output_failed;
   output = c.unstarted.ensures.output;
@@ -58,9 +58,9 @@ returns g c =
     let failures = streamed.failures.items in
     let count : length recorders ≡ length files =
     omega (arith, streamed.recorders_each, streamed.failures_each, run.failures_count, streamed.recorders.ok.0, streamed.failures.ok.0) in
-    let out = written (g.O.Sink.given c.args.out.now) (g.O.Sink.given c.run_stream.new.out)
+    let out = writer_change (g.O.Sink.given c.args.out.now) (g.O.Sink.given c.run_stream.new.out)
     (g.O.Sink.failures c.args.out.now) (g.O.Sink.failures c.run_stream.new.out) in
-    let error = written (g.E.Sink.given c.args.error.now) (g.E.Sink.given c.print_all-reported.new.error)
+    let error = writer_change (g.E.Sink.given c.args.error.now) (g.E.Sink.given c.print_all-reported.new.error)
     (g.E.Sink.failures c.args.error.now) (g.E.Sink.failures c.print_all-reported.new.error) in
     let reported = c.print_all-reported.result in
     let lines : OnOk reported (Took error (unwritten_lines unwritten ++ failure_lines failures (ending_of complete account.stop))) =

@@ -1,5 +1,5 @@
 use Rattle.std.proofs.Common.{ℕ, Option, map, sym, subst}
-use Rattle.replay_program.specs.Replayed.{written}
+use Rattle.replay_program.specs.Replayed.{writer_change}
 use Rattle.replay_program.specs.Summarized.{FailsToSummarize, IsSummarized}
 use Rattle.replay_program.proofs.summary.summarize_over.Goals as goal
 
@@ -8,9 +8,9 @@ returns-in-None g c =
     let form = c.args.summary.form in
     let files = map g.S.Source.remaining c.args.readers.items in
     let summarized = c.summarize_alone.ensures in
-    let out = written (g.O.Sink.given c.args.out.now) (g.O.Sink.given c.summarize_alone.new.out)
+    let out = writer_change (g.O.Sink.given c.args.out.now) (g.O.Sink.given c.summarize_alone.new.out)
     (g.O.Sink.failures c.args.out.now) (g.O.Sink.failures c.summarize_alone.new.out) in
-    let error = written (g.E.Sink.given c.args.error.now) (g.E.Sink.given c.summarize_alone.new.error)
+    let error = writer_change (g.E.Sink.given c.args.error.now) (g.E.Sink.given c.summarize_alone.new.error)
     (g.E.Sink.failures c.args.error.now) (g.E.Sink.failures c.summarize_alone.new.error) in
     record {
       done = λ is.
@@ -31,9 +31,9 @@ returns-in-Some g c =
     let form = c.args.summary.form in
     let files = map g.S.Source.remaining c.args.readers.items in
     let summarized = c.summarize_with_top.ensures in
-    let out = written (g.O.Sink.given c.args.out.now) (g.O.Sink.given c.summarize_with_top.new.out)
+    let out = writer_change (g.O.Sink.given c.args.out.now) (g.O.Sink.given c.summarize_with_top.new.out)
     (g.O.Sink.failures c.args.out.now) (g.O.Sink.failures c.summarize_with_top.new.out) in
-    let error = written (g.E.Sink.given c.args.error.now) (g.E.Sink.given c.summarize_with_top.new.error)
+    let error = writer_change (g.E.Sink.given c.args.error.now) (g.E.Sink.given c.summarize_with_top.new.error)
     (g.E.Sink.failures c.args.error.now) (g.E.Sink.failures c.summarize_with_top.new.error) in
     record {
       done = λ is.

@@ -19,7 +19,7 @@ use Rattle.replay_output.specs.Failures.{failure_lines, NothingFailed}
 use Rattle.replay_summary.specs.declared.occupancy.Occupancy.{Occupancy}
 use Rattle.replay_workers.specs.Occupied.{IsOccupancyOver}
 use Rattle.replay_workers.specs.Run.{IsMeasuredRun, is_complete}
-use Rattle.replay_program.specs.Replayed.{written, Took, TookPrefix}
+use Rattle.replay_program.specs.Replayed.{writer_change, Took, TookPrefix}
 use Rattle.replay_program.specs.Summarized.{TakesToSummarize, run_summary, summary_and_top, with_ranges}
 use Rattle.replay_program.proofs.Counting.{ran_and_lost, seen_chain}
 use Rattle.replay_program.proofs.Measuring.{measured_as, measured_by_other, occupied_over}
@@ -37,7 +37,7 @@ returns-in-Err g c = record {
     reported = c.fail_to_start.ensures.line;
   });
   met = met_nothing c.args.options (map g.S.Source.remaining c.args.readers.items) c.unstarted.result.met
-      (written (g.E.Sink.given c.args.error.now) (g.E.Sink.given c.fail_to_start.new.error) (g.E.Sink.failures c.args.error.now)
+      (writer_change (g.E.Sink.given c.args.error.now) (g.E.Sink.given c.fail_to_start.new.error) (g.E.Sink.failures c.args.error.now)
       (g.E.Sink.failures c.fail_to_start.new.error)) c.unstarted.ensures.stop;
   output_failed = not_failed c.unstarted.result.met.output_failed c.unstarted.ensures.output_failed;
   ends = λ is. cc (c.fail_to_start.ensures.status, c.unstarted.ensures.status, is);
@@ -84,7 +84,7 @@ returns-in-Ok-text_of_top-clause-done g c = λ is.
     let ending = ending_is complete account.stop c.new-ending.result c.new-ending.ensures.ending in
     let report = c.print_summary-report.ensures in
     let printed = c.print_summary-report.result.printed in
-    let out = written (g.O.Sink.given c.args.out.now) (g.O.Sink.given c.print_summary-report.new.out)
+    let out = writer_change (g.O.Sink.given c.args.out.now) (g.O.Sink.given c.print_summary-report.new.out)
     (g.O.Sink.failures c.args.out.now) (g.O.Sink.failures c.print_summary-report.new.out) in
     let are = are_lines options files received failures complete account.stop run in
     let text_is : (λ (answers : List (List Answer)). with_ranges form (run_summary form (Some occupancy) answers) c.deref.result.now) ≡ summary_and_top form occupancy top =
@@ -151,9 +151,9 @@ returns-in-Ok-text_of_top-clause-failed g c = λ is.
     let report = c.print_summary-report.ensures in
     let printed = c.print_summary-report.result.printed in
     let reported = c.print_summary-report.new.failures in
-    let out = written (g.O.Sink.given c.args.out.now) (g.O.Sink.given c.print_summary-report.new.out)
+    let out = writer_change (g.O.Sink.given c.args.out.now) (g.O.Sink.given c.print_summary-report.new.out)
     (g.O.Sink.failures c.args.out.now) (g.O.Sink.failures c.print_summary-report.new.out) in
-    let error = written (g.E.Sink.given c.args.error.now) (g.E.Sink.given c.print_summary-report.new.error)
+    let error = writer_change (g.E.Sink.given c.args.error.now) (g.E.Sink.given c.print_summary-report.new.error)
     (g.E.Sink.failures c.args.error.now) (g.E.Sink.failures c.print_summary-report.new.error) in
     let are = are_lines options files received failures complete account.stop run in
     let text_is : (λ (answers : List (List Answer)). with_ranges form (run_summary form (Some occupancy) answers) c.deref.result.now) ≡ summary_and_top form occupancy top =
@@ -214,9 +214,9 @@ returns-clause-failed g c = λ is.
     let ending = ending_is complete account.stop c.new-ending.result c.new-ending.ensures.ending in
     let report = c.report_last_loss.ensures in
     let reported = c.report_last_loss.new.failures in
-    let out = written (g.O.Sink.given c.args.out.now) (g.O.Sink.given c.args.out.now)
+    let out = writer_change (g.O.Sink.given c.args.out.now) (g.O.Sink.given c.args.out.now)
     (g.O.Sink.failures c.args.out.now) (g.O.Sink.failures c.args.out.now) in
-    let error = written (g.E.Sink.given c.args.error.now) (g.E.Sink.given c.report_last_loss.new.error)
+    let error = writer_change (g.E.Sink.given c.args.error.now) (g.E.Sink.given c.report_last_loss.new.error)
     (g.E.Sink.failures c.args.error.now) (g.E.Sink.failures c.report_last_loss.new.error) in
     let some : 1 ≤ length failures = omega (
       arith,
@@ -246,7 +246,7 @@ returns-in-Ok-text_of_top-clause-met g c =
     let account = c.in-Ok.ended.1 in
     let complete = c.is_complete-complete.result in
     let ending = ending_is complete account.stop c.new-ending.result c.new-ending.ensures.ending in
-    let error = written (g.E.Sink.given c.args.error.now) (g.E.Sink.given c.print_summary-report.new.error)
+    let error = writer_change (g.E.Sink.given c.args.error.now) (g.E.Sink.given c.print_summary-report.new.error)
     (g.E.Sink.failures c.args.error.now) (g.E.Sink.failures c.print_summary-report.new.error) in
     let reached = c.run_observed-run.new.observer in
     let start : HasSeen c.new-reached.result.observer [] =
@@ -268,7 +268,7 @@ returns-clause-met g c =
     let account = c.in-Ok.ended.1 in
     let complete = c.is_complete-complete.result in
     let ending = ending_is complete account.stop c.new-ending.result c.new-ending.ensures.ending in
-    let error = written (g.E.Sink.given c.args.error.now) (g.E.Sink.given c.report_last_loss.new.error)
+    let error = writer_change (g.E.Sink.given c.args.error.now) (g.E.Sink.given c.report_last_loss.new.error)
     (g.E.Sink.failures c.args.error.now) (g.E.Sink.failures c.report_last_loss.new.error) in
     let reached = c.run_observed-run.new.observer in
     let start : HasSeen c.new-reached.result.observer [] =

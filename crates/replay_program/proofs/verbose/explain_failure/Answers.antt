@@ -1,7 +1,7 @@
 use Rattle.std.proofs.Common.{List, ℕ, Bor, inl, inr, refl, subst}
 use Rattle.replay_diagnosis.specs.Remedy.{remedy_line, run_remedy_line}
 use Rattle.replay_program.specs.Program.{texts}
-use Rattle.replay_program.specs.Replayed.{written}
+use Rattle.replay_program.specs.Replayed.{writer_change}
 use Rattle.replay_program.specs.Verbose.{AreExamined, IsFirstFound}
 use Rattle.replay_program.proofs.Saying.{explained_by}
 use Rattle.replay_program.proofs.verbose.explain_failure.Goals as goal
@@ -15,7 +15,7 @@ returns-in-Err g c =
     let found = c.in-Err.found in
     let old = c.args.error.now in
     let new = c.say_of_file.new.error in
-    let error = written (g.E.Sink.given old) (g.E.Sink.given new) (g.E.Sink.failures old) (g.E.Sink.failures new) in
+    let error = writer_change (g.E.Sink.given old) (g.E.Sink.given new) (g.E.Sink.failures old) (g.E.Sink.failures new) in
     let first = subst (λ (names : List (Bor (List ℕ))). IsFirstFound contents cannot_open (texts names) found.name.now found.finding)
     c.deref.ensures.value c.in-Err.ensures.found in
     record {
@@ -36,7 +36,7 @@ returns g c =
     let finding = c.in-Some.finding in
     let old = c.args.error.now in
     let new = c.say_of_run.new.error in
-    let error = written (g.E.Sink.given old) (g.E.Sink.given new) (g.E.Sink.failures old) (g.E.Sink.failures new) in
+    let error = writer_change (g.E.Sink.given old) (g.E.Sink.given new) (g.E.Sink.failures old) (g.E.Sink.failures new) in
     let examined = subst (λ (names : List (Bor (List ℕ))). AreExamined contents (texts names) c.in-Ok.batches.least_previous)
     c.deref.ensures.value c.in-Ok.ensures.batches in
     record {

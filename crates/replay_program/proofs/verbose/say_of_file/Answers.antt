@@ -1,6 +1,6 @@
 use Rattle.std.proofs.Common.{refl}
 use Rattle.replay_diagnosis.specs.Remedy.{remedy_line}
-use Rattle.replay_program.specs.Replayed.{written}
+use Rattle.replay_program.specs.Replayed.{writer_change}
 use Rattle.replay_program.proofs.Saying.{said_by}
 use Rattle.replay_program.proofs.verbose.say_of_file.Goals as goal
 
@@ -9,7 +9,7 @@ returns g c =
     let wrote = c.write_remedy.ensures in
     let old = c.args.error.now in
     let new = c.write_remedy.new.sink in
-    let error = written (g.E.Sink.given old) (g.E.Sink.given new) (g.E.Sink.failures old) (g.E.Sink.failures new) in
+    let error = writer_change (g.E.Sink.given old) (g.E.Sink.given new) (g.E.Sink.failures old) (g.E.Sink.failures new) in
     record {
       said = said_by g.E.Sink.given old new error (remedy_line c.args.found.now.name.now c.args.found.now.finding) c.write_remedy.result refl refl wrote.text wrote.either
           wrote.memory wrote.write;

@@ -4,7 +4,7 @@ ghost use Rattle.std.specs.Prelude.{◌≡◌, ◌≢◌, ◌<◌, ℕ, List, Op
 ghost use Rattle.std.specs.List.{All};
 ghost use Rattle.std.specs.Io.KnownBytes.{Keeps};
 ghost use Rattle.replay_program.specs.Program.{named_files, texts};
-ghost use Rattle.replay_program.specs.Replayed.{written};
+ghost use Rattle.replay_program.specs.Replayed.{writer_change};
 ghost use Rattle.replay_program.specs.Sharded.{HasMetByShards};
 ghost use Rattle.replay_program.specs.ShardedProgram.{ChecksFilesByShards};
 ghost use Rattle.replay_program.specs.ShardedProgram.{FailsToCheckFilesByShards};
@@ -55,13 +55,14 @@ pub fn check_sharded<R: Threads + Wait + Copy + Send + 'static, F: Files, O: Sin
         (named_files (F.contents files.now) (F.has_opened files.now) (F.cannot_open files.now)
         (F.begun files.now) (F.has_created files.now) (F.cannot_create files.now))
         sharded.points options bytes (texts replies.now)
-        (written (O.given out.old) (O.given out.new) (O.failures out.old) (O.failures out.new))
-        (written (E.given error.old) (E.given error.new) (E.failures error.old)
+        (writer_change (O.given out.old) (O.given out.new) (O.failures out.old)
+        (O.failures out.new))
+        (writer_change (E.given error.old) (E.given error.new) (E.failures error.old)
         (E.failures error.new)) }
     ensures met { (bytes : List (Option (List ℕ)))
         → All (ReadTheFiles F.Reader.remaining bytes) (map vec_items sharded.readers.items)
         → HasMetByShards sharded.points options bytes result.met
-        (written (E.given error.old) (E.given error.new) (E.failures error.old)
+        (writer_change (E.given error.old) (E.given error.new) (E.failures error.old)
         (E.failures error.new)) }
     ensures output_failed { result.met.output_failed ≡ true
         → O.failures out.old < O.failures out.new }

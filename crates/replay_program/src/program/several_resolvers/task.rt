@@ -6,7 +6,7 @@ ghost use Rattle.std.specs.List.{All};
 ghost use Rattle.std.specs.Io.KnownBytes.{Keeps};
 ghost use Rattle.replay_arguments.specs.Asks.{Asks};
 ghost use Rattle.replay_program.specs.Program.{named_files};
-ghost use Rattle.replay_program.specs.Replayed.{written};
+ghost use Rattle.replay_program.specs.Replayed.{writer_change};
 ghost use Rattle.replay_program.specs.Sharded.{HasMetByShards};
 ghost use Rattle.replay_program.specs.ShardedProgram.{FindsDifferencesByShards, IsTaskDoneByShards};
 ghost use Rattle.replay_program.specs.ShardedProgram.{TaskFailsByShards};
@@ -47,7 +47,8 @@ pub fn run_task_sharded<R: Threads + Wait + Copy + Send + 'static, F: Files, O: 
         (named_files (F.contents files.now) (F.has_opened files.now) (F.cannot_open files.now)
         (F.begun files.now) (F.has_created files.now) (F.cannot_create files.now))
         sharded.points bytes line.now line.now.task result
-        (written (O.given out.old) (O.given out.new) (O.failures out.old) (O.failures out.new)) }
+        (writer_change (O.given out.old) (O.given out.new) (O.failures out.old)
+        (O.failures out.new)) }
     ensures differs { (bytes : List (Option (List ℕ)))
         → All (ReadTheFiles F.Reader.remaining bytes) (map vec_items sharded.readers.items)
         → result.status ≡ Status.Differs
@@ -55,7 +56,8 @@ pub fn run_task_sharded<R: Threads + Wait + Copy + Send + 'static, F: Files, O: 
         (named_files (F.contents files.now) (F.has_opened files.now) (F.cannot_open files.now)
         (F.begun files.now) (F.has_created files.now) (F.cannot_create files.now))
         sharded.points bytes line.now line.now.task
-        (written (O.given out.old) (O.given out.new) (O.failures out.old) (O.failures out.new)) }
+        (writer_change (O.given out.old) (O.given out.new) (O.failures out.old)
+        (O.failures out.new)) }
     ensures quiet { result.status ≢ Status.Failed → Keeps (E.given error.old) (E.given error.new) }
     ensures failed { (bytes : List (Option (List ℕ)))
         → All (ReadTheFiles F.Reader.remaining bytes) (map vec_items sharded.readers.items)
@@ -64,13 +66,14 @@ pub fn run_task_sharded<R: Threads + Wait + Copy + Send + 'static, F: Files, O: 
         (named_files (F.contents files.now) (F.has_opened files.now) (F.cannot_open files.now)
         (F.begun files.now) (F.has_created files.now) (F.cannot_create files.now))
         sharded.points bytes line.now line.now.task result
-        (written (O.given out.old) (O.given out.new) (O.failures out.old) (O.failures out.new))
-        (written (E.given error.old) (E.given error.new) (E.failures error.old)
+        (writer_change (O.given out.old) (O.given out.new) (O.failures out.old)
+        (O.failures out.new))
+        (writer_change (E.given error.old) (E.given error.new) (E.failures error.old)
         (E.failures error.new)) }
     ensures met { (bytes : List (Option (List ℕ)))
         → All (ReadTheFiles F.Reader.remaining bytes) (map vec_items sharded.readers.items)
         → HasMetByShards sharded.points line.now.options bytes result.met
-        (written (E.given error.old) (E.given error.new) (E.failures error.old)
+        (writer_change (E.given error.old) (E.given error.new) (E.failures error.old)
         (E.failures error.new)) }
     ensures output_failed { result.met.output_failed ≡ true
         → O.failures out.old < O.failures out.new }

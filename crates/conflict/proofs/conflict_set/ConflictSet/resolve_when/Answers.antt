@@ -4,7 +4,7 @@ use Rattle.std.proofs.lemmas.Int.{to_z-of_z}
 use Rattle.keyspace.specs.declared.reply.Reply.{Reply}
 use Rattle.keyspace.specs.Judged.{edge, Judged}
 use Rattle.keyspace.specs.Judge.{judge, judge_txns}
-use Rattle.keyspace.specs.Writes.{writes_of, committed}
+use Rattle.keyspace.specs.Writes.{writes_of, committed_ranges}
 use Rattle.keyspace.proofs.callers.Judging.{reply_same}
 use Rattle.stepmap.specs.Boundary.{AreUpTo}
 use Rattle.stepmap.specs.Covers.{MapCovers}
@@ -16,7 +16,7 @@ use Rattle.conflict.specs.ConflictSet.{
   IsSwept,
   IsOverLimit,
   IsOverLimitUnited,
-  raised,
+  with_edge,
   HasRoomToWrite,
   HasNoRoomToWrite,
   stop_after,
@@ -125,7 +125,7 @@ returns-in-Ok-clause-swept c = λ ws rooted.
     let is = edge_passed c.self.inside.window given b window_fits fits c.edge_of-edge.ensures.edge
     ∙ ap (λ w. edge w b) window in
     let all = ws ++ writes_of b c.in-Ok.reply in
-    let ranges = committed b.txns c.in-Ok.reply.entries in
+    let ranges = committed_ranges b.txns c.in-Ok.reply.entries in
     subst (λ m. IsSwept (edge c.args.self.now.window b) m c.resolve_at.new.steps all ranges) map
     (subst (λ e. IsSwept e c.self.inside.map c.resolve_at.new.steps all ranges) is
     (c.in-Ok.ensures.swept ws (subst (λ m. Rooted m ws) (sym map) rooted)))
@@ -140,7 +140,7 @@ returns-in-Ok-clause-paced c =
     let map : c.self.inside.map ≡ c.args.self.now.map = ap (λ (s : SetState). s.map) c.self.view_is in
     let is = edge_passed c.self.inside.window given b window_fits fits c.edge_of-edge.ensures.edge
     ∙ ap (λ w. edge w b) window in
-    let ranges = committed b.txns c.in-Ok.reply.entries in
+    let ranges = committed_ranges b.txns c.in-Ok.reply.entries in
     subst (λ m. IsPaced (edge c.args.self.now.window b) b.version m c.resolve_at.new.steps ranges) map
     (subst (λ e. IsPaced e b.version c.self.inside.map c.resolve_at.new.steps ranges) is c.in-Ok.ensures.paced)
 
@@ -180,9 +180,9 @@ returns-in-Ok-clause-room c =
     let map : c.self.inside.map ≡ c.args.self.now.map = ap (λ (s : SetState). s.map) c.self.view_is in
     let is = edge_passed c.self.inside.window given b window_fits fits c.edge_of-edge.ensures.edge
     ∙ ap (λ w. edge w b) window in
-    let ranges = committed b.txns c.in-Ok.reply.entries in
-    subst (λ m. HasRoomToWrite (raised (edge c.args.self.now.window b) m) ranges) map
-    (subst (λ e. HasRoomToWrite (raised e c.self.inside.map) ranges) is c.in-Ok.ensures.room)
+    let ranges = committed_ranges b.txns c.in-Ok.reply.entries in
+    subst (λ m. HasRoomToWrite (with_edge (edge c.args.self.now.window b) m) ranges) map
+    (subst (λ e. HasRoomToWrite (with_edge e c.self.inside.map) ranges) is c.in-Ok.ensures.room)
 
 pub returns-in-Err-clause-full_united : goal.returns-in-Err-clause-full_united
 returns-in-Err-clause-full_united c = λ going full ws reply remembers judged.
@@ -196,7 +196,7 @@ returns-in-Err-clause-full_united c = λ going full ws reply remembers judged.
     ∙ ap (λ w. edge w b) window in
     let only : reply.entries ≡ judge_txns (edge c.args.self.now.window b) ws [] b.txns =
     ap (λ (r : Reply). r.entries) (c.one_reply.ensures.only c.args.self.now.window ws b reply judged) in
-    let ranges = committed b.txns reply.entries in
+    let ranges = committed_ranges b.txns reply.entries in
     subst (λ m. IsOverLimitUnited m.limit (edge c.args.self.now.window b) ws ranges) map
     (subst (λ e. IsOverLimitUnited c.self.inside.map.limit e ws ranges) is
     (c.in-Err.ensures.full_united full ws reply.entries (subst (λ m. MapCovers m ws) (sym map) remembers.covers)
@@ -215,9 +215,9 @@ returns-in-Err-clause-no_room c = λ going full ws reply remembers judged.
     ∙ ap (λ w. edge w b) window in
     let only : reply.entries ≡ judge_txns (edge c.args.self.now.window b) ws [] b.txns =
     ap (λ (r : Reply). r.entries) (c.one_reply.ensures.only c.args.self.now.window ws b reply judged) in
-    let ranges = committed b.txns reply.entries in
-    subst (λ m. HasNoRoomToWrite (raised (edge c.args.self.now.window b) m) ranges) map
-    (subst (λ e. HasNoRoomToWrite (raised e c.self.inside.map) ranges) is
+    let ranges = committed_ranges b.txns reply.entries in
+    subst (λ m. HasNoRoomToWrite (with_edge (edge c.args.self.now.window b) m) ranges) map
+    (subst (λ e. HasNoRoomToWrite (with_edge e c.self.inside.map) ranges) is
     (c.in-Err.ensures.no_room full ws reply.entries (subst (λ m. MapCovers m ws) (sym map) remembers.covers)
     (only ∙ ap (λ e. judge_txns e ws [] b.txns) (sym is))))
 
@@ -233,11 +233,11 @@ returns-in-Err-clause-memory c = λ going memory ws reply remembers judged.
     ∙ ap (λ w. edge w b) window in
     let only : reply.entries ≡ judge_txns (edge c.args.self.now.window b) ws [] b.txns =
     ap (λ (r : Reply). r.entries) (c.one_reply.ensures.only c.args.self.now.window ws b reply judged) in
-    let ranges = committed b.txns reply.entries in
+    let ranges = committed_ranges b.txns reply.entries in
     subst (λ (m : Steps). (c.resolve_at.new.steps.boundaries ≡ m.boundaries)
-    ⊎ HasRoomToWrite (raised (edge c.args.self.now.window b) m) ranges) map
+    ⊎ HasRoomToWrite (with_edge (edge c.args.self.now.window b) m) ranges) map
     (subst (λ e. (c.resolve_at.new.steps.boundaries ≡ c.self.inside.map.boundaries)
-    ⊎ HasRoomToWrite (raised e c.self.inside.map) ranges) is
+    ⊎ HasRoomToWrite (with_edge e c.self.inside.map) ranges) is
     (c.in-Err.ensures.memory memory ws reply.entries (subst (λ m. MapCovers m ws) (sym map) remembers.covers)
     (only ∙ ap (λ e. judge_txns e ws [] b.txns) (sym is))))
 

@@ -1,13 +1,13 @@
 use Rattle.std.proofs.Common.{Err, w64, ◌≡◌, ◌≤◌, ◌+◌, ◌*◌, ◌⊎◌, List, [], ◌++◌, length, ap, sym, subst, ◌∙◌}
 use Rattle.std.proofs.lemmas.Int.{to_z-of_z}
 use Rattle.keyspace.specs.Judge.{judge_txns}
-use Rattle.keyspace.specs.Writes.{at_version, committed, writes_of}
+use Rattle.keyspace.specs.Writes.{at_version, committed_ranges, writes_of}
 use Rattle.stepmap.specs.Covers.{MapCovers}
 use Rattle.stepmap.specs.Rooted.{Ends, Rooted}
 use Rattle.stepmap.specs.Sweeping.{rest, after_sweep}
 use Rattle.stepmap.specs.Uniting.{Unites}
 use Rattle.keys.specs.declared.range.Range.{Range}
-use Rattle.conflict.specs.ConflictSet.{IsSwept, IsOverLimit, IsOverLimitUnited, raised, HasRoomToWrite, HasNoRoomToWrite}
+use Rattle.conflict.specs.ConflictSet.{IsSwept, IsOverLimit, IsOverLimitUnited, with_edge, HasRoomToWrite, HasNoRoomToWrite}
 use Rattle.conflict.specs.Pace.{with_written, IsPaced}
 use Rattle.conflict.proofs.Swept.{swept_on}
 use Rattle.conflict.proofs.UnionWritten.{of_err}
@@ -19,8 +19,8 @@ returns-in_err-count-clause-full c = λ full ws entries covers rooted judged.
     let is = ap Err (sym (of_err _ full c.from_residual-in_err-count.ensures.1)) in
     let edge_is = to_z-of_z w64 c.args.edge c.ranges.edge in
     let same = c.deref.ensures.value ∙ c.in_ok-entries.ensures.judged ws covers ∙ ap (λ e. judge_txns e ws [] txns) edge_is ∙ sym judged in
-    subst (λ es. IsOverLimit c.args.steps.now.limit c.args.edge (ws ++ at_version c.args.batch.now.version (committed txns es))) same
-    (subst (λ e. IsOverLimit c.args.steps.now.limit e (ws ++ at_version c.args.batch.now.version (committed txns c.deref.result.now)))
+    subst (λ es. IsOverLimit c.args.steps.now.limit c.args.edge (ws ++ at_version c.args.batch.now.version (committed_ranges txns es))) same
+    (subst (λ e. IsOverLimit c.args.steps.now.limit e (ws ++ at_version c.args.batch.now.version (committed_ranges txns c.deref.result.now)))
     edge_is (c.in_err-count.ensures.full is ws rooted))
 
 pub returns-in_err-count-clause-full_united : goal.returns-in_err-count-clause-full_united
@@ -29,8 +29,8 @@ returns-in_err-count-clause-full_united c = λ full ws entries covers rooted jud
     let is = ap Err (sym (of_err _ full c.from_residual-in_err-count.ensures.1)) in
     let edge_is = to_z-of_z w64 c.args.edge c.ranges.edge in
     let same = c.deref.ensures.value ∙ c.in_ok-entries.ensures.judged ws covers ∙ ap (λ e. judge_txns e ws [] txns) edge_is ∙ sym judged in
-    subst (λ es. IsOverLimitUnited c.args.steps.now.limit c.args.edge ws (committed txns es)) same
-    (subst (λ e. IsOverLimitUnited c.args.steps.now.limit e ws (committed txns c.deref.result.now)) edge_is
+    subst (λ es. IsOverLimitUnited c.args.steps.now.limit c.args.edge ws (committed_ranges txns es)) same
+    (subst (λ e. IsOverLimitUnited c.args.steps.now.limit e ws (committed_ranges txns c.deref.result.now)) edge_is
     (c.in_err-count.ensures.full_united is ws rooted))
 
 pub returns-in_err-count-clause-refused : goal.returns-in_err-count-clause-refused
@@ -44,8 +44,8 @@ returns-in_err-count-clause-no_room c = λ full ws entries covers judged.
     let is = ap Err (sym (of_err _ full c.from_residual-in_err-count.ensures.1)) in
     let edge_is = to_z-of_z w64 c.args.edge c.ranges.edge in
     let same = c.deref.ensures.value ∙ c.in_ok-entries.ensures.judged ws covers ∙ ap (λ e. judge_txns e ws [] txns) edge_is ∙ sym judged in
-    subst (λ es. HasNoRoomToWrite (raised c.args.edge c.args.steps.now) (committed txns es)) same
-    (subst (λ e. HasNoRoomToWrite (raised e c.args.steps.now) (committed txns c.deref.result.now)) edge_is
+    subst (λ es. HasNoRoomToWrite (with_edge c.args.edge c.args.steps.now) (committed_ranges txns es)) same
+    (subst (λ e. HasNoRoomToWrite (with_edge e c.args.steps.now) (committed_ranges txns c.deref.result.now)) edge_is
     (c.in_err-count.ensures.no_room is))
 
 pub returns-in_err-count-clause-memory : goal.returns-in_err-count-clause-memory
@@ -56,9 +56,9 @@ returns-in_err-count-clause-memory c = λ memory ws entries covers judged.
     let same = c.deref.ensures.value ∙ c.in_ok-entries.ensures.judged ws covers ∙ ap (λ e. judge_txns e ws [] txns) edge_is ∙ sym judged in
     let now = c.write_batch.new.steps in
     subst (λ es. (now.boundaries ≡ c.args.steps.now.boundaries)
-    ⊎ HasRoomToWrite (raised c.args.edge c.args.steps.now) (committed txns es)) same
+    ⊎ HasRoomToWrite (with_edge c.args.edge c.args.steps.now) (committed_ranges txns es)) same
     (subst (λ e. (now.boundaries ≡ c.args.steps.now.boundaries)
-    ⊎ HasRoomToWrite (raised e c.args.steps.now) (committed txns c.deref.result.now)) edge_is (c.in_err-count.ensures.memory is))
+    ⊎ HasRoomToWrite (with_edge e c.args.steps.now) (committed_ranges txns c.deref.result.now)) edge_is (c.in_err-count.ensures.memory is))
 
 pub returns-clause-covers : goal.returns-clause-covers
 returns-clause-covers c = λ ws covers.
@@ -66,7 +66,7 @@ returns-clause-covers c = λ ws covers.
     let version = c.args.batch.now.version in
     let same = c.new-2.ensures.entries ∙ c.new.ensures.items ∙ sym c.deref.ensures.value in
     c.sweep.ensures.covers (ws ++ writes_of c.args.batch.now c.new-2.result)
-    (subst (λ es. MapCovers c.write_batch.new.steps (ws ++ at_version version (committed txns es))) (sym same)
+    (subst (λ es. MapCovers c.write_batch.new.steps (ws ++ at_version version (committed_ranges txns es))) (sym same)
     (c.in_ok-count.ensures.covers ws covers))
 
 pub returns-clause-rooted : goal.returns-clause-rooted
@@ -75,7 +75,7 @@ returns-clause-rooted c = λ ws rooted.
     let version = c.args.batch.now.version in
     let same = c.new-2.ensures.entries ∙ c.new.ensures.items ∙ sym c.deref.ensures.value in
     c.sweep.ensures.rooted (ws ++ writes_of c.args.batch.now c.new-2.result)
-    (subst (λ es. Rooted c.write_batch.new.steps (ws ++ at_version version (committed txns es))) (sym same)
+    (subst (λ es. Rooted c.write_batch.new.steps (ws ++ at_version version (committed_ranges txns es))) (sym same)
     (c.in_ok-count.ensures.rooted ws rooted))
 
 pub returns-clause-swept : goal.returns-clause-swept
@@ -87,7 +87,7 @@ returns-clause-swept c = λ ws rooted.
     let mid = c.write_batch.new.steps in
     let now = c.sweep.new.self in
     let edge_is = to_z-of_z w64 c.args.edge c.ranges.edge in
-    let all = ws ++ at_version version (committed txns entries) in
+    let all = ws ++ at_version version (committed_ranges txns entries) in
     let same = c.new-2.ensures.entries ∙ c.new.ensures.items ∙ sym c.deref.ensures.value in
     let mid_edge : mid.edge ≡ c.args.edge = c.in_ok-count.ensures.edge ∙ edge_is in
     let before : Ends mid.boundaries all c.args.edge
@@ -96,11 +96,11 @@ returns-clause-swept c = λ ws rooted.
     (c.in_ok-count.ensures.swept ws rooted) in
     let rooted_mid = c.in_ok-count.ensures.rooted ws rooted in
     let wrote_all = c.in_ok-count.ensures.united in
-    let united : (united : List Range) × Unites united (committed txns entries) × (length united ≡ c.in_ok-count.count) =
+    let united : (united : List Range) × Unites united (committed_ranges txns entries) × (length united ≡ c.in_ok-count.count) =
     (wrote_all.0, wrote_all.1, wrote_all.2) in
-    subst (λ es. IsSwept c.args.edge old now (ws ++ at_version version (committed txns es)) (committed txns es))
+    subst (λ es. IsSwept c.args.edge old now (ws ++ at_version version (committed_ranges txns es)) (committed_ranges txns es))
     (sym same)
-    (swept_on c.args.edge old mid now all (committed txns entries) c.in_ok-count.count united mid_edge before
+    (swept_on c.args.edge old mid now all (committed_ranges txns entries) c.in_ok-count.count united mid_edge before
     (c.sweep.ensures.ends_stay all c.args.edge) c.sweep.result
     (λ round. c.sweep.ensures.ends round all rooted_mid) c.sweep.ensures.front c.sweep.ensures.fewer)
 
@@ -109,8 +109,8 @@ returns-clause-room c =
     let txns = c.args.batch.now.txns in
     let same = c.new-2.ensures.entries ∙ c.new.ensures.items ∙ sym c.deref.ensures.value in
     let edge_is = to_z-of_z w64 c.args.edge c.ranges.edge in
-    subst (λ es. HasRoomToWrite (raised c.args.edge c.args.steps.now) (committed txns es)) (sym same)
-    (subst (λ e. HasRoomToWrite (raised e c.args.steps.now) (committed txns c.deref.result.now)) edge_is c.in_ok-count.ensures.room)
+    subst (λ es. HasRoomToWrite (with_edge c.args.edge c.args.steps.now) (committed_ranges txns es)) (sym same)
+    (subst (λ e. HasRoomToWrite (with_edge e c.args.steps.now) (committed_ranges txns c.deref.result.now)) edge_is c.in_ok-count.ensures.room)
 
 pub returns-clause-paced : goal.returns-clause-paced
 returns-clause-paced c =
@@ -122,10 +122,10 @@ returns-clause-paced c =
     let same = c.new-2.ensures.entries ∙ c.new.ensures.items ∙ sym c.deref.ensures.value in
     let edge_is = to_z-of_z w64 c.args.edge c.ranges.edge in
     let wrote = c.in_ok-count.ensures.united in
-    subst (λ es. IsPaced c.args.edge version old now (committed txns es)) (sym same) (
+    subst (λ es. IsPaced c.args.edge version old now (committed_ranges txns es)) (sym same) (
       wrote.0,
       wrote.1,
       c.sweep.ensures.map ∙ ap (λ n. after_sweep (3 * n + 10) mid) (sym wrote.2)
           ∙ ap (after_sweep (3 * length wrote.0 + 10))
-          (wrote.3 ∙ ap (λ e. with_written wrote.0 version (raised e old)) edge_is),
+          (wrote.3 ∙ ap (λ e. with_written wrote.0 version (with_edge e old)) edge_is),
     )

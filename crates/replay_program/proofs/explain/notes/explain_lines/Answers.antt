@@ -2,17 +2,17 @@ use Rattle.std.proofs.Common.{◌≡◌, ◌<◌, ℕ, length, map, vec_items, g
 use Rattle.std.specs.Vec.{with_items}
 use Rattle.std.proofs.lemmas.List.{length-map, with_items_is}
 use Rattle.replay_explanations.specs.Explainer.{text_of}
-use Rattle.replay_program.specs.Explained.{noted}
+use Rattle.replay_program.specs.Explained.{line_with_note}
 use Rattle.replay_program.proofs.Noting.{all_changed, length-changed, none_changed, viewed_also}
 use Rattle.replay_program.proofs.explain.notes.explain_lines.Goals as goal
 
 pub loop-proxy-init : goal.loop-proxy-init
 loop-proxy-init c =
-    none_changed (λ proxy. map (noted c.args.explainer.now.form (text_of c.args.explainer.now.texts) proxy)) 0 (map vec_items c.args.lines.now)
+    none_changed (λ proxy. map (line_with_note c.args.explainer.now.form (text_of c.args.explainer.now.texts) proxy)) 0 (map vec_items c.args.lines.now)
 
 pub loop-proxy-preserved : goal.loop-proxy-preserved
 loop-proxy-preserved c =
-    let change = λ (proxy : ℕ). map (noted c.args.explainer.now.form (text_of c.args.explainer.now.texts) proxy) in
+    let change = λ (proxy : ℕ). map (line_with_note c.args.explainer.now.form (text_of c.args.explainer.now.texts) proxy) in
     let entire = map vec_items c.args.lines.now in
     let now = c.loop-proxy.lines in
     let proxy = c.loop-proxy.proxy in
@@ -33,5 +33,5 @@ loop-proxy-preserved c =
 pub returns-clause-noted : goal.returns-clause-noted
 returns-clause-noted c =
     c.loop-proxy.invariant
-    ∙ all_changed (λ proxy. map (noted c.args.explainer.now.form (text_of c.args.explainer.now.texts) proxy)) 0 c.loop-proxy.proxy
+    ∙ all_changed (λ proxy. map (line_with_note c.args.explainer.now.form (text_of c.args.explainer.now.texts) proxy)) 0 c.loop-proxy.proxy
     (map vec_items c.args.lines.now) (omega (arith, c.loop-proxy-test.false, length-map c.args.lines.now vec_items))

@@ -1,7 +1,7 @@
 use Rattle.std.proofs.Common.{◌∙◌, List, ℕ, Option, Err, Some, ap, inr, refl, subst}
 use Rattle.replay_program.specs.Program.{FindsDifferences, IsTaskDone, TaskFails, bytes_of, named_files}
 use Rattle.replay_program.specs.Met.{HasMet}
-use Rattle.replay_program.specs.Replayed.{HasFailed, Written, written}
+use Rattle.replay_program.specs.Replayed.{HasFailed, Written, writer_change}
 use Rattle.replay_stream.specs.Sinks.{state_by}
 use Rattle.replay_program.proofs.Meeting.{met_nothing, not_failed}
 use Rattle.replay_program.proofs.Programs.{done_same, fails_same, not_created, not_opened, to_file, to_standard}
@@ -13,9 +13,9 @@ returns-in-Err-clause-failed g c = λ is.
     let files = named_files (g.F.Files.contents f) (g.F.Files.has_opened f) (g.F.Files.cannot_open f)
     (g.F.Files.begun f) (g.F.Files.has_created f) (g.F.Files.cannot_create f) in
     let state = state_by g.F.Writer.Sink.given g.F.Writer.Sink.failures in
-    let standard = written (g.O.Sink.given c.args.out.now) (g.O.Sink.given c.args.out.now)
+    let standard = writer_change (g.O.Sink.given c.args.out.now) (g.O.Sink.given c.args.out.now)
     (g.O.Sink.failures c.args.out.now) (g.O.Sink.failures c.args.out.now) in
-    let error = written (g.E.Sink.given c.args.error.now) (g.E.Sink.given c.fail_to_open.new.error)
+    let error = writer_change (g.E.Sink.given c.args.error.now) (g.E.Sink.given c.fail_to_open.new.error)
     (g.E.Sink.failures c.args.error.now) (g.E.Sink.failures c.fail_to_open.new.error) in
     not_opened state files c.args.line.now c.unstarted.result standard error c.in-Err.cause
     (λ proxy of. c.open_batches.ensures.refused proxy (c.in-Err.is ∙ ap Err of)) refl c.fail_to_open.ensures.line
@@ -29,9 +29,9 @@ returns-in-None g c =
     let line = c.args.line.now in
     let ran = c.run_task.ensures in
     let report = c.run_task.result in
-    let standard = written (g.O.Sink.given c.args.out.now) (g.O.Sink.given c.run_task.new.out)
+    let standard = writer_change (g.O.Sink.given c.args.out.now) (g.O.Sink.given c.run_task.new.out)
     (g.O.Sink.failures c.args.out.now) (g.O.Sink.failures c.run_task.new.out) in
-    let error = written (g.E.Sink.given c.args.error.now) (g.E.Sink.given c.run_task.new.error)
+    let error = writer_change (g.E.Sink.given c.args.error.now) (g.E.Sink.given c.run_task.new.error)
     (g.E.Sink.failures c.args.error.now) (g.E.Sink.failures c.run_task.new.error) in
     let are = c.in-Ok.ensures.contents in
     let bytes = bytes_of files line in
@@ -63,11 +63,11 @@ returns-in-Ok-create g c =
     let opened = c.in-Ok-create.writer in
     let last = c.run_task-report.new.out in
     let report = record first { output = Some last } in
-    let standard = written (g.O.Sink.given c.args.out.now) (g.O.Sink.given c.args.out.now)
+    let standard = writer_change (g.O.Sink.given c.args.out.now) (g.O.Sink.given c.args.out.now)
     (g.O.Sink.failures c.args.out.now) (g.O.Sink.failures c.args.out.now) in
-    let out = written (g.F.Writer.Sink.given opened) (g.F.Writer.Sink.given last)
+    let out = writer_change (g.F.Writer.Sink.given opened) (g.F.Writer.Sink.given last)
     (g.F.Writer.Sink.failures opened) (g.F.Writer.Sink.failures last) in
-    let error = written (g.E.Sink.given c.args.error.now) (g.E.Sink.given c.run_task-report.new.error)
+    let error = writer_change (g.E.Sink.given c.args.error.now) (g.E.Sink.given c.run_task-report.new.error)
     (g.E.Sink.failures c.args.error.now) (g.E.Sink.failures c.run_task-report.new.error) in
     let are = c.in-Ok.ensures.contents in
     let bytes = bytes_of files line in
@@ -97,9 +97,9 @@ returns-in-Err-create-clause-failed g c = λ is.
     let files = named_files (g.F.Files.contents f) (g.F.Files.has_opened f) (g.F.Files.cannot_open f)
     (g.F.Files.begun f) (g.F.Files.has_created f) (g.F.Files.cannot_create f) in
     let state = state_by g.F.Writer.Sink.given g.F.Writer.Sink.failures in
-    let standard = written (g.O.Sink.given c.args.out.now) (g.O.Sink.given c.args.out.now)
+    let standard = writer_change (g.O.Sink.given c.args.out.now) (g.O.Sink.given c.args.out.now)
     (g.O.Sink.failures c.args.out.now) (g.O.Sink.failures c.args.out.now) in
-    let error = written (g.E.Sink.given c.args.error.now) (g.E.Sink.given c.fail_to_create_file-status.new.error)
+    let error = writer_change (g.E.Sink.given c.args.error.now) (g.E.Sink.given c.fail_to_create_file-status.new.error)
     (g.E.Sink.failures c.args.error.now) (g.E.Sink.failures c.fail_to_create_file-status.new.error) in
     not_created state files c.args.line.now c.unstarted-in-Err-create.result standard error c.in-Some.name c.in-Err-create.cause c.in-Some.is
     c.in-Ok.ensures.opened (λ of. c.create.ensures.refused (c.in-Err-create.is ∙ ap Err of)) refl c.fail_to_create_file-status.ensures.line
@@ -111,7 +111,7 @@ returns-in-Err-clause-met g c =
     let files = named_files (g.F.Files.contents f) (g.F.Files.has_opened f) (g.F.Files.cannot_open f)
     (g.F.Files.begun f) (g.F.Files.has_created f) (g.F.Files.cannot_create f) in
     met_nothing line.options (bytes_of files line) c.unstarted.result.met
-    (written (g.E.Sink.given c.args.error.now) (g.E.Sink.given c.fail_to_open.new.error) (g.E.Sink.failures c.args.error.now)
+    (writer_change (g.E.Sink.given c.args.error.now) (g.E.Sink.given c.fail_to_open.new.error) (g.E.Sink.failures c.args.error.now)
     (g.E.Sink.failures c.fail_to_open.new.error)) c.unstarted.ensures.stop
 
 pub returns-in-Err-clause-output_failed : goal.returns-in-Err-clause-output_failed
@@ -124,7 +124,7 @@ returns-in-Err-create-clause-met g c =
     let files = named_files (g.F.Files.contents f) (g.F.Files.has_opened f) (g.F.Files.cannot_open f)
     (g.F.Files.begun f) (g.F.Files.has_created f) (g.F.Files.cannot_create f) in
     met_nothing line.options (bytes_of files line) c.unstarted-in-Err-create.result.met
-    (written (g.E.Sink.given c.args.error.now) (g.E.Sink.given c.fail_to_create_file-status.new.error) (g.E.Sink.failures c.args.error.now)
+    (writer_change (g.E.Sink.given c.args.error.now) (g.E.Sink.given c.fail_to_create_file-status.new.error) (g.E.Sink.failures c.args.error.now)
     (g.E.Sink.failures c.fail_to_create_file-status.new.error)) c.unstarted-in-Err-create.ensures.stop
 
 pub returns-in-Err-create-clause-output_failed : goal.returns-in-Err-create-clause-output_failed

@@ -3,7 +3,7 @@ use Rattle.replay_arguments.specs.declared.arguments.summary_file.SummaryFile.{S
 use Rattle.replay_program.specs.declared.met.Met.{Met}
 use Rattle.replay_program.specs.Met.{HasMet}
 use Rattle.replay_program.specs.Program.{AreNotPrinted, ArePrinted, named_files}
-use Rattle.replay_program.specs.Replayed.{written}
+use Rattle.replay_program.specs.Replayed.{writer_change}
 use Rattle.replay_stream.specs.Sinks.{state_by}
 use Rattle.replay_program.proofs.Meeting.{met_nothing, not_failed}
 use Rattle.replay_program.proofs.Programs.{is_given, no_summary_file}
@@ -20,9 +20,9 @@ returns-in-None g c =
     let report = c.without_files.result in
     let status = c.without_files.ensures.status in
     let replayed = c.replay_over-ended.ensures in
-    let out = written (g.O.Sink.given c.args.out.now) (g.O.Sink.given c.replay_over-ended.new.out)
+    let out = writer_change (g.O.Sink.given c.args.out.now) (g.O.Sink.given c.replay_over-ended.new.out)
     (g.O.Sink.failures c.args.out.now) (g.O.Sink.failures c.replay_over-ended.new.out) in
-    let error = written (g.E.Sink.given c.args.error.now) (g.E.Sink.given c.replay_over-ended.new.error)
+    let error = writer_change (g.E.Sink.given c.args.error.now) (g.E.Sink.given c.replay_over-ended.new.error)
     (g.E.Sink.failures c.args.error.now) (g.E.Sink.failures c.replay_over-ended.new.error) in
     record {
       done = λ is.
@@ -48,9 +48,9 @@ returns-in-Err-clause-failed g c = λ is.
     let bytes = map g.F.Reader.Source.remaining c.args.opened.readers.items in
     let options = c.args.line.now.options in
     let writer = c.unstarted.result.summary in
-    let out = written (g.O.Sink.given c.args.out.now) (g.O.Sink.given c.args.out.now)
+    let out = writer_change (g.O.Sink.given c.args.out.now) (g.O.Sink.given c.args.out.now)
     (g.O.Sink.failures c.args.out.now) (g.O.Sink.failures c.args.out.now) in
-    let error = written (g.E.Sink.given c.args.error.now) (g.E.Sink.given c.fail_to_create_file-status.new.error)
+    let error = writer_change (g.E.Sink.given c.args.error.now) (g.E.Sink.given c.fail_to_create_file-status.new.error)
     (g.E.Sink.failures c.args.error.now) (g.E.Sink.failures c.fail_to_create_file-status.new.error) in
     subst (λ (file : Option SummaryFile). AreNotPrinted state files bytes options file writer out error) (sym c.in-Some.is)
     (no_summary_file state files bytes options c.in-Some.file writer c.in-Err.cause out error
@@ -60,7 +60,7 @@ pub returns-in-Err-clause-met : goal.returns-in-Err-clause-met
 returns-in-Err-clause-met g c =
     met_nothing c.args.line.now.options (map g.F.Reader.Source.remaining c.args.opened.readers.items)
     c.unstarted.result.met
-    (written (g.E.Sink.given c.args.error.now) (g.E.Sink.given c.fail_to_create_file-status.new.error) (g.E.Sink.failures c.args.error.now)
+    (writer_change (g.E.Sink.given c.args.error.now) (g.E.Sink.given c.fail_to_create_file-status.new.error) (g.E.Sink.failures c.args.error.now)
     (g.E.Sink.failures c.fail_to_create_file-status.new.error)) c.unstarted.ensures.stop
 
 pub returns-in-Err-clause-output_failed : goal.returns-in-Err-clause-output_failed
@@ -77,11 +77,11 @@ returns-in-Ok g c =
     let ran = c.replay_and_summarize_over-ended.ensures in
     let opened = c.in-Ok.writer in
     let last = c.replay_and_summarize_over-ended.new.summary.writer in
-    let out = written (g.O.Sink.given c.args.out.now) (g.O.Sink.given c.replay_and_summarize_over-ended.new.out)
+    let out = writer_change (g.O.Sink.given c.args.out.now) (g.O.Sink.given c.replay_and_summarize_over-ended.new.out)
     (g.O.Sink.failures c.args.out.now) (g.O.Sink.failures c.replay_and_summarize_over-ended.new.out) in
-    let to = written (g.F.Writer.Sink.given opened) (g.F.Writer.Sink.given last)
+    let to = writer_change (g.F.Writer.Sink.given opened) (g.F.Writer.Sink.given last)
     (g.F.Writer.Sink.failures opened) (g.F.Writer.Sink.failures last) in
-    let error = written (g.E.Sink.given c.args.error.now) (g.E.Sink.given c.replay_and_summarize_over-ended.new.error)
+    let error = writer_change (g.E.Sink.given c.args.error.now) (g.E.Sink.given c.replay_and_summarize_over-ended.new.error)
     (g.E.Sink.failures c.args.error.now) (g.E.Sink.failures c.replay_and_summarize_over-ended.new.error) in
     let given = is_given state files (files.begun c.in-Some.file.name.now) opened last (Some last) c.in-Ok.ensures.begun refl in
     record {

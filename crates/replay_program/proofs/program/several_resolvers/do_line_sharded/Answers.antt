@@ -1,6 +1,6 @@
 use Rattle.std.proofs.Common.{◌∙◌, Err, Some, ap, inr, refl}
 use Rattle.replay_program.specs.Program.{bytes_of, named_files}
-use Rattle.replay_program.specs.Replayed.{HasFailed, Written, written}
+use Rattle.replay_program.specs.Replayed.{HasFailed, Written, writer_change}
 use Rattle.replay_program.specs.ShardedProgram.{FindsDifferencesByShards, IsTaskDoneByShards, TaskFailsByShards, regular_files}
 use Rattle.replay_stream.specs.Sinks.{state_by}
 use Rattle.replay_program.proofs.Meeting.{not_failed}
@@ -20,9 +20,9 @@ returns-in-None g c =
     let are = c.requires.points in
     let ran = c.run_task_sharded.ensures in
     let report = c.run_task_sharded.result in
-    let standard = written (g.O.Sink.given c.args.out.now) (g.O.Sink.given c.run_task_sharded.new.out)
+    let standard = writer_change (g.O.Sink.given c.args.out.now) (g.O.Sink.given c.run_task_sharded.new.out)
     (g.O.Sink.failures c.args.out.now) (g.O.Sink.failures c.run_task_sharded.new.out) in
-    let error = written (g.E.Sink.given c.args.error.now) (g.E.Sink.given c.run_task_sharded.new.error)
+    let error = writer_change (g.E.Sink.given c.args.error.now) (g.E.Sink.given c.run_task_sharded.new.error)
     (g.E.Sink.failures c.args.error.now) (g.E.Sink.failures c.run_task_sharded.new.error) in
     let read = c.requires.files in
     record {
@@ -67,11 +67,11 @@ returns-in-Ok g c =
     let opened = c.in-Ok.writer in
     let last = c.run_task_sharded-report.new.out in
     let report = record first { output = Some last } in
-    let standard = written (g.O.Sink.given c.args.out.now) (g.O.Sink.given c.args.out.now)
+    let standard = writer_change (g.O.Sink.given c.args.out.now) (g.O.Sink.given c.args.out.now)
     (g.O.Sink.failures c.args.out.now) (g.O.Sink.failures c.args.out.now) in
-    let out = written (g.F.Writer.Sink.given opened) (g.F.Writer.Sink.given last)
+    let out = writer_change (g.F.Writer.Sink.given opened) (g.F.Writer.Sink.given last)
     (g.F.Writer.Sink.failures opened) (g.F.Writer.Sink.failures last) in
-    let error = written (g.E.Sink.given c.args.error.now) (g.E.Sink.given c.run_task_sharded-report.new.error)
+    let error = writer_change (g.E.Sink.given c.args.error.now) (g.E.Sink.given c.run_task_sharded-report.new.error)
     (g.E.Sink.failures c.args.error.now) (g.E.Sink.failures c.run_task_sharded-report.new.error) in
     let read = c.requires.files in
     let name = c.in-Some.name in
@@ -112,9 +112,9 @@ returns-in-Err-clause-failed g c = λ is.
     let files = named_files (g.F.Files.contents f) (g.F.Files.has_opened f) (g.F.Files.cannot_open f)
     (g.F.Files.begun f) (g.F.Files.has_created f) (g.F.Files.cannot_create f) in
     let state = state_by g.F.Writer.Sink.given g.F.Writer.Sink.failures in
-    let standard = written (g.O.Sink.given c.args.out.now) (g.O.Sink.given c.args.out.now)
+    let standard = writer_change (g.O.Sink.given c.args.out.now) (g.O.Sink.given c.args.out.now)
     (g.O.Sink.failures c.args.out.now) (g.O.Sink.failures c.args.out.now) in
-    let error = written (g.E.Sink.given c.args.error.now) (g.E.Sink.given c.fail_to_create_file-status.new.error)
+    let error = writer_change (g.E.Sink.given c.args.error.now) (g.E.Sink.given c.fail_to_create_file-status.new.error)
     (g.E.Sink.failures c.args.error.now) (g.E.Sink.failures c.fail_to_create_file-status.new.error) in
     shards_without_output state files (regular_files (g.F.Files.is_regular f) (g.F.Files.is_irregular f)) c.args.line.now c.unstarted.result
     standard error c.in-Some.name c.in-Err.cause c.in-Some.is c.requires.opened
@@ -128,7 +128,7 @@ returns-in-Err-clause-met g c =
     let state = state_by g.F.Writer.Sink.given g.F.Writer.Sink.failures in
     let line = c.args.line.now in
     shards_met_nothing c.args.sharded.points line.options (bytes_of files line) c.unstarted.result.met
-    (written (g.E.Sink.given c.args.error.now) (g.E.Sink.given c.fail_to_create_file-status.new.error) (g.E.Sink.failures c.args.error.now)
+    (writer_change (g.E.Sink.given c.args.error.now) (g.E.Sink.given c.fail_to_create_file-status.new.error) (g.E.Sink.failures c.args.error.now)
     (g.E.Sink.failures c.fail_to_create_file-status.new.error)) c.unstarted.ensures.stop
 
 pub returns-in-Err-clause-output_failed : goal.returns-in-Err-clause-output_failed

@@ -1,7 +1,7 @@
 use Rattle.std.proofs.Common.{refl}
 use Rattle.replay_arguments.specs.Opening.{contents_each}
 use Rattle.replay_program.specs.Program.{texts}
-use Rattle.replay_program.specs.Replayed.{written}
+use Rattle.replay_program.specs.Replayed.{writer_change}
 use Rattle.replay_program.proofs.Unopened.{met_by_line}
 use Rattle.replay_program.proofs.program.several_resolvers.run_line_sharded.Goals as goal
 
@@ -9,7 +9,7 @@ pub returns-in-Err-clause-failed : goal.returns-in-Err-clause-failed
 returns-in-Err-clause-failed g c = λ is.
     let out = c.args.out.now in
     c.fail_unopened.ensures.failed
-    (written (g.O.Sink.given out) (g.O.Sink.given out) (g.O.Sink.failures out) (g.O.Sink.failures out)) refl
+    (writer_change (g.O.Sink.given out) (g.O.Sink.given out) (g.O.Sink.failures out) (g.O.Sink.failures out)) refl
 
 pub returns : goal.returns
 returns g c =
@@ -31,7 +31,7 @@ returns g c =
         failed = ran.failed is;
         met =
             met_by_line contents line (contents_each contents (texts line.files.items)) c.do_line_sharded-report.result.met
-            (written (given old) (given reported) (failures old) (failures reported)) c.in-Ok.sharded.points c.in-Ok.ensures.points ran.met;
+            (writer_change (given old) (given reported) (failures old) (failures reported)) c.in-Ok.sharded.points c.in-Ok.ensures.points ran.met;
         output_failed = ran.output_failed;
         further = said.further is;
       };

@@ -1,7 +1,7 @@
 use Rattle.std.proofs.Common.{◌∙◌, Err, ap, arith, inr, length, map, refl}
 use Rattle.std.proofs.lemmas.List.{length-map}
 use Rattle.replay_program.specs.Program.{AreWriters, texts}
-use Rattle.replay_program.specs.Replayed.{written}
+use Rattle.replay_program.specs.Replayed.{writer_change}
 use Rattle.replay_stream.specs.Sinks.{state_by}
 use Rattle.replay_program.proofs.Meeting.{met_nothing, not_failed}
 use Rattle.replay_program.proofs.Writers.{not_recorded, recorded_and_failed}
@@ -10,9 +10,9 @@ use Rattle.replay_program.proofs.program.streamed_answers.stream_and_record.Goal
 pub returns-in-Err-clause-failed : goal.returns-in-Err-clause-failed
 returns-in-Err-clause-failed g c = λ is.
     let files = c.args.files.now in
-    let out = written (g.O.Sink.given c.args.out.now) (g.O.Sink.given c.args.out.now)
+    let out = writer_change (g.O.Sink.given c.args.out.now) (g.O.Sink.given c.args.out.now)
     (g.O.Sink.failures c.args.out.now) (g.O.Sink.failures c.args.out.now) in
-    let error = written (g.E.Sink.given c.args.error.now) (g.E.Sink.given c.fail_to_create.new.error)
+    let error = writer_change (g.E.Sink.given c.args.error.now) (g.E.Sink.given c.fail_to_create.new.error)
     (g.E.Sink.failures c.args.error.now) (g.E.Sink.failures c.fail_to_create.new.error) in
     not_recorded (g.F.Files.has_created files) (g.F.Files.cannot_create files) (texts c.args.records.now) out error c.in-Err.cause
     (λ proxy of. c.create_each.ensures.refused proxy (c.in-Err.is ∙ ap Err of)) refl c.fail_to_create.ensures.line
@@ -21,7 +21,7 @@ pub returns-in-Err-clause-met : goal.returns-in-Err-clause-met
 returns-in-Err-clause-met g c =
     met_nothing c.args.options (map g.F.Reader.Source.remaining c.args.opened.readers.items)
     c.unstarted.result.met
-    (written (g.E.Sink.given c.args.error.now) (g.E.Sink.given c.fail_to_create.new.error) (g.E.Sink.failures c.args.error.now)
+    (writer_change (g.E.Sink.given c.args.error.now) (g.E.Sink.given c.fail_to_create.new.error) (g.E.Sink.failures c.args.error.now)
     (g.E.Sink.failures c.fail_to_create.new.error)) c.unstarted.ensures.stop
 
 pub returns-in-Err-clause-output_failed : goal.returns-in-Err-clause-output_failed
@@ -36,9 +36,9 @@ returns-in-Ok g c =
     let bytes = map g.F.Reader.Source.remaining c.args.opened.readers.items in
     let writers = c.in-Ok.writers.items in
     let recorders = c.stream_over.result.recorders.items in
-    let out = written (g.O.Sink.given c.args.out.now) (g.O.Sink.given c.stream_over.new.out)
+    let out = writer_change (g.O.Sink.given c.args.out.now) (g.O.Sink.given c.stream_over.new.out)
     (g.O.Sink.failures c.args.out.now) (g.O.Sink.failures c.stream_over.new.out) in
-    let error = written (g.E.Sink.given c.args.error.now) (g.E.Sink.given c.stream_over.new.error)
+    let error = writer_change (g.E.Sink.given c.args.error.now) (g.E.Sink.given c.stream_over.new.error)
     (g.E.Sink.failures c.args.error.now) (g.E.Sink.failures c.stream_over.new.error) in
     let created : AreWriters state begun (length bytes) records writers = record {
       count = omega (

@@ -16,7 +16,7 @@ use Rattle.replay_program.specs.Program.{
   texts,
 }
 use Rattle.replay_program.specs.Summarized.{FailsToSummarize, IsSummarized}
-use Rattle.replay_program.specs.Replayed.{written}
+use Rattle.replay_program.specs.Replayed.{writer_change}
 use Rattle.replay_stream.specs.Sinks.{state_by}
 use Rattle.replay_program.proofs.Meeting.{met_quieted}
 use Rattle.replay_program.proofs.Programs.{is_done}
@@ -32,9 +32,9 @@ returns-in-Print g c =
     let line = c.args.line.now in
     let ran = c.print_and_summarize.ensures in
     let report = c.print_and_summarize.result in
-    let out = written (g.O.Sink.given c.args.out.now) (g.O.Sink.given c.print_and_summarize.new.out)
+    let out = writer_change (g.O.Sink.given c.args.out.now) (g.O.Sink.given c.print_and_summarize.new.out)
     (g.O.Sink.failures c.args.out.now) (g.O.Sink.failures c.print_and_summarize.new.out) in
-    let error = written (g.E.Sink.given c.args.error.now) (g.E.Sink.given c.print_and_summarize.new.error)
+    let error = writer_change (g.E.Sink.given c.args.error.now) (g.E.Sink.given c.print_and_summarize.new.error)
     (g.E.Sink.failures c.args.error.now) (g.E.Sink.failures c.print_and_summarize.new.error) in
     record {
       done = λ is. subst (λ (t : Task). IsTaskDone state files bytes line t report out) (sym c.in-Print.is) (ran.done is);
@@ -58,9 +58,9 @@ returns-in-Explain g c =
     let ran = c.explain_over-ended.ensures in
     let report = c.without_files.result in
     let status = c.without_files.ensures.status in
-    let out = written (g.O.Sink.given c.args.out.now) (g.O.Sink.given c.explain_over-ended.new.out)
+    let out = writer_change (g.O.Sink.given c.args.out.now) (g.O.Sink.given c.explain_over-ended.new.out)
     (g.O.Sink.failures c.args.out.now) (g.O.Sink.failures c.explain_over-ended.new.out) in
-    let error = written (g.E.Sink.given c.args.error.now) (g.E.Sink.given c.explain_over-ended.new.error)
+    let error = writer_change (g.E.Sink.given c.args.error.now) (g.E.Sink.given c.explain_over-ended.new.error)
     (g.E.Sink.failures c.args.error.now) (g.E.Sink.failures c.explain_over-ended.new.error) in
     record {
       done = λ is. subst (λ (t : Task). IsTaskDone state files bytes line t report out) (sym c.in-Explain.is) (ran.done (sym status ∙ is));
@@ -85,9 +85,9 @@ returns-in-Summarize g c =
     let ran = c.summarize_over-ended.ensures in
     let report = c.without_files-in-Summarize.result in
     let status = c.without_files-in-Summarize.ensures.status in
-    let out = written (g.O.Sink.given c.args.out.now) (g.O.Sink.given c.summarize_over-ended.new.out)
+    let out = writer_change (g.O.Sink.given c.args.out.now) (g.O.Sink.given c.summarize_over-ended.new.out)
     (g.O.Sink.failures c.args.out.now) (g.O.Sink.failures c.summarize_over-ended.new.out) in
-    let error = written (g.E.Sink.given c.args.error.now) (g.E.Sink.given c.summarize_over-ended.new.error)
+    let error = writer_change (g.E.Sink.given c.args.error.now) (g.E.Sink.given c.summarize_over-ended.new.error)
     (g.E.Sink.failures c.args.error.now) (g.E.Sink.failures c.summarize_over-ended.new.error) in
     let summed = met_quieted line.options bytes c.summarize_over-ended.result.met error
     (subst (λ (o : Options). HasMet o bytes c.summarize_over-ended.result.met error) c.quieted-options.ensures.quieted ran.met) in
@@ -117,9 +117,9 @@ returns-in-Stream g c =
     let line = c.args.line.now in
     let ran = c.stream_and_record.ensures in
     let report = c.stream_and_record.result in
-    let out = written (g.O.Sink.given c.args.out.now) (g.O.Sink.given c.stream_and_record.new.out)
+    let out = writer_change (g.O.Sink.given c.args.out.now) (g.O.Sink.given c.stream_and_record.new.out)
     (g.O.Sink.failures c.args.out.now) (g.O.Sink.failures c.stream_and_record.new.out) in
-    let error = written (g.E.Sink.given c.args.error.now) (g.E.Sink.given c.stream_and_record.new.error)
+    let error = writer_change (g.E.Sink.given c.args.error.now) (g.E.Sink.given c.stream_and_record.new.error)
     (g.E.Sink.failures c.args.error.now) (g.E.Sink.failures c.stream_and_record.new.error) in
     record {
       done = λ is. subst (λ (t : Task). IsTaskDone state files bytes line t report out) (sym c.in-Stream.is)
@@ -149,9 +149,9 @@ returns-in-Check g c =
     let ran = c.check_replies-ended.ensures in
     let report = c.without_files-in-Check.result in
     let status = c.without_files-in-Check.ensures.status in
-    let out = written (g.O.Sink.given c.args.out.now) (g.O.Sink.given c.check_replies-ended.new.out)
+    let out = writer_change (g.O.Sink.given c.args.out.now) (g.O.Sink.given c.check_replies-ended.new.out)
     (g.O.Sink.failures c.args.out.now) (g.O.Sink.failures c.check_replies-ended.new.out) in
-    let error = written (g.E.Sink.given c.args.error.now) (g.E.Sink.given c.check_replies-ended.new.error)
+    let error = writer_change (g.E.Sink.given c.args.error.now) (g.E.Sink.given c.check_replies-ended.new.error)
     (g.E.Sink.failures c.args.error.now) (g.E.Sink.failures c.check_replies-ended.new.error) in
     record {
       done = λ is. subst (λ (t : Task). IsTaskDone state files bytes line t report out) (sym c.in-Check.is)

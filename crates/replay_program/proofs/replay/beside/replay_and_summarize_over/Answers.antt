@@ -12,7 +12,7 @@ use Rattle.resolver.specs.declared.stop.Stop.{Stop}
 use Rattle.replay_output.specs.declared.failures.Ending.TheVariants.{Complete, Stopped}
 use Rattle.replay_output.specs.declared.status.Status.TheVariants.{Done}
 use Rattle.replay_program.specs.Met.{ReportsStop}
-use Rattle.replay_program.specs.Replayed.{written, Took, ending_of}
+use Rattle.replay_program.specs.Replayed.{writer_change, Took, ending_of}
 use Rattle.replay_program.specs.Summarized.{BothFailed, run_summary}
 use Rattle.replay_program.proofs.Meeting.{has_met, is_failed, met_nothing, not_failed, reports_as}
 use Rattle.replay_program.proofs.Measuring.{measured_for_any, occupied_over}
@@ -33,7 +33,7 @@ returns-in-Err g c = record {
     refl,
   );
   met = met_nothing c.args.options (map g.S.Source.remaining c.args.readers.items) c.unstarted.result.met
-      (written (g.E.Sink.given c.args.error.now) (g.E.Sink.given c.fail_to_start.new.error) (g.E.Sink.failures c.args.error.now)
+      (writer_change (g.E.Sink.given c.args.error.now) (g.E.Sink.given c.fail_to_start.new.error) (g.E.Sink.failures c.args.error.now)
       (g.E.Sink.failures c.fail_to_start.new.error)) c.unstarted.ensures.stop;
   output_failed = not_failed c.unstarted.result.met.output_failed c.unstarted.ensures.output_failed;
   ends = λ is. cc (c.fail_to_start.ensures.status, c.unstarted.ensures.status, is);
@@ -72,11 +72,11 @@ returns g c =
     (run.no_stop (complete_from complete account.stop nothing.complete)) in
     let ending = ending_is complete account.stop c.new-ending.result c.new-ending.ensures.ending in
     let report = c.print_with_summary-report.ensures in
-    let out = written (g.O.Sink.given c.args.out.now) (g.O.Sink.given c.print_with_summary-report.new.out)
+    let out = writer_change (g.O.Sink.given c.args.out.now) (g.O.Sink.given c.print_with_summary-report.new.out)
     (g.O.Sink.failures c.args.out.now) (g.O.Sink.failures c.print_with_summary-report.new.out) in
-    let beside = written (g.T.Sink.given c.args.summary.now.writer) (g.T.Sink.given c.print_with_summary-report.new.summary.writer)
+    let beside = writer_change (g.T.Sink.given c.args.summary.now.writer) (g.T.Sink.given c.print_with_summary-report.new.summary.writer)
     (g.T.Sink.failures c.args.summary.now.writer) (g.T.Sink.failures c.print_with_summary-report.new.summary.writer) in
-    let error = written (g.E.Sink.given c.args.error.now) (g.E.Sink.given c.print_with_summary-report.new.error)
+    let error = writer_change (g.E.Sink.given c.args.error.now) (g.E.Sink.given c.print_with_summary-report.new.error)
     (g.E.Sink.failures c.args.error.now) (g.E.Sink.failures c.print_with_summary-report.new.error) in
     let are = are_lines options files received failures complete account.stop run in
     let status = c.print_with_summary-report.result.status in

@@ -9,7 +9,7 @@ use Rattle.replay_output.specs.Line.{AreLines}
 use Rattle.replay_output.specs.Lines.{lines as lines_of}
 use Rattle.replay_output.specs.Failures.{NothingFailed}
 use Rattle.replay_program.specs.Met.{ReportsStop}
-use Rattle.replay_program.specs.Replayed.{written, Took, ending_of}
+use Rattle.replay_program.specs.Replayed.{writer_change, Took, ending_of}
 use Rattle.replay_program.specs.Sharded.{NamesShard}
 use Rattle.replay_program.specs.Summarized.{BothFailed, run_summary}
 use Rattle.replay_program.proofs.Meeting.{is_failed, not_failed, reports_as}
@@ -30,7 +30,7 @@ returns-in-Err g c = record {
   );
   met = λ files read.
       met_nothing_by_shards c.args.sharded.points c.args.options files c.unstarted.result.met
-      (written (g.E.Sink.given c.args.error.now) (g.E.Sink.given c.fail_to_start.new.error) (g.E.Sink.failures c.args.error.now)
+      (writer_change (g.E.Sink.given c.args.error.now) (g.E.Sink.given c.fail_to_start.new.error) (g.E.Sink.failures c.args.error.now)
       (g.E.Sink.failures c.fail_to_start.new.error)) c.unstarted.ensures.stop;
   output_failed = not_failed c.unstarted.result.met.output_failed c.unstarted.ensures.output_failed;
   ends = λ is. cc (c.fail_to_start.ensures.status, c.unstarted.ensures.status, is);
@@ -51,13 +51,13 @@ returns g c =
     let stop = stop_met combined in
     let ending = c.ending_of-ending.ensures.ending in
     let report = c.print_with_summary-report.ensures in
-    let out = written (g.O.Sink.given c.args.out.now) (g.O.Sink.given c.print_with_summary-report.new.out)
+    let out = writer_change (g.O.Sink.given c.args.out.now) (g.O.Sink.given c.print_with_summary-report.new.out)
     (g.O.Sink.failures c.args.out.now) (g.O.Sink.failures c.print_with_summary-report.new.out) in
-    let beside = written (g.T.Sink.given c.args.summary.now.writer) (g.T.Sink.given c.print_with_summary-report.new.summary.writer)
+    let beside = writer_change (g.T.Sink.given c.args.summary.now.writer) (g.T.Sink.given c.print_with_summary-report.new.summary.writer)
     (g.T.Sink.failures c.args.summary.now.writer) (g.T.Sink.failures c.print_with_summary-report.new.summary.writer) in
-    let so_far = written (g.E.Sink.given c.args.error.now) (g.E.Sink.given c.print_with_summary-report.new.error)
+    let so_far = writer_change (g.E.Sink.given c.args.error.now) (g.E.Sink.given c.print_with_summary-report.new.error)
     (g.E.Sink.failures c.args.error.now) (g.E.Sink.failures c.print_with_summary-report.new.error) in
-    let error = written (g.E.Sink.given c.args.error.now) (g.E.Sink.given c.print_stopped.new.error)
+    let error = writer_change (g.E.Sink.given c.args.error.now) (g.E.Sink.given c.print_stopped.new.error)
     (g.E.Sink.failures c.args.error.now) (g.E.Sink.failures c.print_stopped.new.error) in
     let named : NamesShard combined.stop so_far error = record {
       before = refl;

@@ -7,7 +7,7 @@ use Rattle.replay_output.specs.declared.line.Line.{Line}
 use Rattle.replay_output.specs.declared.status.Status.TheVariants.{Failed}
 use Rattle.replay_output.specs.Failures.{failure_lines, NothingFailed}
 use Rattle.replay_program.specs.Checked.{KeepReplies, TakesToCompare, check_lines, differences_of}
-use Rattle.replay_program.specs.Replayed.{written, Took}
+use Rattle.replay_program.specs.Replayed.{writer_change, Took}
 use Rattle.replay_program.specs.Sharded.{AreAsCombined, NamesShard}
 use Rattle.replay_program.proofs.Meeting.{not_failed, stop_reported}
 use Rattle.replay_program.proofs.Replaying.{held_ok, ran_as_and_failed, held_at, held_and, ok_at}
@@ -26,7 +26,7 @@ returns-in-Err g c = record {
   });
   met = λ files read.
       met_nothing_by_shards c.args.sharded.points c.args.options files c.unstarted.result.met
-      (written (g.E.Sink.given c.args.error.now) (g.E.Sink.given c.fail_to_start.new.error) (g.E.Sink.failures c.args.error.now)
+      (writer_change (g.E.Sink.given c.args.error.now) (g.E.Sink.given c.fail_to_start.new.error) (g.E.Sink.failures c.args.error.now)
       (g.E.Sink.failures c.fail_to_start.new.error)) c.unstarted.ensures.stop;
   output_failed = not_failed c.unstarted.result.met.output_failed c.unstarted.ensures.output_failed;
   ends = λ is. cc (c.fail_to_start.ensures.status, c.unstarted.ensures.status, is);
@@ -45,11 +45,11 @@ returns g c =
     let ending = c.ending_of-ending.ensures.ending in
     let report = c.print_check-report.ensures in
     let reported = c.print_check-report.new.failures in
-    let out = written (g.O.Sink.given c.args.out.now) (g.O.Sink.given c.print_check-report.new.out)
+    let out = writer_change (g.O.Sink.given c.args.out.now) (g.O.Sink.given c.print_check-report.new.out)
     (g.O.Sink.failures c.args.out.now) (g.O.Sink.failures c.print_check-report.new.out) in
-    let so_far = written (g.E.Sink.given c.args.error.now) (g.E.Sink.given c.print_check-report.new.error)
+    let so_far = writer_change (g.E.Sink.given c.args.error.now) (g.E.Sink.given c.print_check-report.new.error)
     (g.E.Sink.failures c.args.error.now) (g.E.Sink.failures c.print_check-report.new.error) in
-    let error = written (g.E.Sink.given c.args.error.now) (g.E.Sink.given c.print_stopped.new.error)
+    let error = writer_change (g.E.Sink.given c.args.error.now) (g.E.Sink.given c.print_stopped.new.error)
     (g.E.Sink.failures c.args.error.now) (g.E.Sink.failures c.print_stopped.new.error) in
     let named : NamesShard combined.stop so_far error = record {
       before = refl;

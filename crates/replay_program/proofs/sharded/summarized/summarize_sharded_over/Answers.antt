@@ -7,7 +7,7 @@ use Rattle.replay_output.specs.declared.line.Line.{Line}
 use Rattle.replay_output.specs.declared.report.lines.PrintError.TheVariants as print
 use Rattle.replay_output.specs.Line.{AreLines, answers_of}
 use Rattle.replay_output.specs.Failures.{failure_lines, NothingFailed}
-use Rattle.replay_program.specs.Replayed.{written, Took, TookPrefix}
+use Rattle.replay_program.specs.Replayed.{writer_change, Took, TookPrefix}
 use Rattle.replay_program.specs.Sharded.{AreAsCombined, NamesShard}
 use Rattle.replay_program.specs.Summarized.{TakesToSummarize, run_summary, with_ranges}
 use Rattle.replay_program.proofs.Meeting.{not_failed, stop_reported}
@@ -27,7 +27,7 @@ returns-in-Err g c = record {
   });
   met = λ files read.
       met_nothing_by_shards c.args.sharded.points c.args.options files c.unstarted.result.met
-      (written (g.E.Sink.given c.args.error.now) (g.E.Sink.given c.fail_to_start.new.error) (g.E.Sink.failures c.args.error.now)
+      (writer_change (g.E.Sink.given c.args.error.now) (g.E.Sink.given c.fail_to_start.new.error) (g.E.Sink.failures c.args.error.now)
       (g.E.Sink.failures c.fail_to_start.new.error)) c.unstarted.ensures.stop;
   output_failed = not_failed c.unstarted.result.met.output_failed c.unstarted.ensures.output_failed;
   ends = λ is. cc (c.fail_to_start.ensures.status, c.unstarted.ensures.status, is);
@@ -49,11 +49,11 @@ returns g c =
     let ending = c.ending_of-ending.ensures.ending in
     let report = c.print_summary-report.ensures in
     let reported = c.print_summary-report.new.failures in
-    let out = written (g.O.Sink.given c.args.out.now) (g.O.Sink.given c.print_summary-report.new.out)
+    let out = writer_change (g.O.Sink.given c.args.out.now) (g.O.Sink.given c.print_summary-report.new.out)
     (g.O.Sink.failures c.args.out.now) (g.O.Sink.failures c.print_summary-report.new.out) in
-    let so_far = written (g.E.Sink.given c.args.error.now) (g.E.Sink.given c.print_summary-report.new.error)
+    let so_far = writer_change (g.E.Sink.given c.args.error.now) (g.E.Sink.given c.print_summary-report.new.error)
     (g.E.Sink.failures c.args.error.now) (g.E.Sink.failures c.print_summary-report.new.error) in
-    let error = written (g.E.Sink.given c.args.error.now) (g.E.Sink.given c.print_stopped.new.error)
+    let error = writer_change (g.E.Sink.given c.args.error.now) (g.E.Sink.given c.print_stopped.new.error)
     (g.E.Sink.failures c.args.error.now) (g.E.Sink.failures c.print_stopped.new.error) in
     let named : NamesShard combined.stop so_far error = record {
       before = refl;

@@ -5,7 +5,7 @@ use Rattle.replay_output.specs.Line.{answers_of, texts}
 use Rattle.replay_output.specs.Lines.{line, lines}
 use Rattle.replay_output.proofs.LineTexts.{texts_are_lines}
 use Rattle.replay_output.proofs.callers.Texts.{are_lines_by}
-use Rattle.replay_program.specs.Replayed.{Took, TookPrefix, written}
+use Rattle.replay_program.specs.Replayed.{Took, TookPrefix, writer_change}
 use Rattle.replay_program.specs.Summarized.{run_summary}
 use Rattle.replay_program.proofs.Beside.{both_failed, both_lost, held}
 use Rattle.replay_program.proofs.Meeting.{failed_if}
@@ -17,11 +17,11 @@ returns-in-Err-clause-failed g c = λ style are is.
     let report = c.report_loss.ensures in
     let received = map vec_items c.args.received.now in
     let count = length-map c.args.received.now vec_items in
-    let out = written (g.O.Sink.given c.args.out.now) (g.O.Sink.given c.args.out.now)
+    let out = writer_change (g.O.Sink.given c.args.out.now) (g.O.Sink.given c.args.out.now)
     (g.O.Sink.failures c.args.out.now) (g.O.Sink.failures c.args.out.now) in
-    let beside = written (g.T.Sink.given c.args.summary.now.writer) (g.T.Sink.given c.args.summary.now.writer)
+    let beside = writer_change (g.T.Sink.given c.args.summary.now.writer) (g.T.Sink.given c.args.summary.now.writer)
     (g.T.Sink.failures c.args.summary.now.writer) (g.T.Sink.failures c.args.summary.now.writer) in
-    let error = written (g.E.Sink.given c.args.error.now) (g.E.Sink.given c.report_loss.new.error)
+    let error = writer_change (g.E.Sink.given c.args.error.now) (g.E.Sink.given c.report_loss.new.error)
     (g.E.Sink.failures c.args.error.now) (g.E.Sink.failures c.report_loss.new.error) in
     both_lost c.args.summary.now.form c.args.occupancy style received c.args.failures.now c.args.ending out beside error c.in-Err.proxy
     c.report_loss.new.failures c.report_loss.result.reported (omega (arith, c.in-Err.ensures.proxy, count))
@@ -31,9 +31,9 @@ pub returns-clause-done : goal.returns-clause-done
 returns-clause-done g c = λ style are is.
     let form = c.args.summary.now.form in
     let received = map vec_items c.args.received.now in
-    let out = written (g.O.Sink.given c.args.out.now) (g.O.Sink.given c.print_and_flush-printed.new.out)
+    let out = writer_change (g.O.Sink.given c.args.out.now) (g.O.Sink.given c.print_and_flush-printed.new.out)
     (g.O.Sink.failures c.args.out.now) (g.O.Sink.failures c.print_and_flush-printed.new.out) in
-    let beside = written (g.T.Sink.given c.args.summary.now.writer) (g.T.Sink.given c.write_and_flush-put.new.writer)
+    let beside = writer_change (g.T.Sink.given c.args.summary.now.writer) (g.T.Sink.given c.write_and_flush-put.new.writer)
     (g.T.Sink.failures c.args.summary.now.writer) (g.T.Sink.failures c.write_and_flush-put.new.writer) in
     let all = c.status_of.ensures.done.0 is in (
       held c.print_and_flush-printed.result
@@ -53,11 +53,11 @@ returns-clause-failed g c = λ style are is.
     let printed = c.print_and_flush-printed.ensures in
     let put = c.write_and_flush-put.ensures in
     let reported = c.print_failures-reported.ensures in
-    let out = written (g.O.Sink.given c.args.out.now) (g.O.Sink.given c.print_and_flush-printed.new.out)
+    let out = writer_change (g.O.Sink.given c.args.out.now) (g.O.Sink.given c.print_and_flush-printed.new.out)
     (g.O.Sink.failures c.args.out.now) (g.O.Sink.failures c.print_and_flush-printed.new.out) in
-    let beside = written (g.T.Sink.given c.args.summary.now.writer) (g.T.Sink.given c.write_and_flush-put.new.writer)
+    let beside = writer_change (g.T.Sink.given c.args.summary.now.writer) (g.T.Sink.given c.write_and_flush-put.new.writer)
     (g.T.Sink.failures c.args.summary.now.writer) (g.T.Sink.failures c.write_and_flush-put.new.writer) in
-    let error = written (g.E.Sink.given c.args.error.now) (g.E.Sink.given c.print_failures-reported.new.error)
+    let error = writer_change (g.E.Sink.given c.args.error.now) (g.E.Sink.given c.print_failures-reported.new.error)
     (g.E.Sink.failures c.args.error.now) (g.E.Sink.failures c.print_failures-reported.new.error) in
     let answers_are : texts (map vec_items c.text_of.new.received) ≡ lines style (map answers_of received) =
     ap texts c.in-Ok.ensures.sorted ∙ texts_are_lines (line style) received (are_lines_by style received are) in

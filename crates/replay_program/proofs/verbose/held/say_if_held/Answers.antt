@@ -1,7 +1,7 @@
 use Rattle.std.proofs.Common.{List, ℕ, Bor, SFits, w64, inl, refl, rules, subst}
 use Rattle.std.proofs.lemmas.Int.{to_z-of_z}
 use Rattle.replay_program.specs.Program.{texts}
-use Rattle.replay_program.specs.Replayed.{written}
+use Rattle.replay_program.specs.Replayed.{writer_change}
 use Rattle.replay_program.specs.Verbose.{AreExamined}
 use Rattle.replay_program.proofs.Saying.{held_said}
 use Rattle.replay_program.proofs.verbose.held.say_if_held.Goals as goal
@@ -20,7 +20,7 @@ returns g c =
     let fits : SFits w64 v = search rules in
     let old = c.args.error.now in
     let new = c.say_of_run.new.error in
-    let error = written (g.E.Sink.given old) (g.E.Sink.given new) (g.E.Sink.failures old) (g.E.Sink.failures new) in
+    let error = writer_change (g.E.Sink.given old) (g.E.Sink.given new) (g.E.Sink.failures old) (g.E.Sink.failures new) in
     let examined = subst (λ (names : List (Bor (List ℕ))). AreExamined contents (texts names) c.in-Some.batches.least_previous)
     c.deref.ensures.value c.in-Some.ensures.batches in
     record {

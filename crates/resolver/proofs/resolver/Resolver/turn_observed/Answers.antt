@@ -8,7 +8,7 @@ use Rattle.keyspace.specs.Run.{run}
 use Rattle.resolver.specs.Lanes.{Each, IsLookedThrough, ComesBefore}
 use Rattle.resolver.specs.OpeningLog.{log_from}
 use Rattle.resolver.specs.Resolver.{TakesFrom, TakesNoStep, StepsBy, IsThrough, IfNotTaken}
-use Rattle.resolver.proofs.Turning.{TakesFrom-on, Finishes-on, TakesNoStep-on, looked_on, full_on, lanes_on, reported, StepsBy-reported, IfNotTaken-reported, took-reported, all_looked_on, stopped_on, stop_met_on, done_means, done_where, closed_by, answers_over, stops_on, same_set, sees_taken_on, sees_finish_on, sees_nothing_on}
+use Rattle.resolver.proofs.Turning.{TakesFrom-on, Finishes-on, TakesNoStep-on, looked_on, full_on, lanes_on, reported_turn, StepsBy-reported, IfNotTaken-reported, took-reported, all_looked_on, stopped_on, stop_met_on, done_means, done_where, closed_by, answers_over, stops_on, same_set, sees_taken_on, sees_finish_on, sees_nothing_on}
 use Rattle.resolver.proofs.Resolving.{resolving_turned, resolving_stopped}
 use Rattle.resolver.proofs.HeldShares.{beyond_share}
 use Rattle.resolver.proofs.Stops.{same_stop, OnErr-always}
@@ -91,9 +91,9 @@ returns-clause-sees_nothing g c = sees_nothing_on c.deliver.ensures c.close.ensu
 same_Ok : {x y : Turn} → ◌≡◌ {A = Result Turn Stop} (Ok x) (Ok y) → x ≡ y
 same_Ok is = cc
 
-result_is : (g : Over) (c : Joined-branch-2 g) → c.match-branch-2.result ≡ reported c.in_ok-proxy.field-0 c.self.inside.closed
+result_is : (g : Over) (c : Joined-branch-2 g) → c.match-branch-2.result ≡ reported_turn c.in_ok-proxy.field-0 c.self.inside.closed
 result_is g c = elim c.match-branch-2.branch [
-  | in-Some w ↦ w.result-is ∙ ap (λ t. reported t c.self.inside.closed) (sym w.in-Some.is)
+  | in-Some w ↦ w.result-is ∙ ap (λ t. reported_turn t c.self.inside.closed) (sym w.in-Some.is)
   | in-None w ↦ rw (w.in-None.is, w.if-self.true) w.result-is
   | in-None-2 w ↦ rw (w.in-None.is, w.if-self.false) w.result-is
 ]

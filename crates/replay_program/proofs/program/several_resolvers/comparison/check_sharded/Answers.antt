@@ -1,6 +1,6 @@
 use Rattle.std.proofs.Common.{inl, inr, map, refl}
 use Rattle.std.specs.Prelude.{vec_items}
-use Rattle.replay_program.specs.Replayed.{written}
+use Rattle.replay_program.specs.Replayed.{writer_change}
 use Rattle.replay_program.proofs.Meeting.{not_failed}
 use Rattle.replay_program.proofs.ShardingEnds.{shards_met_nothing}
 use Rattle.replay_program.proofs.program.several_resolvers.comparison.check_sharded.Goals as goal
@@ -32,7 +32,7 @@ returns-in-Err-clause-failed g c = λ bytes files is.
 pub returns-in-Err-clause-met : goal.returns-in-Err-clause-met
 returns-in-Err-clause-met g c = λ bytes files.
     shards_met_nothing c.args.sharded.points c.args.options bytes c.unstarted.result.met
-    (written (g.E.Sink.given c.args.error.now) (g.E.Sink.given c.fail_to_read_replies.new.error) (g.E.Sink.failures c.args.error.now)
+    (writer_change (g.E.Sink.given c.args.error.now) (g.E.Sink.given c.fail_to_read_replies.new.error) (g.E.Sink.failures c.args.error.now)
     (g.E.Sink.failures c.fail_to_read_replies.new.error)) c.unstarted.ensures.stop
 
 pub returns-in-Err-clause-output_failed : goal.returns-in-Err-clause-output_failed

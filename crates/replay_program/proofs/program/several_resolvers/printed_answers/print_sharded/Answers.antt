@@ -2,7 +2,7 @@ use Rattle.std.proofs.Common.{◌∙◌, Option, Err, Some, ap, inr, refl, subst
 use Rattle.replay_arguments.specs.declared.arguments.summary_file.SummaryFile.{SummaryFile}
 use Rattle.replay_program.specs.declared.met.Met.{Met}
 use Rattle.replay_program.specs.Program.{named_files}
-use Rattle.replay_program.specs.Replayed.{written}
+use Rattle.replay_program.specs.Replayed.{writer_change}
 use Rattle.replay_program.specs.Sharded.{HasMetByShards}
 use Rattle.replay_program.specs.ShardedProgram.{AreNotPrintedByShards, ArePrintedByShards}
 use Rattle.replay_stream.specs.Sinks.{state_by}
@@ -22,9 +22,9 @@ returns-in-None g c =
     let report = c.without_files.result in
     let status = c.without_files.ensures.status in
     let ran = c.replay_sharded_over-ended.ensures in
-    let out = written (g.O.Sink.given c.args.out.now) (g.O.Sink.given c.replay_sharded_over-ended.new.out)
+    let out = writer_change (g.O.Sink.given c.args.out.now) (g.O.Sink.given c.replay_sharded_over-ended.new.out)
     (g.O.Sink.failures c.args.out.now) (g.O.Sink.failures c.replay_sharded_over-ended.new.out) in
-    let error = written (g.E.Sink.given c.args.error.now) (g.E.Sink.given c.replay_sharded_over-ended.new.error)
+    let error = writer_change (g.E.Sink.given c.args.error.now) (g.E.Sink.given c.replay_sharded_over-ended.new.error)
     (g.E.Sink.failures c.args.error.now) (g.E.Sink.failures c.replay_sharded_over-ended.new.error) in
     record {
       done = λ bytes read is.
@@ -51,9 +51,9 @@ returns-in-Err-clause-failed g c = λ bytes read is.
     let points = c.args.sharded.points in
     let options = c.args.line.now.options in
     let writer = c.unstarted.result.summary in
-    let out = written (g.O.Sink.given c.args.out.now) (g.O.Sink.given c.args.out.now)
+    let out = writer_change (g.O.Sink.given c.args.out.now) (g.O.Sink.given c.args.out.now)
     (g.O.Sink.failures c.args.out.now) (g.O.Sink.failures c.args.out.now) in
-    let error = written (g.E.Sink.given c.args.error.now) (g.E.Sink.given c.fail_to_create_file-status.new.error)
+    let error = writer_change (g.E.Sink.given c.args.error.now) (g.E.Sink.given c.fail_to_create_file-status.new.error)
     (g.E.Sink.failures c.args.error.now) (g.E.Sink.failures c.fail_to_create_file-status.new.error) in
     subst (λ (file : Option SummaryFile). AreNotPrintedByShards state files points bytes options file writer out error) (sym c.in-Some.is)
     (shards_without_summary state files points bytes options c.in-Some.file writer c.in-Err.cause out error
@@ -62,7 +62,7 @@ returns-in-Err-clause-failed g c = λ bytes read is.
 pub returns-in-Err-clause-met : goal.returns-in-Err-clause-met
 returns-in-Err-clause-met g c = λ bytes read.
     shards_met_nothing c.args.sharded.points c.args.line.now.options bytes c.unstarted.result.met
-    (written (g.E.Sink.given c.args.error.now) (g.E.Sink.given c.fail_to_create_file-status.new.error) (g.E.Sink.failures c.args.error.now)
+    (writer_change (g.E.Sink.given c.args.error.now) (g.E.Sink.given c.fail_to_create_file-status.new.error) (g.E.Sink.failures c.args.error.now)
     (g.E.Sink.failures c.fail_to_create_file-status.new.error)) c.unstarted.ensures.stop
 
 pub returns-in-Err-clause-output_failed : goal.returns-in-Err-clause-output_failed
@@ -79,11 +79,11 @@ returns-in-Ok g c =
     let ran = c.replay_and_summarize_sharded_over-ended.ensures in
     let opened = c.in-Ok.writer in
     let last = c.replay_and_summarize_sharded_over-ended.new.summary.writer in
-    let out = written (g.O.Sink.given c.args.out.now) (g.O.Sink.given c.replay_and_summarize_sharded_over-ended.new.out)
+    let out = writer_change (g.O.Sink.given c.args.out.now) (g.O.Sink.given c.replay_and_summarize_sharded_over-ended.new.out)
     (g.O.Sink.failures c.args.out.now) (g.O.Sink.failures c.replay_and_summarize_sharded_over-ended.new.out) in
-    let to = written (g.F.Writer.Sink.given opened) (g.F.Writer.Sink.given last)
+    let to = writer_change (g.F.Writer.Sink.given opened) (g.F.Writer.Sink.given last)
     (g.F.Writer.Sink.failures opened) (g.F.Writer.Sink.failures last) in
-    let error = written (g.E.Sink.given c.args.error.now) (g.E.Sink.given c.replay_and_summarize_sharded_over-ended.new.error)
+    let error = writer_change (g.E.Sink.given c.args.error.now) (g.E.Sink.given c.replay_and_summarize_sharded_over-ended.new.error)
     (g.E.Sink.failures c.args.error.now) (g.E.Sink.failures c.replay_and_summarize_sharded_over-ended.new.error) in
     let given = is_given state files (files.begun c.in-Some.file.name.now) opened last (Some last) c.in-Ok.ensures.begun refl in
     record {

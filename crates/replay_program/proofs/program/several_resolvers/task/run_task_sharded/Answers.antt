@@ -5,7 +5,7 @@ use Rattle.replay_arguments.specs.declared.arguments.task.Task.TheVariants as ta
 use Rattle.replay_output.specs.declared.options.Options.{Options}
 use Rattle.replay_program.specs.declared.met.Met.{Met}
 use Rattle.replay_program.specs.Program.{named_files, texts}
-use Rattle.replay_program.specs.Replayed.{written}
+use Rattle.replay_program.specs.Replayed.{writer_change}
 use Rattle.replay_program.specs.Sharded.{FailsToSummarizeByShards, HasMetByShards, IsSummarizedByShards}
 use Rattle.replay_program.specs.ShardedProgram.{
   ChecksFilesByShards,
@@ -29,9 +29,9 @@ returns-in-Print g c =
     let line = c.args.line.now in
     let ran = c.print_sharded.ensures in
     let report = c.print_sharded.result in
-    let out = written (g.O.Sink.given c.args.out.now) (g.O.Sink.given c.print_sharded.new.out)
+    let out = writer_change (g.O.Sink.given c.args.out.now) (g.O.Sink.given c.print_sharded.new.out)
     (g.O.Sink.failures c.args.out.now) (g.O.Sink.failures c.print_sharded.new.out) in
-    let error = written (g.E.Sink.given c.args.error.now) (g.E.Sink.given c.print_sharded.new.error)
+    let error = writer_change (g.E.Sink.given c.args.error.now) (g.E.Sink.given c.print_sharded.new.error)
     (g.E.Sink.failures c.args.error.now) (g.E.Sink.failures c.print_sharded.new.error) in
     record {
       done = λ bytes read is.
@@ -64,9 +64,9 @@ returns-in-Summarize-default-None g c =
     let report = c.without_files.result in
     let status = c.without_files.ensures.status in
     let quiet = c.quieted-options.ensures.quieted in
-    let out = written (g.O.Sink.given c.args.out.now) (g.O.Sink.given c.summarize_sharded_over-ended.new.out)
+    let out = writer_change (g.O.Sink.given c.args.out.now) (g.O.Sink.given c.summarize_sharded_over-ended.new.out)
     (g.O.Sink.failures c.args.out.now) (g.O.Sink.failures c.summarize_sharded_over-ended.new.out) in
-    let error = written (g.E.Sink.given c.args.error.now) (g.E.Sink.given c.summarize_sharded_over-ended.new.error)
+    let error = writer_change (g.E.Sink.given c.args.error.now) (g.E.Sink.given c.summarize_sharded_over-ended.new.error)
     (g.E.Sink.failures c.args.error.now) (g.E.Sink.failures c.summarize_sharded_over-ended.new.error) in
     record {
       done = λ bytes read is.
@@ -99,9 +99,9 @@ returns-in-Check g c =
     let report = c.without_files-in-Check.result in
     let status = c.without_files-in-Check.ensures.status in
     let names = c.deref.ensures.value in
-    let out = written (g.O.Sink.given c.args.out.now) (g.O.Sink.given c.check_sharded-ended.new.out)
+    let out = writer_change (g.O.Sink.given c.args.out.now) (g.O.Sink.given c.check_sharded-ended.new.out)
     (g.O.Sink.failures c.args.out.now) (g.O.Sink.failures c.check_sharded-ended.new.out) in
-    let error = written (g.E.Sink.given c.args.error.now) (g.E.Sink.given c.check_sharded-ended.new.error)
+    let error = writer_change (g.E.Sink.given c.args.error.now) (g.E.Sink.given c.check_sharded-ended.new.error)
     (g.E.Sink.failures c.args.error.now) (g.E.Sink.failures c.check_sharded-ended.new.error) in
     record {
       done = λ bytes read is.
