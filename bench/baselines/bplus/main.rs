@@ -100,8 +100,11 @@ fn write_verdicts(out: &mut impl Write, version: i64, verdicts: &[Verdict]) -> R
         };
         out.write_all(word).map_err(|_| "cannot write")?;
     }
-    out.write_all(b"
-").map_err(|_| "cannot write")
+    out.write_all(
+        b"
+",
+    )
+    .map_err(|_| "cannot write")
 }
 
 fn run(file: &[u8], latency: bool) -> Result<(), Fault> {

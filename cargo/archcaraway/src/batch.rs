@@ -121,8 +121,7 @@ impl Batch {
 impl Clone for Batch {
     fn clone(&self) -> Self {
         // The batch is within all limits, so the only error is that of memory.
-        self.try_clone()
-            .unwrap_or_else(|_| handle_alloc_error(Layout::new::<Self>()))
+        self.try_clone().unwrap_or_else(|_| handle_alloc_error(Layout::new::<Self>()))
     }
 }
 

@@ -47,13 +47,7 @@ impl BatchBuilder {
     ///
     /// The first batch of a chain has `previous` -1.
     pub fn new(previous: i64, version: i64) -> Self {
-        BatchBuilder {
-            previous,
-            version,
-            received: -1,
-            tables: Tables::default(),
-            error: None,
-        }
+        BatchBuilder { previous, version, received: -1, tables: Tables::default(), error: None }
     }
 
     /// Sets the last version whose reply the proxy has received, which is -1 at first.
@@ -136,19 +130,12 @@ impl BatchBuilder {
         self.check_versions()?;
         match self.error {
             Some(error) => Err(error),
-            None => self
-                .tables
-                .batch(self.previous, self.version, self.received),
+            None => self.tables.batch(self.previous, self.version, self.received),
         }
     }
 
     fn check_versions(&self) -> Result<(), BuildError> {
-        let Self {
-            previous,
-            version,
-            received,
-            ..
-        } = *self;
+        let Self { previous, version, received, .. } = *self;
         if previous < -1 {
             return Err(BuildError::Previous { previous });
         }

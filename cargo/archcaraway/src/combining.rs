@@ -35,10 +35,8 @@ pub fn combine(
 ) -> Result<Reply, CombineError> {
     let mut each = vec::Vec::new(Global);
     for shard in replies {
-        let shard = shards::ShardReply {
-            reply: shard.reply.into_inner(),
-            reads: shard.reads.into_inner(),
-        };
+        let shard =
+            shards::ShardReply { reply: shard.reply.into_inner(), reads: shard.reads.into_inner() };
         each.push(shard).map_err(|_| CombineError::Memory)?;
     }
     match shards::combine(Global, batch.inner(), &each) {

@@ -49,11 +49,7 @@ impl ConflictSet {
     pub fn new(window: i64, limit: usize) -> Result<Self, NewError> {
         check_set(window, limit)?;
         let set = conflict::ConflictSet::new(Global, window, limit);
-        Ok(ConflictSet {
-            set: set.map_err(|_| NewError::Memory)?,
-            version: -1,
-            stop: None,
-        })
+        Ok(ConflictSet { set: set.map_err(|_| NewError::Memory)?, version: -1, stop: None })
     }
 
     /// Creates a set that starts at a version, from -1 on, for a store that has been written before.
@@ -78,11 +74,7 @@ impl ConflictSet {
         check_set(window, limit)?;
         check_version(version)?;
         match conflict::ConflictSet::new_at(Global, window, limit, version) {
-            Ok(set) => Ok(ConflictSet {
-                set,
-                version,
-                stop: None,
-            }),
+            Ok(set) => Ok(ConflictSet { set, version, stop: None }),
             Err(SetStop::Memory) => Err(NewError::Memory),
             Err(SetStop::ArenaFull) => Err(NewError::LimitAtVersion(limit)),
         }
@@ -244,10 +236,7 @@ impl fmt::Display for ResolveError {
     fn fmt(&self, f: &mut fmt::Formatter<'_>) -> fmt::Result {
         match self {
             ResolveError::Version { version, last } => {
-                write!(
-                    f,
-                    "version {version} is not above {last}, which was resolved last"
-                )
+                write!(f, "version {version} is not above {last}, which was resolved last")
             }
             ResolveError::Full => f.write_str("the batch needs more boundaries than the limit"),
             ResolveError::Stop(stop) => stop.fmt(f),

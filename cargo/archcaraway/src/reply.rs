@@ -139,11 +139,7 @@ impl PartialEq for Reply {
             (entry.verdict, entry.places.as_slice())
         }
         self.version() == other.version()
-            && self
-                .entries()
-                .iter()
-                .map(parts)
-                .eq(other.entries().iter().map(parts))
+            && self.entries().iter().map(parts).eq(other.entries().iter().map(parts))
     }
 }
 

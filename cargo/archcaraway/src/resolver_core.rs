@@ -160,11 +160,7 @@ impl Core {
 
     fn check_proxy(&self, proxy: usize) -> Result<(), CoreError> {
         let proxies = self.proxies();
-        if proxy < proxies {
-            Ok(())
-        } else {
-            Err(CoreError::Proxy { proxy, proxies })
-        }
+        if proxy < proxies { Ok(()) } else { Err(CoreError::Proxy { proxy, proxies }) }
     }
 }
 

@@ -83,9 +83,7 @@ impl SplitPoints {
     ) -> Result<Self, BalanceError> {
         let mut batches = vec::Vec::new(Global);
         for batch in sample {
-            batches
-                .push(batch.inner())
-                .map_err(|_| BalanceError::Memory)?;
+            batches.push(batch.inner()).map_err(|_| BalanceError::Memory)?;
         }
         match shards::balanced(Global, &batches, shards) {
             Ok(points) => Ok(SplitPoints(points)),
@@ -140,10 +138,7 @@ pub struct Clip {
 
 impl Clip {
     fn over(clipped: shards::Clipped) -> Self {
-        Clip {
-            batch: Batch::over(clipped.batch),
-            reads: ReadIndices(clipped.reads),
-        }
+        Clip { batch: Batch::over(clipped.batch), reads: ReadIndices(clipped.reads) }
     }
 }
 
@@ -196,10 +191,7 @@ impl fmt::Display for SplitPointsError {
                 write!(f, "split point {index} is not after the one before")
             }
             SplitPointsError::KeyLength { index } => {
-                write!(
-                    f,
-                    "split point {index} is longer than {MAX_KEY_LENGTH} bytes"
-                )
+                write!(f, "split point {index} is longer than {MAX_KEY_LENGTH} bytes")
             }
             SplitPointsError::Memory => f.write_str("allocation failed"),
         }

@@ -109,10 +109,7 @@ pub(crate) struct Noting<R> {
 
 impl<R> Noting<R> {
     pub(crate) fn new(reader: R) -> Self {
-        Noting {
-            reader,
-            kind: io::ErrorKind::Other,
-        }
+        Noting { reader, kind: io::ErrorKind::Other }
     }
 
     /// Returns the error of a function that has read from this.

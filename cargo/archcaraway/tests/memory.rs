@@ -79,9 +79,7 @@ fn txn() -> Txn<'static> {
 }
 
 fn batch() -> Batch {
-    let batch = BatchBuilder::new(-1, 100)
-        .txn(txn())
-        .txn(Txn::at(0).read_key("k").report());
+    let batch = BatchBuilder::new(-1, 100).txn(txn()).txn(Txn::at(0).read_key("k").report());
     batch.build().expect("it is within the limits")
 }
 
@@ -134,11 +132,7 @@ fn cores() {
         Some(batch) => given.0.admit(1, batch),
         None => Ok(()),
     };
-    each_refusal(
-        || (core(), Some(batch())),
-        admit,
-        CoreError::Stop(Stop::Memory),
-    );
+    each_refusal(|| (core(), Some(batch())), admit, CoreError::Stop(Stop::Memory));
 }
 
 #[test]
@@ -154,12 +148,7 @@ fn shards() {
     let replies = || {
         let clips = points.clip(&batch()).expect("there is memory").into_iter();
         let reply = |batch: &Batch| set().resolve(batch).expect("there is memory");
-        clips
-            .map(|clip| ShardReply {
-                reply: reply(&clip.batch),
-                reads: clip.reads,
-            })
-            .collect()
+        clips.map(|clip| ShardReply { reply: reply(&clip.batch), reads: clip.reads }).collect()
     };
     let sent = batch();
     let combined = |replies: &mut Vec<ShardReply>| combine(&sent, replies.drain(..));

@@ -76,7 +76,8 @@ fn swept() -> ConflictSet {
     assert_eq!(set.boundaries(), 2 * BATCHES as usize * WRITES + 1);
     let mut version = 2 * WINDOW;
     while set.boundaries() > 9 {
-        set.resolve(&batch(version, [Txn::at(version - 1).write_key("k")])).expect("memory is ample");
+        set.resolve(&batch(version, [Txn::at(version - 1).write_key("k")]))
+            .expect("memory is ample");
         version += 1;
     }
     set

@@ -13,7 +13,8 @@ pub fn is_long() -> bool {
 
 /// Returns the first count if the long ones are wanted, else the second. `ARCHCARAWAY_COUNT` is the most of both.
 pub fn count(long: u64, short: u64) -> u64 {
-    let most = env::var("ARCHCARAWAY_COUNT").ok().and_then(|value| value.parse().ok()).unwrap_or(u64::MAX);
+    let most =
+        env::var("ARCHCARAWAY_COUNT").ok().and_then(|value| value.parse().ok()).unwrap_or(u64::MAX);
     if is_long() { long } else { short }.min(most)
 }
 
@@ -43,6 +44,8 @@ pub fn run(name: &str, total: u64, case: impl Fn(&mut Random) -> u64 + Sync) {
         };
         let threads = thread::available_parallelism().map_or(1, usize::from);
         let handles: Vec<_> = (0..threads).map(|_| scope.spawn(work)).collect();
-        handles.into_iter().for_each(|handle| handle.join().unwrap_or_else(|panic| resume_unwind(panic)));
+        handles
+            .into_iter()
+            .for_each(|handle| handle.join().unwrap_or_else(|panic| resume_unwind(panic)));
     });
 }

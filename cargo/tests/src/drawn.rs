@@ -99,9 +99,13 @@ pub fn any_batch(random: &mut Random, txns_most: usize, ranges_most: usize) -> P
         1 => i64::MAX - random.between(0, 3),
         _ => (random.number() >> 1 >> random.below(62)) as i64,
     };
-    let below = |random: &mut Random| if random.one_in(3) { version - 1 } else { random.between(-1, (version - 1).min(1_000)) };
+    let below = |random: &mut Random| {
+        if random.one_in(3) { version - 1 } else { random.between(-1, (version - 1).min(1_000)) }
+    };
     let (previous, received) = (below(random), below(random));
     let snapshots = (0, version.min(1 << 40));
-    let txns = (0..random.index(txns_most + 1)).map(|_| space.txn(random, ranges_most, snapshots)).collect();
+    let txns = (0..random.index(txns_most + 1))
+        .map(|_| space.txn(random, ranges_most, snapshots))
+        .collect();
     PlainBatch { previous, version, received, txns }
 }

@@ -11,7 +11,12 @@ pub fn batch(text: &str) -> PlainBatch {
     let (versions, received) = head.split_once(" received ").unwrap_or((head, "-1"));
     let (previous, version) = versions.split_once('>').expect("versions have a sign between them");
     let txns = body.split(';').filter(|_| !body.is_empty()).map(txn).collect();
-    PlainBatch { previous: number(previous), version: number(version), received: number(received), txns }
+    PlainBatch {
+        previous: number(previous),
+        version: number(version),
+        received: number(received),
+        txns,
+    }
 }
 
 fn number(text: &str) -> i64 {
@@ -37,7 +42,8 @@ fn range(text: &str) -> PlainRange {
     if let Some(key) = keys.strip_suffix(']') {
         return PlainRange::single(key);
     }
-    let (begin, end) = keys.strip_suffix(')').and_then(|keys| keys.split_once(',')).expect("a range has two keys");
+    let (begin, end) =
+        keys.strip_suffix(')').and_then(|keys| keys.split_once(',')).expect("a range has two keys");
     PlainRange::new(begin, end)
 }
 
@@ -57,7 +63,10 @@ fn entry(word: &str) -> PlainEntry {
         _ => panic!("no verdict: {word}"),
     };
     let places = places.split(',').filter(|place| !place.is_empty());
-    PlainEntry { verdict, places: places.map(|place| place.parse().expect("it is an index")).collect() }
+    PlainEntry {
+        verdict,
+        places: places.map(|place| place.parse().expect("it is an index")).collect(),
+    }
 }
 
 /// Reads an answer: a reply, `100 never`, or `100 held`.

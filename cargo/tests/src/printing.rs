@@ -12,7 +12,11 @@ pub fn line(style: Style, proxy: usize, text: &str) -> Line {
 
 /// Makes the lines, in words, of the answers to a proxy, between semicolons.
 pub fn lines(proxy: usize, texts: &str) -> KitVec<Line> {
-    texts.split("; ").map(|text| line(Style::all(Form::Words), proxy, text)).collect::<Vec<_>>().into()
+    texts
+        .split("; ")
+        .map(|text| line(Style::all(Form::Words), proxy, text))
+        .collect::<Vec<_>>()
+        .into()
 }
 
 /// Makes the lines of the answers to each proxy, at its number.

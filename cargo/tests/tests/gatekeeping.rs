@@ -1,6 +1,6 @@
 //! Gatekeepers that watch a run: a file that stalls while another goes on, and when a batch is admitted.
 
-use flow::{Stand, ReportedState, WaitingRoom};
+use flow::{ReportedState, Stand, WaitingRoom};
 use rattle_std::alloc::Global;
 use rattle_std::sync::Arc;
 use replay_program::{Gatekeeper, ShareKeeper};
@@ -112,7 +112,9 @@ fn replayed_beside_a_stall(keeps_shares: bool) -> String {
 /// The second proxy goes on up to its share, and waits there until the first has caught up.
 #[test]
 fn stalled_file_stops_nobody() {
-    let lines = [0, 1].map(|proxy| every_second(proxy).map(|version| format!("{proxy} {version} empty\n")).collect::<String>());
+    let lines = [0, 1].map(|proxy| {
+        every_second(proxy).map(|version| format!("{proxy} {version} empty\n")).collect::<String>()
+    });
     assert!(replayed_beside_a_stall(true) == lines.concat() + "done: ");
 }
 

@@ -102,7 +102,17 @@ impl BothEnds {
     fn new(capacity: usize) -> Self {
         let (port, intake) = made(capacity);
         let items = VecDeque::new();
-        BothEnds { port, intake, capacity: capacity as u64, items, sent: 0, closed: false, seen_taken: 0, seen_sent: 0, seen_close: false }
+        BothEnds {
+            port,
+            intake,
+            capacity: capacity as u64,
+            items,
+            sent: 0,
+            closed: false,
+            seen_taken: 0,
+            seen_sent: 0,
+            seen_close: false,
+        }
     }
 
     fn taken(&self) -> u64 {
@@ -259,7 +269,9 @@ fn items_are_dropped_once_between_threads() {
                     for _ in 0..4 {
                         match port.send(item) {
                             Ok(()) => break,
-                            Err(Refused::Full(back) | Refused::Closed(back) | Refused::Worn(back)) => item = back,
+                            Err(
+                                Refused::Full(back) | Refused::Closed(back) | Refused::Worn(back),
+                            ) => item = back,
                         }
                         thread::yield_now();
                         if number % 7 == 0 {

@@ -35,7 +35,8 @@ impl Arrivals {
             }
             let snapshots = (version - window - 10, version - 1);
             let txns = (0..random.index(4)).map(|_| space.txn(random, 2, snapshots)).collect();
-            let batch = PlainBatch { previous, version, received: received[proxy].min(version - 1), txns };
+            let batch =
+                PlainBatch { previous, version, received: received[proxy].min(version - 1), txns };
             if !random.one_in(100) {
                 batches.push((proxy, batch));
             }
@@ -309,7 +310,10 @@ fn replies_are_a_map() {
             assert_eq!(replies.put(proxy, reply.reply()), Ok(()));
             kept.insert((proxy, version), reply);
             let asked = (random.index(5), random.between(-1, version + 1));
-            assert_eq!(replies.find(asked.0, asked.1).map(PlainReply::of).as_ref(), kept.get(&asked));
+            assert_eq!(
+                replies.find(asked.0, asked.1).map(PlainReply::of).as_ref(),
+                kept.get(&asked)
+            );
         }
         calls
     });

@@ -6,7 +6,10 @@ use std::cell::Cell;
 use std::io::{ErrorKind, Read, Result as IoResult, Write};
 use tests::plain::{PlainBatch, PlainRange, PlainTxn};
 use tests::spelling::batch_frame;
-use wire::{Failed, Sink, Source, StdSink, StdSource, WireError, read_frames, upgrade, write_all, write_and_flush};
+use wire::{
+    Failed, Sink, Source, StdSink, StdSource, WireError, read_frames, upgrade, write_all,
+    write_and_flush,
+};
 
 /// Fails `failures` times in this way, and then answers. Counts the calls.
 struct Failing<'a> {
@@ -61,7 +64,13 @@ fn tries(kind: ErrorKind, failures: u32) -> Vec<(bool, u32)> {
 /// A failure other than an interruption is reported at once: the next call, and not this one, tries again.
 #[test]
 fn only_interruptions_are_retried() {
-    for kind in [ErrorKind::WouldBlock, ErrorKind::TimedOut, ErrorKind::BrokenPipe, ErrorKind::UnexpectedEof, ErrorKind::Other] {
+    for kind in [
+        ErrorKind::WouldBlock,
+        ErrorKind::TimedOut,
+        ErrorKind::BrokenPipe,
+        ErrorKind::UnexpectedEof,
+        ErrorKind::Other,
+    ] {
         assert_eq!(tries(kind, 1), [(false, 1); 3], "{kind:?}");
     }
     assert_eq!(tries(ErrorKind::Interrupted, 0), [(true, 1); 3]);
@@ -131,7 +140,12 @@ impl Read for Steps<'_> {
 
 fn batch(previous: i64, writes: usize) -> PlainBatch {
     let write = |index: usize| PlainRange::single(index.to_be_bytes());
-    let txns = vec![PlainTxn { snapshot: 0, marked: false, reads: Vec::new(), writes: (0..writes).map(write).collect() }];
+    let txns = vec![PlainTxn {
+        snapshot: 0,
+        marked: false,
+        reads: Vec::new(),
+        writes: (0..writes).map(write).collect(),
+    }];
     PlainBatch { previous, version: previous + 10, received: -1, txns }
 }
 
@@ -141,9 +155,13 @@ fn one_call_per_piece() {
     let frame = batch_frame(&batch(0, 1_000), 2);
     for step in [1, 7, 4_096] {
         let calls = Cell::new(0);
-        let mut frames = read_frames(Global, StdSource::new(Steps { bytes: &frame, step, end: None, calls: &calls }));
+        let mut frames = read_frames(
+            Global,
+            StdSource::new(Steps { bytes: &frame, step, end: None, calls: &calls }),
+        );
         assert!(matches!(frames.next(), Ok(Some(_))));
-        let pieces = 4_u32.div_ceil(step.min(4) as u32) + (frame.len() as u32 - 4).div_ceil(step as u32);
+        let pieces =
+            4_u32.div_ceil(step.min(4) as u32) + (frame.len() as u32 - 4).div_ceil(step as u32);
         assert_eq!(calls.replace(0), pieces);
         assert!(matches!(frames.next(), Ok(None)));
         assert_eq!(calls.get(), 1);
@@ -154,14 +172,20 @@ fn one_call_per_piece() {
 #[test]
 fn upgrade_writes_what_came_before_a_failed_read() {
     let frames: Vec<Vec<u8>> = (0..4).map(|index| batch_frame(&batch(10 * index, 3), 1)).collect();
-    let expected: Vec<Vec<u8>> = (0..4).map(|index| batch_frame(&batch(10 * index, 3), 2)).collect();
+    let expected: Vec<Vec<u8>> =
+        (0..4).map(|index| batch_frame(&batch(10 * index, 3), 2)).collect();
     for kind in [ErrorKind::WouldBlock, ErrorKind::TimedOut] {
         for complete in 0..=4 {
             for rest in [0, 1, 5, 30] {
                 let next = frames.get(complete).map_or(&[][..], |frame| &frame[..rest]);
                 let bytes = [frames[..complete].concat().as_slice(), next].concat();
                 let calls = Cell::new(0);
-                let mut reader = StdSource::new(Steps { bytes: &bytes, step: 9, end: Some(kind), calls: &calls });
+                let mut reader = StdSource::new(Steps {
+                    bytes: &bytes,
+                    step: 9,
+                    end: Some(kind),
+                    calls: &calls,
+                });
                 let mut sink = StdSink::new(Vec::new());
                 assert_eq!(upgrade(Global, &mut reader, &mut sink), Err(WireError::Read));
                 assert_eq!(sink.into_inner(), expected[..complete].concat());

@@ -27,7 +27,10 @@ fn resolves(mut set: ConflictSet, rows: &[(&str, &str)]) {
 
 #[test]
 fn own_and_later_writes_do_not_count() {
-    resolves(set(WINDOW, MAX_LIMIT), &[("-1>0: R[a,c) W[b,c); R[c,d) W[a,d); R[c,d)", "0 committed committed conflict")]);
+    resolves(
+        set(WINDOW, MAX_LIMIT),
+        &[("-1>0: R[a,c) W[b,c); R[c,d) W[a,d); R[c,d)", "0 committed committed conflict")],
+    );
 }
 
 /// At 105 the batch also writes the range that the history conflicts with. At 106 the history alone rejects.
@@ -37,8 +40,14 @@ fn rejected_by_the_history_writes_nothing() {
         set(10, MAX_LIMIT),
         &[
             ("-1>100: W[a,b)", "100 committed"),
-            ("100>105: W[a,b); R[a,b) W[x,y) @80; R[a,b) W[x,y) @95; R[x,y) @105", "105 committed tooold conflict committed"),
-            ("105>106: R[a,b) W[x,y) @80; R[a,b) W[x,y) @100; R[x,y) @106", "106 tooold conflict committed"),
+            (
+                "100>105: W[a,b); R[a,b) W[x,y) @80; R[a,b) W[x,y) @95; R[x,y) @105",
+                "105 committed tooold conflict committed",
+            ),
+            (
+                "105>106: R[a,b) W[x,y) @80; R[a,b) W[x,y) @100; R[x,y) @106",
+                "106 tooold conflict committed",
+            ),
         ],
     );
 }
@@ -89,16 +98,36 @@ fn limit_three_refused() {
 type Row = &'static [&'static str];
 
 const ROWS: [Row; 7] = [
-    &["0 -1>0 -> 0 0 empty", "0 0>100: W[a,b) -> 0 100 committed", "0 100>200: R[a,b) @100 -> 0 200 committed"],
+    &[
+        "0 -1>0 -> 0 0 empty",
+        "0 0>100: W[a,b) -> 0 100 committed",
+        "0 100>200: R[a,b) @100 -> 0 200 committed",
+    ],
     &[
         "0 -1>0 -> 0 0 empty",
         "0 0>100: W[a,b) W[e,f) -> 0 100 committed",
         "0 100>200: W[c,d) @100; m R[a,b) R[c,d) R[e,f) @50 -> 0 200 committed conflict:0,2",
     ],
     &["0 -1>0 -> 0 0 empty", "1 0>100 -> 1 100 empty", "0 0>100 -> 0 100 never"],
-    &["0 -1>0 -> 0 0 empty", "0 100>200", "0 100>200", "0 0>100 -> 0 100 empty; 0 200 empty; 0 200 empty"],
-    &["0 -1>0 -> 0 0 empty", "0 150>300", "0 100>200", "0 0>100 -> 0 100 empty; 0 200 empty; 0 300 never"],
-    &["0 -1>0 -> 0 0 empty", "0 150>160", "1 100>200", "1 50>55", "0 0>100 -> 0 100 empty; 1 55 never; 1 200 empty; 0 160 never"],
+    &[
+        "0 -1>0 -> 0 0 empty",
+        "0 100>200",
+        "0 100>200",
+        "0 0>100 -> 0 100 empty; 0 200 empty; 0 200 empty",
+    ],
+    &[
+        "0 -1>0 -> 0 0 empty",
+        "0 150>300",
+        "0 100>200",
+        "0 0>100 -> 0 100 empty; 0 200 empty; 0 300 never",
+    ],
+    &[
+        "0 -1>0 -> 0 0 empty",
+        "0 150>160",
+        "1 100>200",
+        "1 50>55",
+        "0 0>100 -> 0 100 empty; 1 55 never; 1 200 empty; 0 160 never",
+    ],
     &[
         "0 -1>0 -> 0 0 empty",
         "0 0>100 -> 0 100 empty",
@@ -123,7 +152,15 @@ fn steps(row: Row) -> Vec<Step> {
     let step = |step: &'static str| {
         let (call, answers) = step.split_once(" -> ").unwrap_or((step, ""));
         let (proxy, text) = numbered(call);
-        Step { proxy, batch: batch(text), answers: answers.split("; ").filter(|answer| !answer.is_empty()).map(numbered).collect() }
+        Step {
+            proxy,
+            batch: batch(text),
+            answers: answers
+                .split("; ")
+                .filter(|answer| !answer.is_empty())
+                .map(numbered)
+                .collect(),
+        }
     };
     row.iter().map(|text| step(text)).collect()
 }
@@ -153,7 +190,8 @@ struct Service {
 
 impl Service {
     fn open(proxies: usize, capacity: usize) -> Self {
-        let (resolver, clients) = open(Global, proxies, capacity, WINDOW, MAX_LIMIT).expect("memory is ample");
+        let (resolver, clients) =
+            open(Global, proxies, capacity, WINDOW, MAX_LIMIT).expect("memory is ample");
         Service { resolver, clients }
     }
 

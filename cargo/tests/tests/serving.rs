@@ -22,7 +22,9 @@ fn chain(random: &mut Random, batches: usize) -> Vec<PlainBatch> {
     let mut previous = -1;
     let mut next = || {
         let version = previous + random.between(1, 100);
-        let txns = (0..random.index(4)).map(|_| space.txn(random, 2, (version - WINDOW - 20, version - 1))).collect();
+        let txns = (0..random.index(4))
+            .map(|_| space.txn(random, 2, (version - WINDOW - 20, version - 1)))
+            .collect();
         let batch = PlainBatch { previous, version, received: -1, txns };
         previous = version;
         batch
@@ -100,7 +102,9 @@ impl Service {
     /// Takes a turn. It takes a batch of the first proxy after the last one that has any.
     fn turn(&mut self) {
         let proxies = self.requested.len();
-        let next = (1..=proxies).map(|step| (self.last + step) % proxies).find(|proxy| !self.requested[*proxy].is_empty());
+        let next = (1..=proxies)
+            .map(|step| (self.last + step) % proxies)
+            .find(|proxy| !self.requested[*proxy].is_empty());
         let turn = self.resolver.turn().expect("nothing stops it");
         match next {
             Some(proxy) => {
@@ -123,12 +127,18 @@ impl Service {
 
     // All lanes are closed and empty, and nothing is owed.
     fn is_through(&self) -> bool {
-        self.closed.iter().all(|closed| *closed) && self.requested.iter().all(VecDeque::is_empty) && self.resolver.owed() == 0
+        self.closed.iter().all(|closed| *closed)
+            && self.requested.iter().all(VecDeque::is_empty)
+            && self.resolver.owed() == 0
     }
 
     fn settle(&mut self) {
         let account = self.resolver.settle(&mut self.clients);
-        let all_taken = self.received.iter().zip(&self.reference.answers).all(|(received, answers)| received == answers);
+        let all_taken = self
+            .received
+            .iter()
+            .zip(&self.reference.answers)
+            .all(|(received, answers)| received == answers);
         assert_eq!((account.complete, account.stop), (self.done && all_taken, None));
     }
 }
@@ -160,7 +170,11 @@ fn turns_and_accounts_in_one_thread() {
 }
 
 /// Sends these batches in order, with at most `share` of them unanswered, and returns the answers.
-fn run_client(mut client: Client, batches: Vec<PlainBatch>, share: u64) -> (Client, Vec<PlainAnswer>) {
+fn run_client(
+    mut client: Client,
+    batches: Vec<PlainBatch>,
+    share: u64,
+) -> (Client, Vec<PlainAnswer>) {
     let mut unsent: VecDeque<_> = batches.iter().map(PlainBatch::batch).collect();
     let mut answers: Vec<Answer> = Vec::new();
     let mut tries = 0;

@@ -49,7 +49,9 @@ impl Found {
 fn reads_in_conflict(batch: &Batch, reply: &Reply) -> Vec<usize> {
     let entries = reply.entries.as_slice().iter().enumerate();
     let reads = |index| batch.txns.txn(index).reads.len();
-    entries.map(|(index, entry)| if entry.verdict == Verdict::Conflict { reads(index) } else { 0 }).collect()
+    entries
+        .map(|(index, entry)| if entry.verdict == Verdict::Conflict { reads(index) } else { 0 })
+        .collect()
 }
 
 /// Returns how much memory the process has in use, in bytes.
