@@ -1,8 +1,8 @@
 //! Replays recorded files with a resolver per shard, and prints what `replay --resolvers` prints:
 //! `resolvers POINTS WINDOW LIMIT FILE..`.
 //!
-//! POINTS has the split points as hexadecimal digits, with commas between them. The file at index p,
-//! counted from 0, has the batches of proxy p.
+//! POINTS has the split points as hexadecimal digits, with commas between them. The file at index
+//! p, counted from 0, has the batches of proxy p.
 
 use archcaraway::{Answer, Batch, Core, CoreError, ReadIndices, Reply, Stop, Verdict};
 use archcaraway::{ShardReply, SplitPoints, combine};

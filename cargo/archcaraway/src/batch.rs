@@ -1,13 +1,19 @@
 //! Batches, and the transactions in them.
 
-// Conditions of the proved functions that are called here:
+// Conditions of the proved functions that are called here, and after `=>` how each is met:
 //
-// | function | condition | how it is met |
-// |---|---|---|
-// | `keyspace::Txns::txn` | `within`: the index is that of a transaction | `txn` and `txns` ask for fewer than `len` |
-// | `keyspace::RangesRef::get` | `within`: the index is that of a range | `ranges_of` counts up to `len` |
-// | `keyspace::RangesRef::slice` | `ordered`, `within` | from 0 to `len` |
-// | `wire::decode_batch`, `encode_batch`, `encode_batch_1`, `read_frames`, `Frames::next` | none beside that of their reader | `wire_error` |
+// - `keyspace::Txns::txn`
+//   - `within`: the index is that of a transaction
+//     => `txn` and `txns` ask for fewer than `len`
+// - `keyspace::RangesRef::get`
+//   - `within`: the index is that of a range
+//     => `ranges_of` counts up to `len`
+// - `keyspace::RangesRef::slice`
+//   - `ordered`, `within`
+//     => from 0 to `len`
+// - `wire::decode_batch`, `encode_batch`, `encode_batch_1`, `read_frames`, `Frames::next`
+//   - none beside that of their reader
+//     => `wire_error`
 
 use crate::build_error::BuildError;
 use crate::range::Range;

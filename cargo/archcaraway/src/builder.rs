@@ -1,10 +1,11 @@
 //! Batches from transactions.
 
-// Conditions of the proved functions that are called by way of `Tables`:
+// Conditions of the proved functions that are called by way of `Tables`, and after `=>` how each is
+// met:
 //
-// | function | condition | how it is met |
-// |---|---|---|
-// | `keyspace::Batch::new` | `previous_from`, `rises`, `received_from`, `received_before` | `check_versions` |
+// - `keyspace::Batch::new`
+//   - `previous_from`, `rises`, `received_from`, `received_before`
+//     => `check_versions`
 
 use crate::MAX_TXNS;
 use crate::batch::Batch;
@@ -16,8 +17,8 @@ use crate::txn::Txn;
 ///
 /// The first limit that [`txn`](BatchBuilder::txn) exceeds is kept, and
 /// [`build`](BatchBuilder::build) reports it. [`add`](BatchBuilder::add) and
-/// [`append`](BatchBuilder::append) report theirs at once and leave the builder as it was, so that a
-/// bad transaction spoils nothing.
+/// [`append`](BatchBuilder::append) report theirs at once and leave the builder as it was, so that
+/// a bad transaction spoils nothing.
 ///
 /// ```
 /// use archcaraway::{BatchBuilder, BuildError, Txn};

@@ -2,9 +2,7 @@
 
 // Conditions of the proved functions that are called here:
 //
-// | function | condition | how it is met |
-// |---|---|---|
-// | `lane::Port::send`, `close`, `sent`, `lane::Intake::take`, `taken` | none | |
+// - `lane::Port::send`, `close`, `sent`, `lane::Intake::take`, `taken`: none
 
 use crate::batch::Batch;
 use crate::reply::Answer;

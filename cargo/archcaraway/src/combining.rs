@@ -1,10 +1,10 @@
 //! The replies of all shards as one.
 
-// Conditions of the proved functions that are called here:
+// Conditions of the proved functions that are called here, and after `=>` how each is met:
 //
-// | function | condition | how it is met |
-// |---|---|---|
-// | `shards::combine` | none; but each shard must have its reply, and it can't tell if one is missing | the caller's, as the docs of `combine` say |
+// - `shards::combine`
+//   - none; but each shard must have its reply, and it can't tell if one is missing
+//     => the caller's, as the docs of `combine` say
 
 use crate::batch::Batch;
 use crate::reply::Reply;

@@ -1,14 +1,20 @@
 //! The conflict set, for whoever has a chain of versions already.
 
-// Conditions of the proved functions that are called here:
+// Conditions of the proved functions that are called here, and after `=>` how each is met:
 //
-// | function | condition | how it is met |
-// |---|---|---|
-// | `conflict::ConflictSet::new` | `least_window`, `most_window`, `least_limit`, `most_limit` | `check_set`: `NewError::Window`, `NewError::Limit` |
-// | `conflict::ConflictSet::new_at` | the same, and `least_version` | `check_set`, `check_version`: `NewError::Version` |
-// | `conflict::ConflictSet::resolve` | `rising`: the version is above that of the batch resolved last | `ResolveError::Version`, by the field `version` |
-// | `conflict::ConflictSet::try_resolve` | the same | the same |
-// | `conflict::ConflictSet::boundaries`, `bytes_held`, `limit`, `edge`, `trim` | none | |
+// - `conflict::ConflictSet::new`
+//   - `least_window`, `most_window`, `least_limit`, `most_limit`
+//     => `check_set`: `NewError::Window`, `NewError::Limit`
+// - `conflict::ConflictSet::new_at`
+//   - the same, and `least_version`
+//     => `check_set`, `check_version`: `NewError::Version`
+// - `conflict::ConflictSet::resolve`
+//   - `rising`: the version is above that of the batch resolved last
+//     => `ResolveError::Version`, by the field `version`
+// - `conflict::ConflictSet::try_resolve`
+//   - the same
+//     => the same
+// - `conflict::ConflictSet::boundaries`, `bytes_held`, `limit`, `edge`, `trim`: none
 
 use crate::batch::Batch;
 use crate::reply::Reply;
@@ -52,7 +58,8 @@ impl ConflictSet {
         Ok(ConflictSet { set: set.map_err(|_| NewError::Memory)?, version: -1, stop: None })
     }
 
-    /// Creates a set that starts at a version, from -1 on, for a store that has been written before.
+    /// Creates a set that starts at a version, from -1 on, for a store that has been written
+    /// before.
     ///
     /// What was written up to the version is not known: each read range with a snapshot below it
     /// conflicts, unless the range is empty. The first batch has a greater version. At -1 this is
@@ -225,8 +232,8 @@ pub enum ResolveError {
         /// The version of the batch resolved last.
         last: i64,
     },
-    /// The batch does not fit the limit, and [`ConflictSet::try_resolve`] has refused it: the set is
-    /// unchanged.
+    /// The batch does not fit the limit, and [`ConflictSet::try_resolve`] has refused it: the set
+    /// is unchanged.
     Full,
     /// The set has stopped.
     Stop(Stop),

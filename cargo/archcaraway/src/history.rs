@@ -1,12 +1,14 @@
 //! Why a transaction conflicts.
 
-// Conditions of the proved functions that are called here:
+// Conditions of the proved functions that are called here, and after `=>` how each is met:
 //
-// | function | condition | how it is met |
-// |---|---|---|
-// | `explanations::History::new` | `least_window`: the window is 1 or more | `check_window`: `NewError::Window` |
-// | `explanations::ProcessedBatch::new` | `entries`: the reply has one entry per transaction | `PushError::Reply` |
-// | `explanations::History::push`, `explain` | none | |
+// - `explanations::History::new`
+//   - `least_window`: the window is 1 or more
+//     => `check_window`: `NewError::Window`
+// - `explanations::ProcessedBatch::new`
+//   - `entries`: the reply has one entry per transaction
+//     => `PushError::Reply`
+// - `explanations::History::push`, `explain`: none
 
 use crate::batch::Batch;
 use crate::range::Range;

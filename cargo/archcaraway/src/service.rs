@@ -1,16 +1,24 @@
 //! The resolver over lanes: many proxies, each in its thread.
 
-// Conditions of the proved functions that are called here:
+// Conditions of the proved functions that are called here, and after `=>` how each is met:
 //
-// | function | condition | how it is met |
-// |---|---|---|
-// | `resolver::open` | `least_proxies`, `most_proxies` | `check_proxies`: `NewError::Proxies` |
-// | | `least_capacity`, `most_capacity` | `check_capacity`: `NewError::Capacity` |
-// | | `least_window`, `most_window`, `least_limit`, `most_limit` | `check_set`: `NewError::Window`, `NewError::Limit` |
-// | `resolver::open_at` | the same, and `least_version` | the same, and `check_version`: `NewError::Version` |
-// | `resolver::Resolver::settle` | `clients`: all clients of the resolver, each at its number | `check_clients`: `SettleError::Count`, `SettleError::Client` |
-// | `resolver::share` | `some`: at least one proxy | `open` has checked it |
-// | `resolver::Resolver::turn`, `owed`, `sent` | none | |
+// - `resolver::open`
+//   - `least_proxies`, `most_proxies`
+//     => `check_proxies`: `NewError::Proxies`
+//   - `least_capacity`, `most_capacity`
+//     => `check_capacity`: `NewError::Capacity`
+//   - `least_window`, `most_window`, `least_limit`, `most_limit`
+//     => `check_set`: `NewError::Window`, `NewError::Limit`
+// - `resolver::open_at`
+//   - the same, and `least_version`
+//     => the same, and `check_version`: `NewError::Version`
+// - `resolver::Resolver::settle`
+//   - `clients`: all clients of the resolver, each at its number
+//     => `check_clients`: `SettleError::Count`, `SettleError::Client`
+// - `resolver::share`
+//   - `some`: at least one proxy
+//     => `open` has checked it
+// - `resolver::Resolver::turn`, `owed`, `sent`: none
 
 use crate::client::{Client, Link};
 use crate::stop::{

@@ -1,12 +1,15 @@
 //! Several resolvers by key range: split points, and what each shard gets of a batch.
 
-// Conditions of the proved functions that are called here:
+// Conditions of the proved functions that are called here, and after `=>` how each is met:
 //
-// | function | condition | how it is met |
-// |---|---|---|
-// | `keyspace::Key::copied` | `short`: at most `MAX_KEY_LENGTH` bytes | `SplitPointsError::KeyLength` |
-// | `shards::ReadIndices::txn` | `within`: the index is that of a transaction | `ReadIndices::of` asks for fewer than `len` |
-// | `shards::SplitPoints::checked`, `shard_count`, `shard_of`, `points`, `shards::balanced`, `shards::clip_all` | none | |
+// - `keyspace::Key::copied`
+//   - `short`: at most `MAX_KEY_LENGTH` bytes
+//     => `SplitPointsError::KeyLength`
+// - `shards::ReadIndices::txn`
+//   - `within`: the index is that of a transaction
+//     => `ReadIndices::of` asks for fewer than `len`
+// - `shards::SplitPoints::checked`, `shard_count`, `shard_of`, `points`, `shards::balanced`,
+//   `shards::clip_all`: none
 
 use crate::MAX_KEY_LENGTH;
 use crate::batch::Batch;

@@ -1,16 +1,23 @@
-//! The tables in which a batch keeps its transactions. Their keys lie in one buffer, into which each
-//! is copied once.
+//! The tables in which a batch keeps its transactions. Their keys lie in one buffer, into which
+//! each is copied once.
 
-// Conditions of the proved functions that are called here:
+// Conditions of the proved functions that are called here, and after `=>` how each is met:
 //
-// | function | condition | how it is met |
-// |---|---|---|
-// | `keyspace::Batch::new` | versions | the caller has checked them |
-// | | `few`: at most 4,096 transactions | `BuildError::TxnCount` of `add` and `append` |
-// | `keyspace::Txns::from_tables` | `tables`: each span lies in the buffer, each row has its spans | `put_range` and `put_row` append a key before its span, and spans before their row; `append` moves all of them; `cut` keeps the spans of the rows that stay |
-// | | `tables`: limits of keys and ranges | each `Range` has them |
-// | | `tables`: snapshots and counts of ranges | `check_txn` |
-// | | `few`: at most 4,096 rows | `BuildError::TxnCount` of `add` and `append` |
+// - `keyspace::Batch::new`
+//   - versions
+//     => the caller has checked them
+//   - `few`: at most 4,096 transactions
+//     => `BuildError::TxnCount` of `add` and `append`
+// - `keyspace::Txns::from_tables`
+//   - `tables`: each span lies in the buffer, each row has its spans
+//     => `put_range` and `put_row` append a key before its span, and spans before their row;
+//     `append` moves all of them; `cut` keeps the spans of the rows that stay
+//   - `tables`: limits of keys and ranges
+//     => each `Range` has them
+//   - `tables`: snapshots and counts of ranges
+//     => `check_txn`
+//   - `few`: at most 4,096 rows
+//     => `BuildError::TxnCount` of `add` and `append`
 
 use crate::batch::Batch;
 use crate::build_error::BuildError;

@@ -28,7 +28,8 @@ fn is_refused() -> bool {
     })
 }
 
-// SAFETY: each call is passed to the system's allocator, or returns null, which means that it failed.
+// SAFETY: each call is passed to the system's allocator, or returns null, which means that it
+// failed.
 unsafe impl GlobalAlloc for Refusing {
     unsafe fn alloc(&self, layout: Layout) -> *mut u8 {
         if is_refused() {

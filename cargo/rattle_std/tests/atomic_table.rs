@@ -1,4 +1,5 @@
-//! Words and slots between threads, used as `lane` uses them: a word says which thread may use a slot.
+//! Words and slots between threads, used as `lane` uses them: a word says which thread may use a
+//! slot.
 
 use rattle_std::alloc::Global;
 use rattle_std::atomic_table::{Seat, Shared, Table};

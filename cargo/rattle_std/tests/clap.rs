@@ -1,4 +1,5 @@
-//! Command lines of the shapes that the programs have: options and files, subcommands, and arguments that are all wanted.
+//! Command lines of the shapes that the programs have: options and files, subcommands, and
+//! arguments that are all wanted.
 
 use rattle_std::alloc::Global;
 use rattle_std::clap::builder::ValueParser;

@@ -166,7 +166,8 @@ impl Write for Few {
     }
 }
 
-/// Whatever fails, an error is returned by a write or by the flush, and a prefix of the bytes is written.
+/// Whatever fails, an error is returned by a write or by the flush, and a prefix of the bytes is
+/// written.
 #[test]
 fn buffered_writer_that_fails() {
     let bytes: std::vec::Vec<u8> = (0..20_000_u32).map(|number| (number * 7) as u8).collect();
