@@ -5,7 +5,8 @@ use keyspace::Verdict;
 
 /// Reads a batch: `100>200 received 100: W[a,b) @0; m R[a,b) R[k] @50`.
 ///
-/// Received is -1 and a snapshot 0 if they aren't given. `R[k]` is the range of one key. Keys have no blanks and none of `,;:])`.
+/// Received is -1 and a snapshot 0 if they aren't given. `R[k]` is the range of one key. Keys have
+/// no blanks and none of `,;:])`.
 pub fn batch(text: &str) -> PlainBatch {
     let (head, body) = text.split_once(": ").unwrap_or((text, ""));
     let (versions, received) = head.split_once(" received ").unwrap_or((head, "-1"));

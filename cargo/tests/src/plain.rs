@@ -70,7 +70,8 @@ impl PlainRange {
         *self == PlainRange::single(self.begin.clone())
     }
 
-    /// Returns whether some string of bytes is in both: the later of the begins is, if it is before both ends.
+    /// Returns whether some string of bytes is in both: the later of the begins is, if it is before
+    /// both ends.
     pub fn meets(&self, other: &PlainRange) -> bool {
         let begin = (&self.begin).max(&other.begin);
         begin < &self.end && begin < &other.end

@@ -33,7 +33,8 @@ pub fn file_of_versions(versions: impl IntoIterator<Item = i64>) -> Vec<u8> {
         .collect()
 }
 
-/// Replays as the program does by default, from these readers, and puts what comes of it into words.
+/// Replays as the program does by default, from these readers, and puts what comes of it into
+/// words.
 pub fn replayed<S, G>(readers: Vec<S>, gatekeeper: &Arc<G>) -> String
 where
     S: Source + Send + 'static,

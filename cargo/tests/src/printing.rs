@@ -24,7 +24,8 @@ pub fn received(answers: &[&str]) -> KitVec<KitVec<Line>> {
     answers.iter().enumerate().map(|(proxy, texts)| lines(proxy, texts)).collect::<Vec<_>>().into()
 }
 
-/// Puts how a run has ended into words, after what it wrote to standard output and before what it wrote to standard error.
+/// Puts how a run has ended into words, after what it wrote to standard output and before what it
+/// wrote to standard error.
 pub fn ended(status: Status, out: &[u8], error: &[u8]) -> String {
     let word = match status {
         Status::Done => "done: ",

@@ -30,7 +30,8 @@ impl Reference {
         }
     }
 
-    /// Takes a batch of a proxy. Returns false if it has to be held and the gate is full; then it is lost.
+    /// Takes a batch of a proxy. Returns false if it has to be held and the gate is full; then it
+    /// is lost.
     pub fn take(&mut self, proxy: usize, batch: &PlainBatch) -> bool {
         if batch.previous > self.version {
             self.held.push((proxy, batch.clone()));

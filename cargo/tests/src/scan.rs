@@ -1,4 +1,5 @@
-//! Verdicts by a scan over all committed writes: the rules "edge" to "report" of `docs/FOUNDATIONDB.md`, word for word.
+//! Verdicts by a scan over all committed writes: the rules "edge" to "report" of
+//! `docs/FOUNDATIONDB.md`, word for word.
 
 use crate::plain::{PlainBatch, PlainEntry, PlainRange, PlainReply, PlainTxn};
 use keyspace::Verdict;

@@ -48,8 +48,8 @@ impl Steps {
         self.boundaries.entry(range.end.clone()).or_insert(at_end);
     }
 
-    /// Returns whether that many ranges may be written, with two boundaries each. Sweeps a complete round from the front first if
-    /// they exceed the limit.
+    /// Returns whether that many ranges may be written, with two boundaries each. Sweeps a complete
+    /// round from the front first if they exceed the limit.
     pub fn prepare(&mut self, ranges: usize) -> bool {
         if self.boundaries.len() + 2 * ranges > self.limit {
             self.cursor.clear();
@@ -92,7 +92,8 @@ impl Steps {
     }
 }
 
-/// Unites ranges that overlap or touch. Returns them in key order, each end strictly below the next begin.
+/// Unites ranges that overlap or touch. Returns them in key order, each end strictly below the next
+/// begin.
 pub fn united(ranges: impl IntoIterator<Item = PlainRange>) -> Vec<PlainRange> {
     let mut sorted: Vec<_> = ranges.into_iter().filter(|range| !range.is_empty()).collect();
     sorted.sort_by(|one, other| one.begin.cmp(&other.begin));

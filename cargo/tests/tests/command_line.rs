@@ -229,26 +229,31 @@ fn reasons_of_refusals() {
         ),
         (
             "--summary --quiet f",
-            "error: --summary is wanted without --check, --stream, --frames, --quiet, --only and --versions\n",
+            "error: --summary is wanted without --check, --stream, --frames, --quiet, --only and \
+             --versions\n",
         ),
         (
             "--summary-to r --stream f",
-            "error: --summary-to is wanted without --check, --stream, --summary, --explain and --frames\n",
+            "error: --summary-to is wanted without --check, --stream, --summary, --explain and \
+             --frames\n",
         ),
         (
             "--summary-to r --explain f",
-            "error: --summary-to is wanted without --check, --stream, --summary, --explain and --frames\n",
+            "error: --summary-to is wanted without --check, --stream, --summary, --explain and \
+             --frames\n",
         ),
         ("--top 5 f", "error: --top is wanted with --summary\n"),
         ("--top 5 --summary-to r f", "error: --top is wanted with --summary\n"),
         ("--replies r f", "error: --replies OUT is wanted with --stream\n"),
         (
             "--resolvers 2 --stream f",
-            "error: --resolvers above 1 is wanted without --stream, --explain, --top and --report-all\n",
+            "error: --resolvers above 1 is wanted without --stream, --explain, --top and \
+             --report-all\n",
         ),
         (
             "--resolvers 2 --explain f",
-            "error: --resolvers above 1 is wanted without --stream, --explain, --top and --report-all\n",
+            "error: --resolvers above 1 is wanted without --stream, --explain, --top and \
+             --report-all\n",
         ),
         (
             "--resolvers 2 f -",
@@ -259,7 +264,8 @@ fn reasons_of_refusals() {
         ("- f -", "error: standard input (-) can be given only once\n"),
         (
             "--resolvers 2 --report-all f",
-            "error: --resolvers above 1 is wanted without --stream, --explain, --top and --report-all\n",
+            "error: --resolvers above 1 is wanted without --stream, --explain, --top and \
+             --report-all\n",
         ),
         ("f g -o g", WRITTEN_INPUT),
         ("--resolvers 2 --split-points p f -o p", WRITTEN_INPUT),

@@ -40,7 +40,8 @@ impl Chain {
         }
     }
 
-    /// Draws the next batch. Most snapshots are about as far back as the window, some anywhere or ahead.
+    /// Draws the next batch. Most snapshots are about as far back as the window, some anywhere or
+    /// ahead.
     fn next(&mut self, random: &mut Random) -> PlainBatch {
         let previous = self.version;
         self.version += random.between(1, self.steps_most.min(1 << 40));
@@ -86,7 +87,8 @@ fn verdicts_and_reports_are_those_of_a_scan() {
     });
 }
 
-/// Many different keys, so that the tree of boundaries has several levels, and snapshots not far back.
+/// Many different keys, so that the tree of boundaries has several levels, and snapshots not far
+/// back.
 #[test]
 fn verdicts_over_many_boundaries() {
     run("verdicts_over_many_boundaries", count(1_000_000, 30_000), |random| {
@@ -141,7 +143,8 @@ fn check_within_a_batch_is_that_of_pairs() {
     });
 }
 
-/// With a small limit: the boundaries and the stop are those of the step function, and the stop is final.
+/// With a small limit: the boundaries and the stop are those of the step function, and the stop is
+/// final.
 #[test]
 fn boundaries_and_stops_are_those_of_the_step_function() {
     run(
@@ -175,7 +178,8 @@ fn boundaries_and_stops_are_those_of_the_step_function() {
     );
 }
 
-/// With a small limit: a batch is refused exactly where the step function has no room after a sweep, and leaves no trace.
+/// With a small limit: a batch is refused exactly where the step function has no room after a
+/// sweep, and leaves no trace.
 #[test]
 fn refused_batches_leave_no_trace() {
     run("refused_batches_leave_no_trace", count(1_000_000, 20_000), |random| {

@@ -1,4 +1,5 @@
-//! What is found in a file after a failed run, against a plain walk over its bytes, and the lines about it by hand.
+//! What is found in a file after a failed run, against a plain walk over its bytes, and the lines
+//! about it by hand.
 
 use rattle_std::alloc::Global;
 use replay_diagnosis::{
@@ -247,7 +248,8 @@ fn lines_about_files() {
         ),
         (
             Finding::Truncated { position: third, missing: 12 },
-            "ends inside frame 3 at byte 162, 12 bytes too early: record it again, or keep the frames before it with `head -c 162`",
+            "ends inside frame 3 at byte 162, 12 bytes too early: \
+             record it again, or keep the frames before it with `head -c 162`",
         ),
         (
             Finding::NotAFrame(start, WireError::Long),
@@ -255,8 +257,8 @@ fn lines_about_files() {
         ),
         (
             Finding::NotAFrame(last, WireError::Trailing),
-            "has no frame of a batch as frame 18446744073709551615 at byte 18446744073709551615: record it again, or keep the \
-             frames before it with `head -c 18446744073709551615`",
+            "has no frame of a batch as frame 18446744073709551615 at byte 18446744073709551615: \
+             record it again, or keep the frames before it with `head -c 18446744073709551615`",
         ),
     ] {
         assert_eq!(
@@ -284,15 +286,18 @@ fn lines_about_runs() {
     for (finding, text) in [
         (
             RunFinding::AllHeld(70),
-            "no batch follows version -1, so all are held: begin the chain with `batches opening --version 70`",
+            "no batch follows version -1, so all are held: \
+             begin the chain with `batches opening --version 70`",
         ),
         (
             RunFinding::GateFull,
-            "too many batches wait for one that is missing: make all files one chain, with rising versions in each file",
+            "too many batches wait for one that is missing: \
+             make all files one chain, with rising versions in each file",
         ),
         (
             RunFinding::ArenaFull { version: -1, limit: 16_777_216 },
-            "version -1 was reached with a limit of 16777216 boundaries: raise `--limit`, or use a smaller `--window`",
+            "version -1 was reached with a limit of 16777216 boundaries: \
+             raise `--limit`, or use a smaller `--window`",
         ),
         (RunFinding::Output, "the output can't be written: free its disk, or read it to its end"),
     ] {

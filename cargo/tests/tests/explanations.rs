@@ -62,7 +62,8 @@ impl Log {
         }
     }
 
-    /// Explains a read range of a transaction of the batch: first by what older batches wrote, then by its own.
+    /// Explains a read range of a transaction of the batch: first by what older batches wrote, then
+    /// by its own.
     fn explain(&self, batch: &PlainBatch, txn: usize, read: usize) -> Option<PlainExplanation> {
         let (snapshot, range) = (batch.txns[txn].snapshot, &batch.txns[txn].reads[read]);
         let met = |write: &&PlainWrite| write.range.meets(range);
@@ -147,8 +148,8 @@ fn drawn_batch(random: &mut Random, space: &KeySpace, previous: i64, window: i64
     PlainBatch { previous, version, received: -1, txns }
 }
 
-/// Of each read range of a transaction that isn't too old: the explanation is that by the writes of all batches, and a transaction has
-/// one exactly if it is in conflict.
+/// Of each read range of a transaction that isn't too old: the explanation is that by the writes of
+/// all batches, and a transaction has one exactly if it is in conflict.
 #[test]
 fn explanations_are_those_by_all_batches() {
     let kinds = Kinds::default();
@@ -205,8 +206,9 @@ fn txn(snapshot: i64, reads: &[&str], writes: &[&str]) -> PlainTxn {
     PlainTxn { snapshot, marked: false, reads: ranges(reads), writes: ranges(writes) }
 }
 
-/// Batches by their proxies and versions, and what explains a read range of the last one: the proxy, the version, the transaction and the
-/// range that it wrote, and the number of further writes.
+/// Batches by their proxies and versions, and what explains a read range of the last one: the
+/// proxy, the version, the transaction and the range that it wrote, and the number of further
+/// writes.
 struct Row {
     name: &'static str,
     window: i64,

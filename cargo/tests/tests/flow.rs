@@ -1,4 +1,5 @@
-//! Which batch goes first if all proxies wait for each other, and what they report in a waiting room.
+//! Which batch goes first if all proxies wait for each other, and what they report in a waiting
+//! room.
 
 use flow::{ReportedState, Stand, WaitingRoom, is_below_share, next_admitted};
 use rattle_std::alloc::Global;

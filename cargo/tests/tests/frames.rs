@@ -16,9 +16,12 @@ use wire::{
 /// The vectors of the page, in hexadecimal.
 const BATCHES: [&str; 4] = [
     "0000001b 01 ffffffffffffffff 0000000000000000 ffffffffffffffff 0000",
-    "0000002e 01 0000000000000000 0000000000000064 ffffffffffffffff 0001 0000000000000000 00 0000 0001 0001 61 0001 62",
-    "0000002f 03 0000000000000000 0000000000000064 ffffffffffffffff 0001 0000000000000000 00 0000 0001 00 0001 61 0001 62",
-    "0000002c 03 0000000000000000 0000000000000064 ffffffffffffffff 0001 0000000000000000 00 0000 0001 01 0001 6b",
+    "0000002e 01 0000000000000000 0000000000000064 ffffffffffffffff 0001 0000000000000000 00 0000 \
+     0001 0001 61 0001 62",
+    "0000002f 03 0000000000000000 0000000000000064 ffffffffffffffff 0001 0000000000000000 00 0000 \
+     0001 00 0001 61 0001 62",
+    "0000002c 03 0000000000000000 0000000000000064 ffffffffffffffff 0001 0000000000000000 00 0000 \
+     0001 01 0001 6b",
 ];
 const REPLIES: [&str; 3] = [
     "0000000b 02 0000000000000000 0000",
@@ -79,7 +82,8 @@ fn reply_decodes_by_the_tables(bytes: &[u8]) -> Option<WireError> {
     }
 }
 
-/// Cuts a frame at every byte. With its own length it is `Short`; with the length of the remaining bytes it is `Cut`.
+/// Cuts a frame at every byte. With its own length it is `Short`; with the length of the remaining
+/// bytes it is `Cut`.
 fn cut_everywhere(frame: &[u8], decodes: impl Fn(&[u8]) -> Option<WireError>) {
     for length in 0..frame.len() {
         assert_eq!(decodes(&frame[..length]), Some(WireError::Short));
@@ -214,7 +218,8 @@ fn random_frames_cut_and_flipped_everywhere() {
         let reply = reply_frame(&small_reply(random));
         let frames = [batch_frame(&batch, 1), batch_frame(&batch, 2)];
         let mut decoded = 0;
-        // Long keys are left to the test of edits, since these decode each frame as often as it has bytes.
+        // Long keys are left to the test of edits, since these decode each frame as often as it has
+        // bytes.
         for frame in frames.iter().filter(|frame| frame.len() < 2_000) {
             cut_everywhere(frame, decodes_by_the_tables);
             flip_everywhere(frame, 4, random, decodes_by_the_tables);
@@ -264,7 +269,8 @@ fn any_bytes_decode_by_the_tables() {
     });
 }
 
-/// A reader that gives at most 20 bytes per call, is interrupted now and then, and may fail at the end of its bytes.
+/// A reader that gives at most 20 bytes per call, is interrupted now and then, and may fail at the
+/// end of its bytes.
 struct Pieces<'a> {
     bytes: &'a [u8],
     fails: bool,
@@ -352,7 +358,8 @@ fn frames_of_readers_that_cut_and_fail() {
     });
 }
 
-/// A writer that takes some bytes per call, is interrupted now and then, and fails once it has `most` bytes.
+/// A writer that takes some bytes per call, is interrupted now and then, and fails once it has
+/// `most` bytes.
 struct Short {
     written: Vec<u8>,
     most: usize,
@@ -382,7 +389,8 @@ impl Write for Short {
     }
 }
 
-/// `upgrade` writes each batch before a fault as a frame of version 2, and a prefix of these frames to a writer that fails.
+/// `upgrade` writes each batch before a fault as a frame of version 2, and a prefix of these frames
+/// to a writer that fails.
 #[test]
 fn upgrades_of_streams() {
     run("upgrades_of_streams", count(500_000, 10_000), |random| {
@@ -461,7 +469,8 @@ fn interruptions_up_to_the_limit() {
     }
 }
 
-/// A batch of version 1 that is too long in version 2 is refused, after the frames before it are written.
+/// A batch of version 1 that is too long in version 2 is refused, after the frames before it are
+/// written.
 #[test]
 fn upgrade_outgrows_its_frame() {
     let mut batch = PlainBatch::empty(-1, 100);

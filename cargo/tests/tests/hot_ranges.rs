@@ -69,10 +69,12 @@ fn rows(ranges: &[HotRange<'_>]) -> Vec<Row> {
     ranges.iter().map(|hot| ((hot.begin.to_vec(), hot.end.to_vec()), hot.conflicts)).collect()
 }
 
-/// A plain count: for each range the rejected transactions that it counts for, by their versions and indices.
+/// A plain count: for each range the rejected transactions that it counts for, by their versions
+/// and indices.
 #[derive(Default)]
 struct Scan {
-    // all committed writes, in the order of processing: the version, the index of the transaction and the range
+    // all committed writes, in the order of processing: the version, the index of the transaction
+    // and the range
     writes: Vec<(i64, usize, PlainRange)>,
     reads: BTreeMap<(Vec<u8>, Vec<u8>), BTreeSet<(i64, usize)>>,
     written: BTreeMap<(Vec<u8>, Vec<u8>), BTreeSet<(i64, usize)>>,
@@ -120,7 +122,8 @@ fn greatest(
     rows
 }
 
-/// Over drawn chains of several proxies, the ranges are those of a plain count, whatever their number.
+/// Over drawn chains of several proxies, the ranges are those of a plain count, whatever their
+/// number.
 #[test]
 fn ranges_are_those_of_a_count() {
     let (several, again) = (AtomicU64::new(0), AtomicU64::new(0));
@@ -172,7 +175,8 @@ fn drawn_batch(random: &mut Random, space: &KeySpace, previous: i64, window: i64
 /// A range by its keys.
 type Ends = (&'static [u8], &'static [u8]);
 
-/// Returns a transaction without a report by its snapshot, the ranges that it reads, and those that it writes.
+/// Returns a transaction without a report by its snapshot, the ranges that it reads, and those that
+/// it writes.
 fn txn(snapshot: i64, reads: &[Ends], writes: &[Ends]) -> PlainTxn {
     let ranges =
         |ranges: &[Ends]| ranges.iter().map(|(begin, end)| PlainRange::new(*begin, *end)).collect();
@@ -338,7 +342,10 @@ fn texts_by_hand() {
         (20, vec![txn(9, &[odd, bob], &[]), txn(9, &[bob], &[])]),
     ]);
     let lines = "  2 [\"account/bob\",\"account/bob\\x00\")\n  1 [\"\"\\\\\",\"\"\\\\\\xff\")\n";
-    let array = r#"[{"begin":"account/bob","end":"account/bob\\x00","conflicts":2},{"begin":"\"\\\\","end":"\"\\\\\\xff","conflicts":1}]"#;
+    let array = concat!(
+        r#"[{"begin":"account/bob","end":"account/bob\\x00","conflicts":2},"#,
+        r#"{"begin":"\"\\\\","end":"\"\\\\\\xff","conflicts":1}]"#,
+    );
     let expected = (
         format!("{}{lines}{}{lines}", heads.0, heads.1),
         format!("\"hot_reads\":{array},\"hot_writes\":{array}"),

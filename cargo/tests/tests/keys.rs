@@ -127,7 +127,8 @@ fn ranges_hold_and_meet_as_their_keys_say() {
     });
 }
 
-/// Begins are numbered in order. A run goes from the number of its begin to that of the first begin at or after its end.
+/// Begins are numbered in order. A run goes from the number of its begin to that of the first begin
+/// at or after its end.
 #[test]
 fn ranks_are_the_numbers_of_sorted_begins() {
     run("ranks_are_the_numbers_of_sorted_begins", count(10_000_000, 100_000), |random| {
@@ -181,7 +182,8 @@ fn runs_overlap_as_ranges_meet() {
     });
 }
 
-/// The hashes of single keys, computed from the definition by another program. No other range has one.
+/// The hashes of single keys, computed from the definition by another program. No other range has
+/// one.
 #[test]
 fn hashes_by_hand() {
     for (key, hash) in [
@@ -241,7 +243,8 @@ fn hashes_report_short_keys_apart() {
     });
 }
 
-/// The first thousand numbers, as text, fall into most of the cells that a thousand random hashes would fill.
+/// The first thousand numbers, as text, fall into most of the cells that a thousand random hashes
+/// would fill.
 #[test]
 fn hashes_of_numbers_spread() {
     let cells: BTreeSet<_> =
@@ -249,9 +252,9 @@ fn hashes_of_numbers_spread() {
     assert!(cells.len() >= 600, "{}", cells.len());
 }
 
-/// Each written key has one number, and its run holds that alone. Two written keys touch exactly if no
-/// number is between theirs. A key that is read has the run of an equal written one, or shares no number
-/// with any. The order has each written index once, in the order of the keys.
+/// Each written key has one number, and its run holds that alone. Two written keys touch exactly if
+/// no number is between theirs. A key that is read has the run of an equal written one, or shares
+/// no number with any. The order has each written index once, in the order of the keys.
 fn assert_singles_are_ranked(ranges: &Ranges, txns: &Txns, is_write: &[bool]) {
     let runs = txns.ranks().runs();
     let written = |index: &usize| is_write[*index];

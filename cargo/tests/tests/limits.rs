@@ -23,7 +23,8 @@ fn number(number: u64) -> Vec<u8> {
     number.to_be_bytes()[4..].to_vec()
 }
 
-/// A step map with 2,000,000 boundaries beside the one at the empty key: the writes come in no order, and each stays apart.
+/// A step map with 2,000,000 boundaries beside the one at the empty key: the writes come in no
+/// order, and each stays apart.
 #[test]
 fn step_map_of_two_million_boundaries() {
     let writes: u64 = 1_000_000;
@@ -181,7 +182,8 @@ fn longest_frame() {
     }
 }
 
-/// 1,024 batches are held and then processed, whatever the order in which they came; one more stops the resolver.
+/// 1,024 batches are held and then processed, whatever the order in which they came; one more stops
+/// the resolver.
 #[test]
 fn most_held_batches() {
     let mut order: Vec<i64> = (1..=1_024).collect();
@@ -206,7 +208,8 @@ fn most_held_batches() {
     assert_eq!((admit(&mut core, 0), core.finish()), (Err(Stop::GateFull), Err(Stop::GateFull)));
 }
 
-/// Keys of 10,000 bytes, single, shared to the last byte, and read by ranges that end with the key right after.
+/// Keys of 10,000 bytes, single, shared to the last byte, and read by ranges that end with the key
+/// right after.
 #[test]
 fn longest_keys() {
     let long = |last: u8| [vec![b'k'; 9_999], vec![last]].concat();

@@ -1,4 +1,5 @@
-//! Lines of JSON: written lines are read back, and changed ones are read or refused without a panic.
+//! Lines of JSON: written lines are read back, and changed ones are read or refused without a
+//! panic.
 
 use json_lines::{Scratch, read_batch, read_reply, write_batch, write_reply};
 use keyspace::Verdict;
@@ -8,7 +9,8 @@ use tests::drawn::any_batch;
 use tests::plain::{PlainBatch, PlainEntry, PlainRange, PlainReply};
 use tests::random::Random;
 
-/// Puts bytes into the keys of a batch that JSON and the form of keys escape, and ones that are no text.
+/// Puts bytes into the keys of a batch that JSON and the form of keys escape, and ones that are no
+/// text.
 fn with_escapes(batch: &mut PlainBatch, random: &mut Random) {
     let letters = b"\x00\x09\x1f ab\"\\/xX09~\x7f\x80\xc3\xa9\xff";
     for txn in &mut batch.txns {
@@ -110,7 +112,8 @@ fn empty_line_is_refused() {
     assert_eq!(refusal("").as_deref(), Some("not JSON"));
 }
 
-/// A line at the limits: transactions, ranges of one, and bytes of a single key. The end of a further range has one byte more.
+/// A line at the limits: transactions, ranges of one, and bytes of a single key. The end of a
+/// further range has one byte more.
 #[test]
 fn limits_of_a_line() {
     let line = |txns: usize, ranges: usize, bytes: usize| {

@@ -1,4 +1,5 @@
-//! The complete program `replay`: its words, and streams that fail or hold all bytes until they are flushed.
+//! The complete program `replay`: its words, and streams that fail or hold all bytes until they are
+//! flushed.
 
 use std::ffi::OsString;
 use std::io::{Result, Write};
@@ -44,7 +45,8 @@ fn help_and_version_shown() {
     );
 }
 
-/// How the program ends on these words, and what it writes to standard error, if standard output is this.
+/// How the program ends on these words, and what it writes to standard error, if standard output is
+/// this.
 fn ends_on(words: &[&str], out: Failing) -> String {
     let mut error = StdSink::new(Vec::new());
     let report = shell_into(words, &mut StdSink::new(out), &mut error);
@@ -107,7 +109,8 @@ impl Write for Holding {
     }
 }
 
-/// Standard output has passed on all that it was given when the program ends. Standard error isn't buffered, and isn't flushed.
+/// Standard output has passed on all that it was given when the program ends. Standard error isn't
+/// buffered, and isn't flushed.
 #[test]
 fn all_output_is_passed_on() {
     let rows: [&[&str]; 9] = [
@@ -142,7 +145,8 @@ fn records_of_each_proxy() {
     assert_eq!(
         records.iter().map(hex).collect::<Vec<_>>(),
         [
-            "0100000000000000000000000b02000000000000000000000100000000000000640000000e0200000000000000640001020000",
+            "0100000000000000000000000b020000000000000000000001000000000000006400\
+             00000e0200000000000000640001020000",
             "0100000000000000c80000000e0200000000000000c80001000000",
         ]
     );
@@ -171,7 +175,8 @@ fn output_in_a_file() {
     }
 }
 
-/// A file that isn't named isn't created, and neither is one for the output once a file of batches can't be opened.
+/// A file that isn't named isn't created, and neither is one for the output once a file of batches
+/// can't be opened.
 #[test]
 fn no_output_in_a_file() {
     for words in [

@@ -1,4 +1,5 @@
-//! Answers that are written as they come: the vectors of `docs/vectors.json`, random replies, and writers that fail.
+//! Answers that are written as they come: the vectors of `docs/vectors.json`, random replies, and
+//! writers that fail.
 
 use keyspace::{Answer, Verdict};
 use rattle_std::alloc::Global;

@@ -36,7 +36,8 @@ impl Gatekeeper for After {
     }
 }
 
-/// Makes the readers of these files, split at these keys. Each shard waits for that number of answers of another one.
+/// Makes the readers of these files, split at these keys. Each shard waits for that number of
+/// answers of another one.
 fn sharded(
     files: &[&[&str]],
     points: &[&str],
@@ -82,7 +83,8 @@ where
 const CHAIN: &[&str] =
     &["-1>0", "0>100: W[a] W[x]", "100>200: m R[x] R[b] R[a] @99; R[b] R[y] @99"];
 
-/// A shard that sends its first batch only once another one has taken its last answer: none waits for another.
+/// A shard that sends its first batch only once another one has taken its last answer: none waits
+/// for another.
 #[test]
 fn no_shard_waits_for_another() {
     let expected = "0 0 empty\n0 100 committed\n0 200 conflict:0,2 committed\ndone: ";
@@ -94,7 +96,8 @@ fn no_shard_waits_for_another() {
     assert_eq!(printed(sharded(&[CHAIN], &["b", "k"], &waits_for), 1_000_000), expected);
 }
 
-/// The files of one chain: each shard may take their batches in another order, and answers each proxy in that of its versions.
+/// The files of one chain: each shard may take their batches in another order, and answers each
+/// proxy in that of its versions.
 #[test]
 fn files_of_one_chain() {
     let files: &[&[&str]] = &[
@@ -108,7 +111,8 @@ fn files_of_one_chain() {
     }
 }
 
-/// Holds back one of two proxies: it sends its batches from a place on only once the other one has taken that many answers.
+/// Holds back one of two proxies: it sends its batches from a place on only once the other one has
+/// taken that many answers.
 struct Behind {
     taken: [AtomicU64; 2],
     proxy: usize,
@@ -128,8 +132,9 @@ impl Gatekeeper for Behind {
     }
 }
 
-/// Why a proxy must not send two different batches of one version: each shard processes another one of them. Both are reported as
-/// committed, and so are a read that misses a write of the first (`x`) and one that misses a write of the second (`b`).
+/// Why a proxy must not send two different batches of one version: each shard processes another one
+/// of them. Both are reported as committed, and so are a read that misses a write of the first
+/// (`x`) and one that misses a write of the second (`b`).
 #[test]
 fn two_batches_of_one_version() {
     let first: &[&str] = &[
@@ -145,20 +150,24 @@ fn two_batches_of_one_version() {
     };
     let ShardedReaders { readers, points, proxies, .. } =
         sharded(&[first, second], &["k"], &[None, None]);
-    // In the first shard, version 90 comes before both batches of version 100, and in the second one after them.
+    // In the first shard, version 90 comes before both batches of version 100, and in the second
+    // one after them.
     let gatekeepers = [(0, 1, 1), (1, 0, 4)].map(gatekeeper).into_iter().collect::<Vec<_>>().into();
     let readers = ShardedReaders { readers, points, gatekeepers, proxies };
-    let expected = "0 0 empty\n0 100 committed\n0 100 committed\n0 200 conflict committed committed conflict\n1 90 never\ndone: ";
+    let expected = "0 0 empty\n0 100 committed\n0 100 committed\n\
+        0 200 conflict committed committed conflict\n1 90 never\ndone: ";
     assert_eq!(printed(readers, 1_000_000), expected);
 }
 
-/// The stop of the first shard that met one is printed, and then its number. Batches that all shards have answered have lines.
+/// The stop of the first shard that met one is printed, and then its number. Batches that all
+/// shards have answered have lines.
 #[test]
 fn stops() {
     let file: &[&str] =
         &["-1>0", "0>100: W[a]", "100>200: W[x]", "200>300: W[y] W[z]", "300>400: R[b] @0"];
     let free = [None, None];
-    let expected = "0 0 empty\n0 100 committed\n0 200 committed\nfailed: replay: stop 3 ArenaFull\nreplay: shard 1\n";
+    let expected = "0 0 empty\n0 100 committed\n0 200 committed\n\
+        failed: replay: stop 3 ArenaFull\nreplay: shard 1\n";
     assert_eq!(printed(sharded(&[file], &["k"], &free), 3), expected);
     let expected = "0 0 empty\nfailed: replay: stop 3 ArenaFull\nreplay: shard 0\n";
     assert_eq!(printed(sharded(&[file], &["k"], &free), 1), expected);
@@ -243,7 +252,8 @@ impl Files for Noted {
     }
 }
 
-/// The sample is of the beginnings of the files, so no progress is shown through it. Each shard reads the complete files.
+/// The sample is of the beginnings of the files, so no progress is shown through it. Each shard
+/// reads the complete files.
 #[test]
 fn extents() {
     let opened = |words: &[&str]| {

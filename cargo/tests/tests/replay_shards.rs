@@ -60,7 +60,8 @@ fn version_of(answer: &PlainAnswer) -> i64 {
     }
 }
 
-/// The answer of all shards to one batch, by the definition. Without a note a shard can report nothing.
+/// The answer of all shards to one batch, by the definition. Without a note a shard can report
+/// nothing.
 fn together(version: i64, answers: &[PlainAnswer], reads: &[Option<Reads>]) -> PlainAnswer {
     if answers.iter().any(|answer| matches!(answer, PlainAnswer::Never(_))) {
         return PlainAnswer::Never(version);
@@ -100,13 +101,15 @@ fn together(version: i64, answers: &[PlainAnswer], reads: &[Option<Reads>]) -> P
     PlainAnswer::Reply(PlainReply { version, entries: (0..count).map(entry).collect() })
 }
 
-/// What one shard has answered to a proxy, and per batch that was read its version and the note, if there is one.
+/// What one shard has answered to a proxy, and per batch that was read its version and the note, if
+/// there is one.
 struct PlainAnswered {
     answers: Vec<PlainAnswer>,
     notes: Vec<(i64, Reads)>,
 }
 
-/// The answers of all shards to a proxy, by the definition: of each version the first with the first, the second with the second.
+/// The answers of all shards to a proxy, by the definition: of each version the first with the
+/// first, the second with the second.
 fn together_each(each: &[PlainAnswered]) -> Vec<PlainAnswer> {
     let mut versions: Vec<_> = each[0].answers.iter().map(version_of).collect();
     versions.sort_unstable();
@@ -162,7 +165,8 @@ fn combined_lines(answers: &[PlainAnswered], notes: Vec<Vec<Note>>) -> Vec<Plain
         .collect()
 }
 
-/// Shards answer versions in different orders, and a version comes twice. Some shard lacks the last answers, as after a stop.
+/// Shards answer versions in different orders, and a version comes twice. Some shard lacks the last
+/// answers, as after a stop.
 #[test]
 fn answers_of_all_shards_are_those_of_a_plain_definition() {
     run(
@@ -236,7 +240,8 @@ fn committed(version: i64) -> PlainAnswer {
     })
 }
 
-/// Combines what two shards with the split point m have answered, where the batches that were sent have notes.
+/// Combines what two shards with the split point m have answered, where the batches that were sent
+/// have notes.
 fn by_hand(batches: &[PlainBatch], answers: [Vec<PlainAnswer>; 2]) -> Vec<PlainAnswer> {
     let split = split(&keys(["m"]));
     let notes = (0..2).map(|shard| {
@@ -272,7 +277,8 @@ fn answers_by_hand() {
         by_hand(&[batch(10)], [vec![committed(10)], vec![conflict(10, &[])]]),
         [conflict(10, &[])]
     );
-    // Each shard has answered in an order of its own, and the first has stopped before the last batch.
+    // Each shard has answered in an order of its own, and the first has stopped before the last
+    // batch.
     let all = by_hand(
         &[batch(10), batch(20)],
         [
@@ -296,7 +302,8 @@ fn answers_by_hand() {
         ],
     );
     assert_eq!(all, [PlainAnswer::Never(10), PlainAnswer::Held(20)]);
-    // Replies to different batches of one version: another number of transactions, or a place that no read range has.
+    // Replies to different batches of one version: another number of transactions, or a place that
+    // no read range has.
     let empty = PlainAnswer::Reply(PlainReply { version: 10, entries: Vec::new() });
     assert_eq!(by_hand(&[], [vec![committed(10)], vec![empty]]), [PlainAnswer::Never(10)]);
     assert_eq!(

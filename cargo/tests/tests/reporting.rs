@@ -1,4 +1,5 @@
-//! Runs in which all transactions report: their answers are those to batches whose transactions all ask for their reports.
+//! Runs in which all transactions report: their answers are those to batches whose transactions all
+//! ask for their reports.
 
 use rattle_std::alloc::Global;
 use rattle_std::rt::HostRuntime;
@@ -17,7 +18,8 @@ use tests::random::Random;
 use tests::spelling::batch_frame;
 use wire::StdSink;
 
-/// Three read ranges of the last batch are in conflict. Only its first transaction asks for its report.
+/// Three read ranges of the last batch are in conflict. Only its first transaction asks for its
+/// report.
 const CONFLICTS: &[&str] = &[
     "-1>0",
     "0>100: W[a,b) W[k]",
@@ -117,8 +119,8 @@ fn chain(random: &mut Random) -> Vec<PlainBatch> {
         .collect()
 }
 
-/// The answers are the same, byte for byte, as those to the same batches whose transactions all ask. After a fault so are those before
-/// it.
+/// The answers are the same, byte for byte, as those to the same batches whose transactions all
+/// ask. After a fault so are those before it.
 #[test]
 fn as_if_all_asked() {
     run("reports", count(20_000, 300), |random| {

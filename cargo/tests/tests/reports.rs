@@ -111,7 +111,8 @@ fn a_stop_decides() {
 
 const LINES: &str = "0 7 held\n1 3 never\n1 5 held\n";
 
-/// Reports the answers to two proxies, of which these failed, to two writers. They were received in another order.
+/// Reports the answers to two proxies, of which these failed, to two writers. They were received in
+/// another order.
 fn reported(
     out: &mut impl Sink,
     error: &mut impl Sink,
@@ -138,7 +139,8 @@ fn answers_and_failures() {
         (
             [LOST, SHORT],
             Ending::Stopped(Stop::Memory),
-            "failed: replay: proxy 0: memory\nreplay: proxy 1: wire 1 Short\nreplay: stop 1 Memory\n",
+            "failed: replay: proxy 0: memory\nreplay: proxy 1: wire 1 Short\nreplay: stop 1 \
+             Memory\n",
         ),
     ] {
         let (mut out, mut error) = (StdSink::new(Vec::new()), StdSink::new(Vec::new()));
@@ -148,7 +150,8 @@ fn answers_and_failures() {
     }
 }
 
-/// Prints the answers to this writer where nothing else fails. Returns the status, and whether standard error is empty.
+/// Prints the answers to this writer where nothing else fails. Returns the status, and whether
+/// standard error is empty.
 fn printed_to(out: impl Write) -> (Status, bool) {
     let mut error = StdSink::new(Vec::new());
     let report = reported(&mut StdSink::new(out), &mut error, [CLEAN, CLEAN], Ending::Complete);

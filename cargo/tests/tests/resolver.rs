@@ -12,7 +12,8 @@ use tests::plain::{PlainAnswer, PlainBatch, PlainReply};
 use tests::random::Random;
 use tests::reference::Reference;
 
-/// Batches of one chain with their proxies, in order of arrival: shuffled, some twice, some never, some off the chain.
+/// Batches of one chain with their proxies, in order of arrival: shuffled, some twice, some never,
+/// some off the chain.
 struct Arrivals {
     proxies: usize,
     window: i64,
@@ -48,7 +49,8 @@ impl Arrivals {
         arrivals
     }
 
-    // Sends some batches again, also by another proxy or with other contents, and some that are on no chain.
+    // Sends some batches again, also by another proxy or with other contents, and some that are on
+    // no chain.
     fn repeat(&mut self, random: &mut Random) {
         if self.batches.is_empty() {
             return;
@@ -131,7 +133,8 @@ fn core_answers_as_the_rules_say() {
     });
 }
 
-/// With a small limit: answers before the stop are right, later batches are refused, and the stop stays.
+/// With a small limit: answers before the stop are right, later batches are refused, and the stop
+/// stays.
 #[test]
 fn core_stays_stopped() {
     run("core_stays_stopped", count(500_000, 10_000), |random| {

@@ -1,5 +1,5 @@
-//! Which failures of a reader or a writer are tried again, and how often a call reaches the reader or the writer; and that a
-//! frame is read in as many calls as the reader needs, and no more.
+//! Which failures of a reader or a writer are tried again, and how often a call reaches the reader
+//! or the writer; and that a frame is read in as many calls as the reader needs, and no more.
 
 use rattle_std::alloc::Global;
 use std::cell::Cell;
@@ -61,7 +61,8 @@ fn tries(kind: ErrorKind, failures: u32) -> Vec<(bool, u32)> {
     vec![(read, reads), (written, writes), (flushed, flushes)]
 }
 
-/// A failure other than an interruption is reported at once: the next call, and not this one, tries again.
+/// A failure other than an interruption is reported at once: the next call, and not this one, tries
+/// again.
 #[test]
 fn only_interruptions_are_retried() {
     for kind in [
@@ -117,7 +118,8 @@ impl Read for FailsFirst<'_> {
     }
 }
 
-/// Gives at most `step` bytes in each call, and fails in this way instead of the end. Counts the calls.
+/// Gives at most `step` bytes in each call, and fails in this way instead of the end. Counts the
+/// calls.
 struct Steps<'a> {
     bytes: &'a [u8],
     step: usize,
@@ -149,7 +151,8 @@ fn batch(previous: i64, writes: usize) -> PlainBatch {
     PlainBatch { previous, version: previous + 10, received: -1, txns }
 }
 
-/// A frame of a reader that gives a byte per call takes a call per byte, and one more only at the end of the input.
+/// A frame of a reader that gives a byte per call takes a call per byte, and one more only at the
+/// end of the input.
 #[test]
 fn one_call_per_piece() {
     let frame = batch_frame(&batch(0, 1_000), 2);
@@ -168,7 +171,8 @@ fn one_call_per_piece() {
     }
 }
 
-/// If reading fails after some frames, `upgrade` has written each of them, whatever the failure is called.
+/// If reading fails after some frames, `upgrade` has written each of them, whatever the failure is
+/// called.
 #[test]
 fn upgrade_writes_what_came_before_a_failed_read() {
     let frames: Vec<Vec<u8>> = (0..4).map(|index| batch_frame(&batch(10 * index, 3), 1)).collect();

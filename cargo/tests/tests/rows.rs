@@ -33,7 +33,8 @@ fn own_and_later_writes_do_not_count() {
     );
 }
 
-/// At 105 the batch also writes the range that the history conflicts with. At 106 the history alone rejects.
+/// At 105 the batch also writes the range that the history conflicts with. At 106 the history alone
+/// rejects.
 #[test]
 fn rejected_by_the_history_writes_nothing() {
     resolves(
@@ -73,8 +74,9 @@ fn keys_one_by_one() {
     );
 }
 
-/// `try_resolve` of a set of limit 3. The refused batch at 200 isn't remembered, and the write at 100 is. At 9,000,000 that write has
-/// left the window. At last the batch that doesn't fit stops a set that resolves it.
+/// `try_resolve` of a set of limit 3. The refused batch at 200 isn't remembered, and the write at
+/// 100 is. At 9,000,000 that write has left the window. At last the batch that doesn't fit stops a
+/// set that resolves it.
 #[test]
 fn limit_three_refused() {
     let mut set = set(WINDOW, 3);
@@ -94,7 +96,8 @@ fn limit_three_refused() {
     assert_eq!(text_of(set.try_resolve(&batch("9000002>90000000").batch())), "2 ArenaFull");
 }
 
-/// Steps of a proxy and its batch, and after the arrow the answers that the step makes, each with its proxy.
+/// Steps of a proxy and its batch, and after the arrow the answers that the step makes, each with
+/// its proxy.
 type Row = &'static [&'static str];
 
 const ROWS: [Row; 7] = [
@@ -219,7 +222,8 @@ impl Service {
     }
 }
 
-/// The answers are taken after all batches were, so that a lane of one has one of them and the others are owed.
+/// The answers are taken after all batches were, so that a lane of one has one of them and the
+/// others are owed.
 #[test]
 fn rows_over_lanes_of_one() {
     for row in ROWS {
@@ -260,7 +264,8 @@ fn answers_over_two_lanes_of_one() {
     assert!(service.is_complete());
 }
 
-/// One batch of each of two proxies, a number of turns, the answers to each, and whether all is settled.
+/// One batch of each of two proxies, a number of turns, the answers to each, and whether all is
+/// settled.
 #[test]
 fn two_proxies_in_turns() {
     for (batches, turns, expected, is_complete) in [
@@ -284,7 +289,8 @@ fn two_proxies_in_turns() {
     }
 }
 
-/// Sends batches of each of two proxies that have to be held, with a turn after each. Returns the stop, if there is one.
+/// Sends batches of each of two proxies that have to be held, with a turn after each. Returns the
+/// stop, if there is one.
 fn stop_of_two(counts: [i64; 2]) -> Option<Stop> {
     let mut service = Service::open(2, 1);
     for (proxy, count) in counts.into_iter().enumerate() {

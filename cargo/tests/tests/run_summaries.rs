@@ -15,7 +15,8 @@ use tests::playing::{Reader, file_of, reader};
 use tests::printing::ended;
 use wire::StdSink;
 
-/// One file: the second transaction of its last batch conflicts by two of its reads, the first by one.
+/// One file: the second transaction of its last batch conflicts by two of its reads, the first by
+/// one.
 const CONFLICTS: &[&str] = &[
     "-1>0",
     "0>100: W[a,b) W[k,l); W[a,b)",
@@ -23,13 +24,16 @@ const CONFLICTS: &[&str] = &[
 ];
 
 /// The summary of that file in words.
-const LINES: &str = "proxy 0: batches 3, transactions 7, committed 4, conflict 3, tooold 0, conflict rate 42.9 %, repeats 0, never 0, held 0, versions 0 to 200\n\
-    all: batches 3, transactions 7, committed 4, conflict 3, tooold 0, conflict rate 42.9 %, repeats 0, never 0, held 0, versions 0 to 200\n\
+const LINES: &str = "proxy 0: batches 3, transactions 7, committed 4, conflict 3, tooold 0, \
+    conflict rate 42.9 %, repeats 0, never 0, held 0, versions 0 to 200\n\
+    all: batches 3, transactions 7, committed 4, conflict 3, tooold 0, \
+    conflict rate 42.9 %, repeats 0, never 0, held 0, versions 0 to 200\n\
     resolver: held at most 0, boundaries 5, at most 5\n";
 
 /// The members of the summary of that file, of the proxy and of all.
-const MEMBERS: &str = "\"batches\":3,\"transactions\":7,\"committed\":4,\"conflict\":3,\"tooold\":0,\"conflict_percent\":42.9,\
-    \"repeats\":0,\"never\":0,\"held\":0,\"versions\":{\"first\":0,\"last\":200}";
+const MEMBERS: &str = "\"batches\":3,\"transactions\":7,\"committed\":4,\"conflict\":3,\
+    \"tooold\":0,\"conflict_percent\":42.9,\"repeats\":0,\"never\":0,\"held\":0,\
+    \"versions\":{\"first\":0,\"last\":200}";
 
 /// How full the resolver was: its boundaries are the empty key, `a`, `b`, `k` and `l`.
 const FULL: &str = ",\"most_held\":0,\"boundaries\":5,\"most_boundaries\":5";
@@ -82,10 +86,16 @@ fn summarized(
 fn ranges_under_the_lines() {
     let rows = [
         (None, String::new()),
-        (Some(0), "read ranges in conflict, most first\nwritten ranges in conflict, most first\n".to_owned()),
+        (
+            Some(0),
+            "read ranges in conflict, most first\nwritten ranges in conflict, most first\n"
+                .to_owned(),
+        ),
         (
             Some(1),
-            "read ranges in conflict, most first\n  3 [\"a\",\"b\")\nwritten ranges in conflict, most first\n  3 [\"a\",\"b\")\n".to_owned(),
+            "read ranges in conflict, most first\n  3 [\"a\",\"b\")\n\
+            written ranges in conflict, most first\n  3 [\"a\",\"b\")\n"
+                .to_owned(),
         ),
         (
             Some(1000),
@@ -109,7 +119,8 @@ fn ranges_in_the_object() {
         (Some(0), ",\"hot_reads\":[],\"hot_writes\":[]"),
         (
             Some(1),
-            ",\"hot_reads\":[{\"begin\":\"a\",\"end\":\"b\",\"conflicts\":3}],\"hot_writes\":[{\"begin\":\"a\",\"end\":\"b\",\"conflicts\":3}]",
+            ",\"hot_reads\":[{\"begin\":\"a\",\"end\":\"b\",\"conflicts\":3}],\
+            \"hot_writes\":[{\"begin\":\"a\",\"end\":\"b\",\"conflicts\":3}]",
         ),
     ];
     for (top, members) in rows {
@@ -146,7 +157,8 @@ fn ranges_of_several_files() {
     ];
     let text = summarized(&files, options(), SummaryForm::Words, Some(2));
     let ranges = "read ranges in conflict, most first\n  1 [\"a\",\"b\")\n  1 [\"b\",\"c\")\n\
-        written ranges in conflict, most first\n  1 [\"a\",\"c\")\n  1 [\"b\",\"c\")\nfailed: replay: proxy 0: ";
+        written ranges in conflict, most first\n  1 [\"a\",\"c\")\n  1 [\"b\",\"c\")\n\
+        failed: replay: proxy 0: ";
     assert!(text.contains(ranges), "{text}");
 }
 
@@ -156,7 +168,8 @@ fn ranges_after_a_stop() {
     let files: [(&[&str], &[u8]); 1] =
         [(&["-1>100: W[a,b)", "100>101: R[a,b) @99", "101>102: W[c,d) W[e,f) W[g,h)"], b"")];
     let text = summarized(&files, Options { limit: 3, ..options() }, SummaryForm::Words, Some(5));
-    let ranges = "read ranges in conflict, most first\n  1 [\"a\",\"b\")\nwritten ranges in conflict, most first\n  1 [\"a\",\"b\")\n\
+    let ranges = "read ranges in conflict, most first\n  1 [\"a\",\"b\")\n\
+        written ranges in conflict, most first\n  1 [\"a\",\"b\")\n\
         failed: replay: stop 3 ArenaFull\n";
     assert!(text.ends_with(ranges), "{text}");
 }
@@ -219,7 +232,8 @@ fn ranges_for_a_writer_that_fails() {
     }
 }
 
-/// What was printed, written and reported, and how the run has ended, if the answers and the summary go to these writers.
+/// What was printed, written and reported, and how the run has ended, if the answers and the
+/// summary go to these writers.
 fn replayed<O: Write, T: Write>(
     files: &[(&[&str], &[u8])],
     options: Options,
@@ -242,8 +256,8 @@ fn replayed<O: Write, T: Write>(
     (out.into_inner(), summary.writer.into_inner(), ended(run.status, b"", &error.into_inner()))
 }
 
-/// The answers are those without a summary, and the summary is that without answers. If one of several proxies meets a stop, the schedule
-/// decides how many batches were held before.
+/// The answers are those without a summary, and the summary is that without answers. If one of
+/// several proxies meets a stop, the schedule decides how many batches were held before.
 #[test]
 fn both_texts() {
     let json = Options { style: Style::all(Form::Json), ..options() };
@@ -281,12 +295,15 @@ fn both_texts() {
 fn answers_and_their_summary() {
     let (out, to, end) =
         replayed(&[(CONFLICTS, b"")], options(), SummaryForm::Words, Vec::new(), Vec::new());
-    assert_eq!(out, b"0 0 empty\n0 100 committed committed\n0 200 conflict conflict committed committed conflict\n");
+    let answers = b"0 0 empty\n0 100 committed committed\n\
+        0 200 conflict conflict committed committed conflict\n";
+    assert_eq!(out, answers);
     assert_eq!(to, LINES.as_bytes());
     assert_eq!(end, "done: ");
 }
 
-/// If one of the two writers fails, the other is given its text, and the status is that of a failure, without a line.
+/// If one of the two writers fails, the other is given its text, and the status is that of a
+/// failure, without a line.
 #[test]
 fn a_writer_that_fails() {
     let files = [(CONFLICTS, &b""[..])];

@@ -1,4 +1,5 @@
-//! The resolver over lanes: in one thread, so that each turn's answer is known, and with its clients in threads.
+//! The resolver over lanes: in one thread, so that each turn's answer is known, and with its
+//! clients in threads.
 
 use keyspace::Answer;
 use lane::{Refused, Taken};
@@ -217,7 +218,8 @@ fn turn_to_the_end(resolver: &mut Resolver) {
     }
 }
 
-/// Shuffles the batches in pieces no larger than the share, so that a client that keeps its share can always send the next one.
+/// Shuffles the batches in pieces no larger than the share, so that a client that keeps its share
+/// can always send the next one.
 fn disorder(batches: &mut [PlainBatch], share: u64, random: &mut Random) {
     let piece = 1 + random.index((share as usize).min(50));
     batches.chunks_mut(piece).for_each(|piece| random.shuffle(piece));
@@ -255,7 +257,8 @@ fn serve_threads(random: &mut Random, batches: usize) {
     assert!(resolver.settle(&mut clients).complete);
 }
 
-/// 1 to 8 clients, each in its own thread, receive the answers to their batches in the order of the chain, once.
+/// 1 to 8 clients, each in its own thread, receive the answers to their batches in the order of the
+/// chain, once.
 #[test]
 fn clients_in_threads_get_their_answers() {
     run("clients_in_threads_get_their_answers", count(500_000, 5_000), |random| {

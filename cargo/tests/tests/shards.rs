@@ -57,7 +57,8 @@ impl Shard {
         *self.from <= *key && self.to.as_ref().is_none_or(|to| key < to)
     }
 
-    /// Returns the keys that both hold, if there are any. An empty range stays as it is in the shard of its key.
+    /// Returns the keys that both hold, if there are any. An empty range stays as it is in the
+    /// shard of its key.
     fn clip(&self, range: &PlainRange) -> Option<PlainRange> {
         if range.is_empty() {
             return self.has(&range.begin).then(|| range.clone());
@@ -378,7 +379,8 @@ fn hand(snapshot: i64, marked: bool, reads: &[(&str, &str)], writes: &[(&str, &s
     PlainTxn { snapshot, marked, reads: ranges(reads), writes: ranges(writes) }
 }
 
-/// Resolves one transaction per batch by a conflict set per shard, and returns the combined entries.
+/// Resolves one transaction per batch by a conflict set per shard, and returns the combined
+/// entries.
 fn resolved(points: &Keys, txns: &[PlainTxn]) -> Vec<PlainEntry> {
     let split = split(points);
     let mut sets: Vec<_> = (0..split.shard_count())
@@ -408,7 +410,8 @@ fn resolved(points: &Keys, txns: &[PlainTxn]) -> Vec<PlainEntry> {
         .collect()
 }
 
-/// The first shard reports its read ranges 0 and 1, which are 0 and 2 of the transaction, and the second its range 0, which is 1.
+/// The first shard reports its read ranges 0 and 1, which are 0 and 2 of the transaction, and the
+/// second its range 0, which is 1.
 #[test]
 fn report_of_two_shards() {
     let txns = [
@@ -423,8 +426,9 @@ fn report_of_two_shards() {
     }
 }
 
-/// The shard below m commits the second transaction and remembers its write of c, though the other shard rejects it. So the third is
-/// rejected, which one resolver commits. Then the third has no write, and the fourth is committed.
+/// The shard below m commits the second transaction and remembers its write of c, though the other
+/// shard rejects it. So the third is rejected, which one resolver commits. Then the third has no
+/// write, and the fourth is committed.
 #[test]
 fn rejected_write_stays_in_one_shard() {
     let txns = [
@@ -441,7 +445,8 @@ fn rejected_write_stays_in_one_shard() {
     assert_eq!(verdicts(keys([])), [committed, conflict, committed, conflict]);
 }
 
-/// What all shards commit meets no write that clients received as committed and that the snapshot doesn't include.
+/// What all shards commit meets no write that clients received as committed and that the snapshot
+/// doesn't include.
 #[test]
 fn what_all_shards_commit_is_current() {
     run("what_all_shards_commit_is_current", count(1_000_000, 50_000), |random| {

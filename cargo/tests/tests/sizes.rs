@@ -1,4 +1,5 @@
-//! Calls that may answer `Memory`, far beyond a thousand chunks or items: with ample memory none of them does.
+//! Calls that may answer `Memory`, far beyond a thousand chunks or items: with ample memory none of
+//! them does.
 
 use arena::{Arena, MAX_LENGTH};
 use checking::sort_by_version;
@@ -152,7 +153,8 @@ fn held_batches_with_long_keys() {
         assert_eq!(core.admit(0, batch(version).batch()), Ok(()));
     }
     for version in 0..=1_024 {
-        // Each reads what those before it wrote. Only a write at version 0 isn't above the snapshot.
+        // Each reads what those before it wrote. Only a write at version 0 isn't above the
+        // snapshot.
         let (verdict, places) = if version <= 1 {
             (Verdict::Committed, Vec::new())
         } else {

@@ -159,7 +159,8 @@ fn step_map_is_boundaries_in_order() {
     });
 }
 
-/// Enough boundaries that nodes of the tree split, join and empty, at its front, its back and inside.
+/// Enough boundaries that nodes of the tree split, join and empty, at its front, its back and
+/// inside.
 #[test]
 fn large_step_map_is_boundaries_in_order() {
     run("large_step_map_is_boundaries_in_order", count(2_000_000, 40_000), |random| {
@@ -177,7 +178,8 @@ fn large_step_map_is_boundaries_in_order() {
             } else {
                 PlainRange::new(number(at), number(at + wide))
             };
-            // The model's own write takes time in proportion to all boundaries, so wide ones are rare.
+            // The model's own write takes time in proportion to all boundaries, so wide ones are
+            // rare.
             write(&mut map, &mut steps, &[range], version, random);
             if version % 500 == 0 {
                 steps.edge = version - random.between(0, 2_000).min(version);

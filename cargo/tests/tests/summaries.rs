@@ -163,12 +163,15 @@ fn numbers_beyond_64_bits_are_refused() {
 fn lines_of_words() {
     let summaries = summarized(two_proxies());
     let wanted = "\
-proxy 0: batches 3, transactions 5, committed 3, conflict 1, tooold 1, conflict rate 20.0 %, repeats 1, never 1, held 0, versions 0 to 200
-proxy 1: batches 2, transactions 2, committed 0, conflict 2, tooold 0, conflict rate 100.0 %, repeats 0, never 0, held 2, versions 50 to 250
-all: batches 5, transactions 7, committed 3, conflict 3, tooold 1, conflict rate 42.9 %, repeats 1, never 1, held 2, versions 0 to 250
-";
+        proxy 0: batches 3, transactions 5, committed 3, conflict 1, tooold 1, \
+        conflict rate 20.0 %, repeats 1, never 1, held 0, versions 0 to 200\n\
+        proxy 1: batches 2, transactions 2, committed 0, conflict 2, tooold 0, \
+        conflict rate 100.0 %, repeats 0, never 0, held 2, versions 50 to 250\n\
+        all: batches 5, transactions 7, committed 3, conflict 3, tooold 1, \
+        conflict rate 42.9 %, repeats 1, never 1, held 2, versions 0 to 250\n";
     assert_eq!(text(&summaries, SummaryForm::Words), wanted);
-    let wanted = "all: batches 0, transactions 0, committed 0, conflict 0, tooold 0, conflict rate none, repeats 0, never 0, held 0, versions none\n";
+    let wanted = "all: batches 0, transactions 0, committed 0, conflict 0, tooold 0, \
+        conflict rate none, repeats 0, never 0, held 0, versions none\n";
     assert_eq!(text(&[], SummaryForm::Words), wanted);
 }
 
@@ -177,17 +180,21 @@ fn one_line_of_json() {
     let summaries = summarized(two_proxies());
     let wanted = concat!(
         r#"{"proxies":["#,
-        r#"{"proxy":0,"batches":3,"transactions":5,"committed":3,"conflict":1,"tooold":1,"conflict_percent":20.0,"repeats":1,"never":1,"held":0,"#,
+        r#"{"proxy":0,"batches":3,"transactions":5,"committed":3,"conflict":1,"tooold":1,"#,
+        r#""conflict_percent":20.0,"repeats":1,"never":1,"held":0,"#,
         r#""versions":{"first":0,"last":200}},"#,
-        r#"{"proxy":1,"batches":2,"transactions":2,"committed":0,"conflict":2,"tooold":0,"conflict_percent":100.0,"repeats":0,"never":0,"held":2,"#,
+        r#"{"proxy":1,"batches":2,"transactions":2,"committed":0,"conflict":2,"tooold":0,"#,
+        r#""conflict_percent":100.0,"repeats":0,"never":0,"held":2,"#,
         r#""versions":{"first":50,"last":250}}],"#,
-        r#""batches":5,"transactions":7,"committed":3,"conflict":3,"tooold":1,"conflict_percent":42.9,"repeats":1,"never":1,"held":2,"#,
+        r#""batches":5,"transactions":7,"committed":3,"conflict":3,"tooold":1,"#,
+        r#""conflict_percent":42.9,"repeats":1,"never":1,"held":2,"#,
         r#""versions":{"first":0,"last":250}}"#,
         "\n"
     );
     assert_eq!(text(&summaries, SummaryForm::Json), wanted);
     let wanted = concat!(
-        r#"{"proxies":[],"batches":0,"transactions":0,"committed":0,"conflict":0,"tooold":0,"conflict_percent":null,"repeats":0,"never":0,"held":0,"#,
+        r#"{"proxies":[],"batches":0,"transactions":0,"committed":0,"conflict":0,"tooold":0,"#,
+        r#""conflict_percent":null,"repeats":0,"never":0,"held":0,"#,
         r#""versions":null}"#,
         "\n"
     );
@@ -205,7 +212,8 @@ fn how_full_a_resolver_was() {
     assert_eq!(occupancy, Occupancy { most_held: 5, boundaries: 7, most_boundaries: 9 });
 }
 
-/// It is said of the resolver after the lines of the proxies and of all, and after the members of all.
+/// It is said of the resolver after the lines of the proxies and of all, and after the members of
+/// all.
 #[test]
 fn the_resolver_is_last() {
     let summaries = summarized(two_proxies());
@@ -248,7 +256,8 @@ fn a_rate_is_rounded_up_from_the_middle() {
     }
 }
 
-/// Answers at few versions, so that many are repeats. The replies of a version may differ, and the first one counts.
+/// Answers at few versions, so that many are repeats. The replies of a version may differ, and the
+/// first one counts.
 fn any_answer(random: &mut Random) -> Answer {
     let version = random.between(0, 6);
     match random.below(6) {
@@ -288,7 +297,8 @@ fn summaries_are_plain_counts() {
         let received: Vec<_> = answers.iter().map(Counted::of).collect();
         let mut sorted = received.clone();
         sorted.sort_by_key(|answer| answer.version);
-        // The plain count takes the answers as they came: a stable sort keeps the first reply of each version.
+        // The plain count takes the answers as they came: a stable sort keeps the first reply of
+        // each version.
         assert_eq!(summarize(&sorted), Some(counted_plainly(&received)));
         1
     });

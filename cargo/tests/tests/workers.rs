@@ -27,7 +27,8 @@ fn worked(client: Client, file: Vec<u8>) -> Finished {
     work(&HostRuntime::new(), Global, assignment, client, reader(file), &Unshared(AlwaysOpen))
 }
 
-/// Writes what a worker returns: the lines of its answers, whether one was lost, the fault of its file and the batch unsent.
+/// Writes what a worker returns: the lines of its answers, whether one was lost, the fault of its
+/// file and the batch unsent.
 fn returned(finished: &Finished) -> String {
     let mut out = StdSink::new(Vec::new());
     finished.lines.iter().for_each(|line| line.text.print(&mut out).expect("a vector takes all"));
@@ -44,8 +45,8 @@ fn returned(finished: &Finished) -> String {
     text
 }
 
-/// Works on a file with two answers in the reply lane, which is closed. Compares what the worker returns after their lines, and whether
-/// it closes its lane. It sends nothing.
+/// Works on a file with two answers in the reply lane, which is closed. Compares what the worker
+/// returns after their lines, and whether it closes its lane. It sends nothing.
 fn returns(file: Vec<u8>, expected: &str, closes: bool) {
     let (client, mut requests, mut replies) = connect();
     assert!(

@@ -131,7 +131,8 @@ fn flushed(text: &str, room: usize) -> (u8, usize) {
     (status, out.into_inner().passed)
 }
 
-/// A frame has 31 bytes, 13 more per transaction, and 36 per range. Of a run that fails nothing is flushed.
+/// A frame has 31 bytes, 13 more per transaction, and 36 per range. Of a run that fails nothing is
+/// flushed.
 #[test]
 fn all_output_is_flushed() {
     for (text, room, expected) in [
