@@ -1,5 +1,6 @@
 // SPDX-License-Identifier: Apache-2.0
-//! `bplus [--latency] FILE`: prints the verdicts of each batch, or the nanoseconds that each batch took.
+//! `bplus [--latency] FILE`: prints the verdicts of each batch, or the nanoseconds that each batch
+//! took.
 #![forbid(unsafe_code)]
 
 use std::io::Write;

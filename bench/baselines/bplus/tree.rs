@@ -1,5 +1,6 @@
 // SPDX-License-Identifier: Apache-2.0
-//! A B+-tree whose nodes own their children. Keys are records of an arena; a node caches eight bytes of each.
+//! A B+-tree whose nodes own their children. Keys are records of an arena; a node caches eight
+//! bytes of each.
 use crate::arena::*;
 use crate::batch::{Question, Range, lcp};
 use std::cmp::Ordering::{self, *};

@@ -1,7 +1,9 @@
 // SPDX-License-Identifier: Apache-2.0
-//! `btree [--latency] FILE`: prints the verdicts of each batch, or the nanoseconds that each batch took.
+//! `btree [--latency] FILE`: prints the verdicts of each batch, or the nanoseconds that each batch
+//! took.
 //!
-//! A step function from keys to versions in one `BTreeMap`, as a user of the standard library would write it.
+//! A step function from keys to versions in one `BTreeMap`, as a user of the standard library would
+//! write it.
 #![forbid(unsafe_code)]
 
 use std::collections::BTreeMap;
@@ -134,7 +136,8 @@ fn decode(bytes: &mut &[u8]) -> Result<Batch, Fault> {
 }
 
 struct ConflictSet {
-    /// The version of a boundary is that of all keys up to the next one. The empty key is always a boundary.
+    /// The version of a boundary is that of all keys up to the next one. The empty key is always a
+    /// boundary.
     steps: BTreeMap<Vec<u8>, i64>,
     /// The key at which the sweep continues.
     resume: Vec<u8>,

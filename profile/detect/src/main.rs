@@ -1,4 +1,5 @@
-//! Decodes a file of batch frames, resolves the batches in one thread, and prints how long each took.
+//! Decodes a file of batch frames, resolves the batches in one thread, and prints how long each
+//! took.
 
 use conflict::ConflictSet;
 use keyspace::{Batch, WINDOW};
