@@ -7,7 +7,9 @@ from statistics import median
 
 
 def percentile(values: Sequence[float], percent: int) -> float:
-    """Returns the least value that at least that many percent of the values do not exceed (nearest rank)."""
+    """Returns the least value that at least that many percent of the values do not exceed (nearest
+    rank).
+    """
     rank = -(-percent * len(values) // 100)
     return sorted(values)[max(rank, 1) - 1]
 
