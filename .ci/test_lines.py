@@ -8,13 +8,14 @@ from pathlib import Path
 TOP = Path(__file__).resolve().parent.parent
 MOST = 100
 SUFFIXES = (".rt", ".rs", ".py", ".c", ".h", ".cpp", ".hpp", ".go")
+NAMES = ("Makefile", "CMakeLists.txt")
 # `rattle fmt` keeps an attribute, and an import of one name, on one line.
 KEPT = re.compile(r"\s*(#\[tactic\(|ghost use )")
 
 
 def is_code(file: Path) -> bool:
-    """Returns whether a file is code by its suffix, or a script by its first line."""
-    if file.suffix in SUFFIXES:
+    """Returns whether a file is code by its suffix or name, or a script by its first line."""
+    if file.suffix in SUFFIXES or file.name in NAMES:
         return True
     with file.open("rb") as opened:
         return opened.read(2) == b"#!"
