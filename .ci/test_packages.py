@@ -1,5 +1,6 @@
-"""What a reader of the library for C meets stays small: packages, C++ headers, examples, the first
-page.
+"""What a reader of the library for C meets stays small.
+
+That is the packages, C++ headers, examples and the first page.
 """
 from __future__ import annotations
 

@@ -1,6 +1,4 @@
-"""Tests of the pages themselves: how long they are, and whether a long one begins with its
-contents.
-"""
+"""Tests of the length of pages, and that a long one begins with its contents."""
 
 import subprocess
 import unittest

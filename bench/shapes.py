@@ -89,8 +89,9 @@ def short_key(number: int) -> bytes:
 
 
 def earlier(version: int, step: int, lag: int) -> int:
-    """Returns the version `lag` batches before `version` in a chain with one batch per `step`, or 0
-    before its start.
+    """Returns the version `lag` batches before `version`, or 0 before the start of the chain.
+
+    The chain has one batch per `step`.
     """
     return max(0, version - lag * step)
 
@@ -101,8 +102,9 @@ def scaled(count: int, scale: float) -> range:
 
 
 def zipfian(rng: random.Random, scale: float) -> Iterator[Batch]:
-    """Single keys of which few are frequent: 200,000 transactions of 5 reads and 2 writes, 50 to
-    500 per batch.
+    """Single keys of which few are frequent.
+
+    200,000 transactions of 5 reads and 2 writes, 50 to 500 per batch.
     """
     sums = list(accumulate((rank + 20.0) ** -0.8 for rank in range(1_000_000)))
     version, versions, remaining = 0, [0], max(1, int(200_000 * scale))
@@ -136,8 +138,9 @@ def zipfian(rng: random.Random, scale: float) -> Iterator[Batch]:
 
 
 def wide(rng: random.Random, scale: float) -> Iterator[Batch]:
-    """Transactions of 64 reads and 16 writes of short ranges; one read of 2,000 is long. 100 per
-    batch.
+    """Transactions of 64 reads and 16 writes of short ranges, 100 per batch.
+
+    One read of 2,000 is long.
     """
     step = 200_000
     prefixes = [
@@ -170,8 +173,9 @@ def wide(rng: random.Random, scale: float) -> Iterator[Batch]:
 
 
 def longkeys(rng: random.Random, scale: float) -> Iterator[Batch]:
-    """Keys of 1,000 bytes whose first 900 are equal: 4 reads and 2 writes per transaction, 40
-    transactions per batch.
+    """Keys of 1,000 bytes whose first 900 are equal.
+
+    4 reads and 2 writes per transaction, 40 transactions per batch.
     """
     step = 166_666
     stem = bytes(97 + (i * i + i // 7) % 26 for i in range(900))

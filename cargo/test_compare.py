@@ -101,8 +101,7 @@ class Reference(unittest.TestCase):
             resolve([[Batch(version, version + 1) for version in range(10, 1_035)]])
 
     def test_order_of_files(self) -> None:
-        """What is drawn for several proxies has the same answers whichever batches are taken first.
-        """
+        """Files drawn for several proxies have the same answers, whichever batches come first."""
         chance = Random(3)
         for _ in range(100):
             drawer, window, chain = replays.draw_chain(chance)
@@ -208,9 +207,7 @@ class Drawing(unittest.TestCase):
         self.assertEqual(len(found), len(FEATURES))
 
     def test_one_file_has_a_previous_version(self) -> None:
-        """Of several proxies one alone has the batches after a previous version, or there are only
-        right ones.
-        """
+        """Of several proxies one alone has the batches after a version, or all are right ones."""
         chance = Random(4)
         for _ in range(100):
             case: Case = replays.draw_many(chance)

@@ -1,6 +1,4 @@
-"""The page of `batches report` has the numbers that plain counting gives, for random batches and
-replies.
-"""
+"""The page of `batches report` has the numbers of plain counting, for random files."""
 
 import html
 import json

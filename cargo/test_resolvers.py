@@ -1,5 +1,6 @@
-"""`replay --resolvers` prints what one `replay` per shard prints together, for worked rows and
-random files.
+"""`replay --resolvers` prints what one `replay` per shard prints together.
+
+It is shown for worked rows and random files.
 """
 
 import os

@@ -7,8 +7,9 @@ from collections.abc import Mapping
 
 
 def chosen(cores: Mapping[int, str], count: int) -> list[int]:
-    """Returns that many of the processors: the first of each core, and further ones only if there
-    are too few cores.
+    """Returns that many of the processors.
+
+    These are the first of each core, and further ones only if there are too few cores.
     """
     order: list[tuple[int, int]] = []
     seen: dict[str, int] = {}
@@ -19,8 +20,9 @@ def chosen(cores: Mapping[int, str], count: int) -> list[int]:
 
 
 def cores() -> dict[int, str]:
-    """Returns the core of each processor that this process may use, named by the processors that
-    share it.
+    """Returns the core of each processor that this process may use.
+
+    A core is named by the processors that share it.
     """
     folder = pathlib.Path('/sys/devices/system/cpu')
     return {

@@ -25,9 +25,7 @@ NAMES: tuple[str, ...] = ('replay', *CXX_PROGRAMS, *RUST_PROGRAMS)
 
 @dataclass(frozen=True)
 class Program:
-    """A program that prints the verdicts of a file, and the command that prints the nanoseconds of
-    each batch.
-    """
+    """A program that prints the verdicts of a file, and the command that times each batch."""
 
     name: str
     path: pathlib.Path
@@ -51,16 +49,15 @@ def edition() -> str:
 
 
 def own_program(name: str) -> pathlib.Path:
-    """Returns the path of `replay` or `workload`: the proved program, or else that of the Cargo
-    edition.
-    """
+    """Returns the path of `replay` or `workload`: the proved one, or that of the Cargo edition."""
     proved = TOP / 'crates' / name / 'out' / name
     return proved if proved.exists() else TOP / 'out' / 'quick' / name
 
 
 def build_own(latency: bool) -> None:
-    """Builds `replay` and `workload` unless they are proved and built, and the program that times
-    batches.
+    """Builds the program that times batches.
+
+    Builds `replay` and `workload` too, unless they are proved and built.
     """
     if not all((TOP / 'crates' / name / 'out' / name).exists() for name in ('replay', 'workload')):
         run(['make', '--no-print-directory', 'quick'])

@@ -1,7 +1,5 @@
 # SPDX-License-Identifier: Apache-2.0
-"""Several resolvers: their times beside other programs, what they print together, and the conflicts
-that they add.
-"""
+"""Several resolvers: their times, what they print together, and the conflicts that they add."""
 
 import csv
 import pathlib
@@ -76,8 +74,9 @@ def runs_of(replay: pathlib.Path, most: int) -> list[Resolvers]:
 
 
 def combined(lines: Sequence[str]) -> str:
-    """Returns the line of all shards, given that of each: the same proxy and version, and the least
-    verdict of each transaction.
+    """Returns the line of all shards, given that of each.
+
+    It has the same proxy and version, and the least verdict of each transaction.
     """
     parts = [line.split() for line in lines]
     if len({(part[0], part[1], len(part)) for part in parts}) > 1:

@@ -177,8 +177,9 @@ def write(file: pathlib.Path, comments: Iterable[str], rows: Iterable[Row]) -> N
 
 
 def table(rows: list[Row]) -> str:
-    """Returns the rows of one workload as a table: medians, with the least and the greatest value
-    after them.
+    """Returns the rows of one workload as a table.
+
+    Medians come first, with the least and the greatest value after them.
     """
     lines = [['', *MEASURES]]
     for row in rows:

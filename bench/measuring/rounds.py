@@ -63,9 +63,7 @@ def run_process(program: Program, limit: int, file: pathlib.Path, output: pathli
 
 
 def run_latency(program: Program, file: pathlib.Path) -> tuple[list[int], int | None]:
-    """Returns the nanoseconds of each batch, and the number of boundaries at the end if the program
-    reports it.
-    """
+    """Returns the nanoseconds of each batch, and the boundaries at the end if they are reported."""
     done = subprocess.run([*program.latency, str(file)], check=True, capture_output=True, text=True)
     number, _, unit = done.stderr.strip().partition(' ')
     return (

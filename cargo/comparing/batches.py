@@ -136,8 +136,9 @@ def other_body(batch: Batch, drawer: Drawer) -> Batch:
 
 
 def disturbance(chance: Random, batch: Batch, drawer: Drawer) -> Batch:
-    """Returns a batch that disturbs the chain: a repeat, another batch of its version or previous
-    version, or one off the chain.
+    """Returns a batch that disturbs the chain.
+
+    It is a repeat, another batch of its version or previous version, or one off the chain.
     """
     kind = chance.randrange(5)
     if kind == 0:
@@ -157,8 +158,9 @@ def disturbance(chance: Random, batch: Batch, drawer: Drawer) -> Batch:
 
 
 def disturbed(chance: Random, chain: list[Batch], drawer: Drawer) -> list[Batch]:
-    """The batches of one proxy, which need not be a chain: repeats, gaps, others of a version, and
-    late ones.
+    """The batches of one proxy, which need not be a chain.
+
+    There are repeats, gaps, others of a version, and late ones.
     """
     batches = shuffled_near(chance, chain, chance.choice((0, 0, 1, 3, 100)))
     for _ in range(chance.choice((0, 1, 3, len(chain) // 2))):
@@ -184,8 +186,9 @@ def dealt(chance: Random, batches: Sequence[Batch], proxies: int) -> list[list[B
 
 
 def repeats_of(chance: Random, batches: list[Batch], drawer: Drawer) -> list[Batch]:
-    """Repeats some batches after the first of their version, and puts others of a new version after
-    the same previous one.
+    """Repeats some batches after the first of their version.
+
+    Puts others of a new version after the same previous one.
     """
     changed = list(batches)
     taken = {batch.version for batch in batches}

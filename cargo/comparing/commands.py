@@ -135,8 +135,9 @@ def draw_commands(chance: Random) -> Case:
 
 
 def draw_files(chance: Random) -> Case:
-    """Files that are missing, empty, or a folder, among others of one chain, and such files of
-    replies.
+    """Files of batches or replies, among them missing ones, empty ones and folders.
+
+    The others are of one chain.
     """
     drawer = draw_drawer(chance)
     count = chance.randint(1, 5)

@@ -18,8 +18,9 @@ def draw_frames(chance: Random, is_replies: bool) -> list[bytes]:
 
 
 def draw_decoded(chance: Random) -> Case:
-    """Frames of batches or replies, perhaps damaged or of the other kind, from a file or from
-    standard input.
+    """Frames of batches or replies, perhaps damaged or of the other kind.
+
+    They come from a file or from standard input.
     """
     is_replies = chance.random() < 0.4
     found = draw_frames(chance, is_replies if chance.random() < 0.95 else not is_replies)

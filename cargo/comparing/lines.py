@@ -1,6 +1,4 @@
-"""Batches and replies as lines of JSON and as tables, as `batches decode` and `batches show` print
-them.
-"""
+"""Batches and replies as lines of JSON and as tables, as the program `batches` prints them."""
 
 from .wire import Batch, Entry, Range, Reply, Txn
 

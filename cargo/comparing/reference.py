@@ -100,8 +100,9 @@ class Resolver:
             self.handle(*due)
 
     def next_due(self) -> tuple[int, Batch] | None:
-        """Returns the held batch that leaves next: the least previous version first, among equals
-        the earliest arrival.
+        """Returns the held batch that leaves next.
+
+        It has the least previous version, and is the earliest arrival among equals.
         """
         due = [one for one in self.held if one[1].previous <= self.version]
         return min(due, key=lambda one: one[1].previous) if due else None
@@ -191,8 +192,7 @@ def words_of(reply: Reply) -> str:
 
 
 def line_of(proxy: int, answer: Answer, form: str) -> str:
-    """Returns the line of an answer, and what explains it: in the form `words`, `frames` or `json`.
-    """
+    """Returns the line of an answer and what explains it, as `words`, `frames` or `json`."""
     if form == "json":
         body = f'"answer":"{answer.word}"'
         if answer.reply is not None:
@@ -234,9 +234,7 @@ def counts_of(answers: Sequence[Sequence[Answer]]) -> tuple[dict[str, int], tupl
 
 
 def percent_of(part: int, whole: int) -> str:
-    """Returns a share in percent with one decimal, rounded to the nearest one, and up from the
-    middle.
-    """
+    """Returns a share in percent with one decimal, rounded to the nearest, and up from half."""
     return str((Decimal(100 * part) / whole).quantize(Decimal("0.1"), ROUND_HALF_UP))
 
 

@@ -44,8 +44,7 @@ def draw_options(chance: Random, window: int | None) -> list[str]:
 
 
 def draw_filter(chance: Random) -> tuple[list[str], Filter]:
-    """Draws the options that print some lines only, in one run of four, and which lines these are.
-    """
+    """Draws the options that print some lines only, in one run of four, and these lines."""
     if chance.random() < 0.75:
         return [], ALL_LINES
     only = chance.choice((None, "committed", "conflict", "tooold"))
@@ -125,8 +124,9 @@ def draw_proxies(chance: Random) -> int:
 
 
 def draw_many(chance: Random) -> Case:
-    """One chain dealt to several proxies, with repeats in the file of the first, gaps and files
-    without batches.
+    """One chain dealt to several proxies.
+
+    The file of the first has repeats. There are gaps and files without batches.
     """
     drawer, window, chain = draw_chain(chance)
     if chain and chance.random() < 0.2:
@@ -238,9 +238,7 @@ def draw_stop(chance: Random) -> Case:
 
 
 def draw_full_gate(chance: Random) -> Case:
-    """About as many held batches of one proxy as the gate holds, and perhaps the chain that frees
-    them.
-    """
+    """About as many held batches of a proxy as the gate holds, perhaps with what frees them."""
     count = chance.choice((1_022, 1_023, 1_024, 1_025))
     held = [Batch(version, version + 1) for version in range(10, 10 + count)]
     # The last of them leaves the others held, and is a repeat itself.
@@ -303,8 +301,7 @@ def entry_changed(chance: Random, reply: Reply) -> Reply:
 
 
 def recorded_changed(chance: Random, replies: list[Reply]) -> list[Reply]:
-    """Changes the replies to a proxy: none or another one, in another order, repeated, or missing.
-    """
+    """Changes the replies to a proxy: none, another one, in another order, repeated or missing."""
     changed = list(replies)
     for _ in range(chance.choice((0, 0, 1, 2))):
         kind = chance.randrange(5)

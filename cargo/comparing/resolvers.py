@@ -1,5 +1,6 @@
-"""What `replay --resolvers` prints, by one `replay` per shard over clipped files, and a plain
-combination of what these print.
+"""What `replay --resolvers` prints, by one `replay` per shard over clipped files.
+
+Their answers are combined by a plain function.
 """
 
 import json
@@ -54,8 +55,9 @@ def read_indices(txn: Txn, first: bytes, end: bytes | None) -> list[int]:
 
 
 def entry_of(entries: Sequence[Entry], indices: Sequence[Sequence[int]]) -> Entry:
-    """The least verdict of the shards, and all that they report in the numbers of the batch that
-    was sent.
+    """The least verdict of the shards, and all that they report.
+
+    Reports have the numbers of the batch that was sent.
     """
     verdict = min((entry.verdict for entry in entries), key=RANKS.index)
     places = {own[place] for entry, own in zip(entries, indices) for place in entry.indices}

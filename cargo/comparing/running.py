@@ -33,8 +33,9 @@ class Difference:
 
 
 def time_limit() -> float:
-    """Returns after how many seconds a program counts as endless: more if processes wait for
-    processors.
+    """Returns after how many seconds a program counts as endless.
+
+    It is more if processes wait for processors.
     """
     return LIMIT * max(1.0, os.getloadavg()[0] / (os.cpu_count() or 1))
 

@@ -30,9 +30,7 @@ def replies_file(parts: rows.Parts) -> bytes:
 
 
 def row_case(row: rows.Row, version: int) -> Case:
-    """A worked row in a version of the wire form, and its answers in the forms that it doesn't
-    show.
-    """
+    """A worked row in a version of the wire form, with its answers in the other forms."""
     files = {f"file{proxy}": batches_file(parts, version) for proxy, parts in enumerate(row.files)}
     runs = [
         Run(
@@ -368,8 +366,9 @@ def replies_of(files: list[bytes]) -> list[bytes]:
 
 
 def example_case(path: Path) -> Case:
-    """An example in all forms, its comparison with right and with missing replies, and its lines of
-    JSON and tables.
+    """An example in all forms, as lines of JSON and as tables.
+
+    It is compared with right and with missing replies.
     """
     contents = [file.read_bytes() for file in files_of_example(path)]
     names = [f"file{proxy}" for proxy in range(len(contents))]

@@ -1,5 +1,4 @@
-"""Checks that an erased source has lost nothing but ghosts, by what is left and not by the rules.
-"""
+"""Checks that an erased source has lost nothing but ghosts, by what is left, not by the rules."""
 
 import re
 from itertools import groupby

@@ -242,8 +242,9 @@ FILES["alone"] = ("-1>0",)
 
 @dataclass(frozen=True)
 class KeptRow:
-    """A command line of `report` whose page would overwrite a file that is read: it fails, and the
-    files are as before.
+    """A command line of `report` whose page would overwrite a file that is read.
+
+    It fails, and the files are as before.
     """
 
     args: tuple[str, ...]

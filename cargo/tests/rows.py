@@ -326,8 +326,9 @@ def sharing(
     rest: bytes = b"",
     err: str = "",
 ) -> tuple[Row, Row]:
-    """A row of 64 files, of which the first have the batches of these versions, and a share of 16
-    each.
+    """A row of 64 files with a share of 16 each.
+
+    The first files have the batches of these versions.
     """
     batches: list[Parts] = [
         tuple(f"{v - 1}>{v}" for first, end in some for v in range(first, end)) for some in files

@@ -868,8 +868,9 @@ ROWS = (
 
 @dataclass(frozen=True)
 class KeptRow:
-    """A command line by which a file would be read and overwritten, or written twice: it fails, and
-    the files are as before.
+    """A command line that would overwrite a file that is read, or write one twice.
+
+    It fails, and the files are as before.
     """
 
     args: tuple[str, ...]

@@ -8,9 +8,7 @@ ONE_COMMITTED = bytes.fromhex("0000000e 02 0000000000000064 0001 02 0000")
 
 
 def edited(frame: bytes, at: int, field: str, length: str = "", more: str = "") -> bytes:
-    """Returns the frame with another field at this index, another length of the body, and bytes
-    after it.
-    """
+    """Returns the frame with another field, another length of the body, and bytes after it."""
     put = bytes.fromhex(field)
     changed = frame[:at] + put + frame[at + len(put) :] + bytes.fromhex(more)
     return bytes.fromhex(length) + changed[4:] if length else changed

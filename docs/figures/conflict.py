@@ -1,6 +1,5 @@
 #!/usr/bin/env python3
-"""Draws the batch of version 300 of the tutorial: keys, versions, and the read that is in conflict.
-"""
+"""Draws the batch of version 300 of the tutorial: keys, versions, and the read in conflict."""
 
 from svg import Picture, write
 
@@ -19,9 +18,7 @@ def write_mark(p: Picture, version: float, y: float) -> None:
 
 
 def read(p: Picture, y: float, kind: str) -> None:
-    """Draws what a read at snapshot 100 must find unwritten: all versions above 100, up to its
-    batch.
-    """
+    """Draws what a read at snapshot 100 must find unwritten: versions above 100 up to its batch."""
     p.rect(across(100) + 12, y - 16, across(300) - across(100) - 24, 32, kind, 4)
 
 

@@ -118,8 +118,9 @@ class Layout:
         return total
 
     def order(self) -> None:
-        """Puts each row in an order with few crossings: by the middle of the row below, then of the
-        row above, some times.
+        """Puts each row in an order with few crossings.
+
+        That is by the middle of the row below, then of the row above, some times.
         """
         best, fewest = [list(row) for row in self.rows], self.crossings()
         for turn in range(60):
@@ -151,9 +152,7 @@ class Layout:
                     row[index], row[index + 1] = row[index + 1], row[index]
 
     def place(self) -> None:
-        """Gives each node its place across: near those that it is joined to, and apart from the
-        others of its row.
-        """
+        """Gives each node its place across: near those that it is joined to, apart from others."""
         for row in self.rows:
             x = 0.0
             for node in row:
@@ -175,8 +174,9 @@ class Layout:
 
     @staticmethod
     def spread(row: list[Node], wanted: list[float]) -> None:
-        """Moves the nodes of a row as near to the wanted places as their widths allow, by groups
-        that touch.
+        """Moves the nodes of a row as near to the wanted places as their widths allow.
+
+        Nodes that touch move as a group.
         """
         groups: list[list[float]] = []  # sum of wanted starts, count, width
         members: list[list[int]] = []

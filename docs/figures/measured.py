@@ -38,8 +38,7 @@ class Row:
 
 @dataclass(frozen=True)
 class Results:
-    """A file of results: its rows by workload and program, and where and when they were measured.
-    """
+    """A file of results: its rows by workload and program, and where and when they were made."""
 
     rows: dict[tuple[str, str], Row]
     comments: dict[str, str]

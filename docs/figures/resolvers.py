@@ -1,6 +1,7 @@
 #!/usr/bin/env python3
-"""Draws the throughput of several resolvers and the conflicts that they add, from the newest
-results of bench/resolvers.
+"""Draws the throughput of several resolvers and the conflicts that they add.
+
+The numbers are the newest results of bench/resolvers.
 """
 
 import sys
@@ -29,8 +30,9 @@ ACROSS, HEIGHT, GROUND = 204, 88, 154
 
 @dataclass(frozen=True)
 class Bar:
-    """A number of resolvers, or the radix tree: million ranges per second, and added conflicts in
-    percent of the transactions.
+    """A number of resolvers, or the radix tree.
+
+    Million ranges per second, and added conflicts in percent of the transactions.
     """
 
     name: str
@@ -75,8 +77,9 @@ def read_groups(results: measured.Results) -> dict[str, list[Bar]]:
 
 
 def panel(p: Picture, left: float, top: float, workload: str, bars: list[Bar]) -> None:
-    """Draws the bars of a workload, each with its rate above it, and its number of resolvers and
-    added conflicts below.
+    """Draws the bars of a workload.
+
+    Each has its rate above it, and its number of resolvers and added conflicts below.
     """
     p.text(left, top + 16, workload, 'ink', 15, bold=True)
     p.text(left, top + 34, LABELS[workload], 'soft', 13)

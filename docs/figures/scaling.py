@@ -1,6 +1,7 @@
 #!/usr/bin/env python3
-"""Draws how the time per range grows with the boundaries in the window, from the newest results of
-bench/measure.
+"""Draws how the time per range grows with the boundaries in the window.
+
+The numbers are the newest results of bench/measure.
 """
 
 import math
@@ -23,8 +24,7 @@ Point = tuple[int, float]
 
 
 def read_lines(results: measured.Results) -> dict[str, list[Point]]:
-    """Returns the boundaries and the nanoseconds per range of each program, by rising boundaries.
-    """
+    """Returns boundaries and nanoseconds per range of each program, by rising boundaries."""
     lines: dict[str, list[Point]] = {}
     for program in PROGRAMS:
         rows = [

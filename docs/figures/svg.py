@@ -1,5 +1,6 @@
-"""Plain SVG for the pictures of the documents: a transparent background, and colours for light and
-for dark.
+"""Plain SVG for the pictures of the documents, on a transparent background.
+
+The colours are for light and for dark.
 """
 
 import pathlib
@@ -66,8 +67,7 @@ def number(value: float) -> str:
 
 @dataclass
 class Picture:
-    """A picture: its size, its title and description for those who do not see it, and its elements.
-    """
+    """A picture: its size, a title and description for those who do not see it, its elements."""
 
     width: int
     height: int
@@ -211,8 +211,9 @@ class Picture:
 
 
 def write(picture: Picture, script: str) -> None:
-    """Writes the picture beside its script, or into the folder that the command line names, under
-    the script's name.
+    """Writes the picture beside its script, under the name of the script.
+
+    If the command line names a folder, it is written there.
     """
     path = pathlib.Path(script).resolve()
     folder = pathlib.Path(sys.argv[1]) if len(sys.argv) > 1 else path.parent

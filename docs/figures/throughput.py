@@ -1,6 +1,7 @@
 #!/usr/bin/env python3
-"""Draws how many ranges per second `replay` and two baselines resolve, from the newest results of
-bench/measure.
+"""Draws how many ranges per second `replay` and two baselines resolve.
+
+The numbers are the newest results of bench/measure.
 """
 
 from dataclasses import dataclass

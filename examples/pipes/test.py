@@ -21,9 +21,7 @@ LIMIT = 60  # seconds
 
 
 def compared(program, folder, received):
-    """Returns whether the batch run gives the answers that the proxy received, and some are
-    conflicts.
-    """
+    """Returns whether the batch run gives the answers of the proxy, some of them conflicts."""
     batch = subprocess.run(
         [program, folder / "kept"], capture_output=True, text=True, timeout=LIMIT, check=True
     )
