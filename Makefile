@@ -1,15 +1,18 @@
-.PHONY: quick demo rust rust-packages rust-crate-test rust-doc rust-package library-unproved quick-test rust-test \
-	rust-test-long replay batches check test more-edits \
-	refused-memory json-examples stalled-pipes live-pipes readme-runs manual-page program-runs library install uninstall library-test \
-	languages-test store-test cluster-test fuzz rust-plant plant bench profile profile-explain
+.PHONY: quick demo rust rust-packages rust-crate-test rust-doc rust-package library-unproved \
+	quick-test rust-test rust-test-long replay batches check test more-edits refused-memory \
+	json-examples stalled-pipes live-pipes readme-runs manual-page program-runs library \
+	install uninstall library-test languages-test store-test cluster-test fuzz rust-plant \
+	plant bench profile profile-explain
 
-# The Cargo edition: the same sources, clauses erased, built by rustc. It needs Rust 1.85, cc, make and python3, and no network.
+# The Cargo edition: the same sources, clauses erased, built by rustc. It needs Rust 1.85, cc, make
+# and python3, and no network.
 
 # Builds the programs: out/quick/replay, out/quick/batches, out/quick/workload. Not proved.
 quick:
 	cargo/quick
 
-# Runs the program of the Cargo edition on the recorded files of examples/. A file NAME.args names the further files of a run.
+# Runs the program of the Cargo edition on the recorded files of examples/. A file NAME.args names
+# the further files of a run.
 demo: quick
 	@set -e; cd examples; for file in *; do \
 		case "$$file" in *.*) continue ;; esac; \
@@ -18,7 +21,8 @@ demo: quick
 		../out/quick/replay "$$file" $$(cat "$$file.args" 2> /dev/null) || echo "status $$?"; \
 	done
 
-# Writes and builds the workspace for Rust programmers in out/rust, over crates.io's crates where one serves.
+# Writes and builds the workspace for Rust programmers in out/rust, over crates.io's crates where
+# one serves.
 rust:
 	cargo/rust
 
@@ -30,7 +34,8 @@ rust-packages:
 rust-crate-test: rust
 	cd out/rust && cargo test --release --quiet --package archcaraway
 
-# Builds the documentation of out/rust: out/rust/target/doc/archcaraway/index.html. A warning is an error.
+# Builds the documentation of out/rust: out/rust/target/doc/archcaraway/index.html. A warning is an
+# error.
 rust-doc: rust
 	cd out/rust && RUSTDOCFLAGS='-D warnings' cargo doc --quiet --workspace --no-deps
 
@@ -38,21 +43,22 @@ rust-doc: rust
 rust-package: rust
 	cargo/package
 
-# Builds the library for C by cargo: out/quick/libarchcaraway.a and out/quick/libarchcaraway.so. Not proved. PROCESSOR=x86-64 builds for
-# every x86-64 processor, into out/quick/x86-64.
+# Builds the library for C by cargo: out/quick/libarchcaraway.a and out/quick/libarchcaraway.so. Not
+# proved. PROCESSOR=x86-64 builds for every x86-64 processor, into out/quick/x86-64.
 library-unproved:
 	cargo/library
 
-# Tests the Cargo edition in two minutes, without the Rattle toolchain: the eraser, the programs beside what the documents say, the crates,
-# and the crate archcaraway beside `replay --resolvers`.
+# Tests the Cargo edition in two minutes, without the Rattle toolchain: the eraser, the programs
+# beside what the documents say, the crates, and the crate archcaraway beside `replay --resolvers`.
 quick-test: quick
 	cd cargo && python3 -m unittest discover --quiet --pattern 'test_*.py'
 	cargo/compare --alone
 	cargo/test
 	.ci/resolvers-test out/quick/tests/release/examples/resolvers
 
-# After `make quick` and `make test`, compares the Cargo edition with the proved programs: the worked rows, the examples and 2,000 drawn
-# cases. If the proved programs are not there, it says so, and compares with what the documents say alone.
+# After `make quick` and `make test`, compares the Cargo edition with the proved programs: the
+# worked rows, the examples and 2,000 drawn cases. If the proved programs are not there, it says so,
+# and compares with what the documents say alone.
 rust-test:
 	cargo/compare
 
@@ -61,7 +67,8 @@ rust-test-long:
 	cargo/compare --runs 20000
 	ARCHCARAWAY_LONG=1 cargo/test
 
-# Inverts a comparison of an erased crate, 15 times, and shows that `make rust-test` finds it within a minute.
+# Inverts a comparison of an erased crate, 15 times, and shows that `make rust-test` finds it within
+# a minute.
 rust-plant: quick
 	cargo/plant
 
@@ -72,12 +79,14 @@ replay:
 	cd crates/replay && rt run -- ../../examples/first_run
 	@echo 'The proved program: crates/replay/out/replay'
 
-# Proves and builds the library for C: out/libarchcaraway.a, out/libarchcaraway.so, out/archcaraway.pc.
+# Proves and builds the library for C: out/libarchcaraway.a, out/libarchcaraway.so,
+# out/archcaraway.pc.
 library:
 	.ci/library
 
-# Installs the library for C that is in BUILT (out, or out/quick for that of the Cargo edition), its headers, and its packages for
-# pkg-config and CMake. DESTDIR, PREFIX (/usr/local), LIBDIR (PREFIX/lib) and INCLUDEDIR (PREFIX/include) say where.
+# Installs the library for C that is in BUILT (out, or out/quick for that of the Cargo edition), its
+# headers, and its packages for pkg-config and CMake. DESTDIR, PREFIX (/usr/local), LIBDIR
+# (PREFIX/lib) and INCLUDEDIR (PREFIX/include) say where.
 install:
 	library/install
 
@@ -87,8 +96,8 @@ uninstall:
 
 .PHONY: install-programs uninstall-programs completions completions-test
 
-# Installs the programs in BUILT (out/quick, or crates for the proved ones), their manual pages and their completions for bash, zsh and fish.
-# DESTDIR and PREFIX (/usr/local) say where.
+# Installs the programs in BUILT (out/quick, or crates for the proved ones), their manual pages and
+# their completions for bash, zsh and fish. DESTDIR and PREFIX (/usr/local) say where.
 install-programs:
 	completions/install-programs
 
@@ -100,78 +109,92 @@ uninstall-programs:
 completions: quick
 	completions/generate
 
-# After `make quick`, compares the completions with the programs, and completes lines in bash, zsh and fish.
+# After `make quick`, compares the completions with the programs, and completes lines in bash, zsh
+# and fish.
 completions-test:
 	.ci/completions
 
-# After `make test`, tests the library for C: examples, chains beside the program, sanitizers, valgrind, refused memory, languages.
+# After `make test`, tests the library for C: examples, chains beside the program, sanitizers,
+# valgrind, refused memory, languages.
 library-test: library
 	.ci/library-test
 
-# Tests the library of BUILT in each language: C, C++, Python, Go, Rust; their examples, and the snippets of documents.
+# Tests the library of BUILT in each language: C, C++, Python, Go, Rust; their examples, and the
+# snippets of documents.
 languages-test:
 	.ci/languages-test
 
-# Tests the store of examples/store over the library in BUILT (out/quick): each workload for SECONDS_EACH (10) seconds, kills, controls.
+# Tests the store of examples/store over the library in BUILT (out/quick): each workload for
+# SECONDS_EACH (10) seconds, kills, controls.
 store-test:
 	.ci/store-test
 
-# Tests the resolvers and proxies of examples/cluster over the library in BUILT (out/quick), after `make quick` and `make library-unproved`.
+# Tests the resolvers and proxies of examples/cluster over the library in BUILT (out/quick), after
+# `make quick` and `make library-unproved`.
 cluster-test:
 	.ci/cluster-test
 
-# Fuzzes the library that cargo builds, and the proved one if it is in out/, for SECONDS (30) each. Needs clang with its runtime.
+# Fuzzes the library that cargo builds, and the proved one if it is in out/, for SECONDS (30) each.
+# Needs clang with its runtime.
 fuzz:
 	SECONDS_EACH=$(or $(SECONDS),30) .ci/fuzz-test
 
-# Proves and builds the program that turns lines of JSON into batches, and shows that the examples and their JSON are the other.
+# Proves and builds the program that turns lines of JSON into batches, and shows that the examples
+# and their JSON are the other.
 batches:
 	cd crates/batches && rt run -- --version
 	.ci/json-examples
 	@echo 'The proved program: crates/batches/out/batches'
 
-# After `make test` or `make batches`: encodes the JSON of each example, and decodes the example, and compares.
+# After `make test` or `make batches`: encodes the JSON of each example, and decodes the example,
+# and compares.
 json-examples:
 	.ci/json-examples
 
 # The number of crates that `make check` proves at the same time.
 JOBS ?= $(shell nproc)
 
-# Proves every crate, without tests, edits and programs. What hasn't changed since an earlier check isn't proved again.
+# Proves every crate, without tests, edits and programs. What hasn't changed since an earlier check
+# isn't proved again.
 check:
 	rt all check --jobs $(JOBS)
 
-# The first part of the full check (.ci/run): every proof, the must-fail edits, the tests and the programs. CONTRIBUTING.md says which
-# toolchains take the proofs that an earlier run has kept.
+# The first part of the full check (.ci/run): every proof, the must-fail edits, the tests and the
+# programs. CONTRIBUTING.md says which toolchains take the proofs that an earlier run has kept.
 test:
 	rt ci
 
-# Tries the edits of edits/, which `make test` leaves out: all, or those of CRATES='NAME..'. Best after `make test` or, where `rt ci` takes
-# no names, after `make check`: it takes the proofs that these have kept.
+# Tries the edits of edits/, which `make test` leaves out: all, or those of CRATES='NAME..'. Best
+# after `make test` or, where `rt ci` takes no names, after `make check`: it takes the proofs that
+# these have kept.
 more-edits:
 	.ci/more-edits $(CRATES)
 
-# Behind `make test`, refuses each allocation in turn to the tests named for it and to the program, as that has built them.
+# Behind `make test`, refuses each allocation in turn to the tests named for it and to the program,
+# as that has built them.
 refused-memory:
 	.ci/refused-memory
 
-# Behind `make replay`: deals a chain of batches to pipes of which some stall, and compares what the program prints.
+# Behind `make replay`: deals a chain of batches to pipes of which some stall, and compares what the
+# program prints.
 stalled-pipes:
 	.ci/stalled-pipes
 
-# After `make replay`, runs `replay --stream` over pipes and looks at what comes while they are open. Then runs the proxy of examples/pipes.
+# After `make replay`, runs `replay --stream` over pipes and looks at what comes while they are
+# open. Then runs the proxy of examples/pipes.
 live-pipes:
 	.ci/live-pipes
 	.ci/pipes-test crates/replay/out/replay
 
-# After `make test`, runs the commands of the documents that call a built program, and compares what they print. After `make quick`,
-# EDITION=cargo runs those of the Cargo edition.
+# After `make test`, runs the commands of the documents that call a built program, and compares what
+# they print. After `make quick`, EDITION=cargo runs those of the Cargo edition.
 readme-runs:
 	.ci/readme-runs
 
 .PHONY: figures figures-test
 
-# Redraws the pictures of docs/figures. That of the crates follows crates.txt, those of times the newest bench/results/*-programs.csv.
+# Redraws the pictures of docs/figures. That of the crates follows crates.txt, those of times the
+# newest bench/results/*-programs.csv.
 figures:
 	for script in docs/figures/*.py; do [ ! -x "$$script" ] || python3 -B "$$script" || exit 1; done
 
@@ -179,12 +202,13 @@ figures:
 figures-test:
 	.ci/figures
 
-# Behind `make test`, compares the manual pages with what the programs print of their options and versions.
+# Behind `make test`, compares the manual pages with what the programs print of their options and
+# versions.
 manual-page:
 	.ci/manual-page
 
-# After `make test` or `make replay`, runs the program on words that it refuses, on paths that have no frames, for its help, and on a
-# terminal.
+# After `make test` or `make replay`, runs the program on words that it refuses, on paths that have
+# no frames, for its help, and on a terminal.
 program-runs:
 	.ci/program-runs
 	.ci/progress-test
@@ -195,8 +219,9 @@ plant:
 
 .PHONY: bench-quick bench-test
 
-# Measures replay, proved if it is built, beside the baselines of bench/baselines, and redraws the charts. Needs cc, c++, cargo and python3.
-# Arguments for bench/measure: make bench BENCH='--rounds 3 --only wide'.
+# Measures replay, proved if it is built, beside the baselines of bench/baselines, and redraws the
+# charts. Needs cc, c++, cargo and python3. Arguments for bench/measure:
+# make bench BENCH='--rounds 3 --only wide'.
 bench:
 	bench/measure $(BENCH)
 	$(MAKE) --no-print-directory figures
@@ -209,14 +234,17 @@ bench-quick: bench-test
 bench-test:
 	cd bench && python3 -B -m unittest
 
-# Times the libraries of the Cargo edition on a file of batch frames: make profile FILE=batches. The program stays in out/profile.
+# Times the libraries of the Cargo edition on a file of batch frames: make profile FILE=batches. The
+# program stays in out/profile.
 profile:
 	cargo/erase.py out/profile --add profile/detect
-	RUSTFLAGS="-Ctarget-cpu=x86-64-v2 -g" cargo build --manifest-path out/profile/Cargo.toml --quiet --release --offline --bin archcaraway-detect
+	RUSTFLAGS="-Ctarget-cpu=x86-64-v2 -g" cargo build --manifest-path out/profile/Cargo.toml \
+		--quiet --release --offline --bin archcaraway-detect
 	out/profile/target/release/archcaraway-detect '$(FILE)'
 
 # The same for explaining each conflict of the file.
 profile-explain:
 	cargo/erase.py out/profile --add profile/explain
-	RUSTFLAGS="-Ctarget-cpu=x86-64-v2 -g" cargo build --manifest-path out/profile/Cargo.toml --quiet --release --offline --bin archcaraway-explain
+	RUSTFLAGS="-Ctarget-cpu=x86-64-v2 -g" cargo build --manifest-path out/profile/Cargo.toml \
+		--quiet --release --offline --bin archcaraway-explain
 	out/profile/target/release/archcaraway-explain '$(FILE)'

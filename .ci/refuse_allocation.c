@@ -1,7 +1,9 @@
-/* Preloaded into a program, this refuses one of its allocations: the one whose number, counted from 1, is the value of
-   REFUSED_ALLOCATION. Where the program comes to that one, a line is written to file descriptor 3.
+/* Preloaded into a program, this refuses one of its allocations: the one whose number, counted from
+   1, is the value of REFUSED_ALLOCATION. Where the program comes to that one, a line is written to
+   file descriptor 3.
 
-   The toolchain's clang, which compiles this, comes without the C library's headers, so what is used of it is declared here. */
+   The toolchain's clang, which compiles this, comes without the C library's headers, so what is
+   used of it is declared here. */
 
 typedef __SIZE_TYPE__ size_t;
 

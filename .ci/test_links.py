@@ -50,7 +50,9 @@ class Links(unittest.TestCase):
         self.file.write_text(TEXT)
 
     def test_anchors(self) -> None:
-        self.assertEqual(LINKS.anchors(self.file), {"set-or-core", "frames-and-more", "twice", "twice-1"})
+        self.assertEqual(
+            LINKS.anchors(self.file), {"set-or-core", "frames-and-more", "twice", "twice-1"}
+        )
 
     def test_links(self) -> None:
         found = [(3, "x.md"), (10, "#set-or-core"), (10, "#no"), (16, "other.md")]

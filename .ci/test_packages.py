@@ -1,4 +1,7 @@
-"""What a reader of the library for C meets stays small: packages, C++ headers, examples, the first page."""
+"""What a reader of the library for C meets stays small.
+
+That is the packages, C++ headers, examples and the first page.
+"""
 from __future__ import annotations
 
 import ast
@@ -15,29 +18,53 @@ def python_lines(text: str) -> int:
     """Counts lines that are neither empty nor a comment nor documentation."""
     documentation: set[int] = set()
     for node in ast.walk(ast.parse(text)):
-        if isinstance(node, ast.Expr) and isinstance(node.value, ast.Constant) and isinstance(node.value.value, str):
+        if (
+            isinstance(node, ast.Expr)
+            and isinstance(node.value, ast.Constant)
+            and isinstance(node.value.value, str)
+        ):
             documentation.update(range(node.lineno, (node.end_lineno or node.lineno) + 1))
     lines = enumerate(text.splitlines(), 1)
-    return sum(number not in documentation and not re.match(r"\s*(#|$)", line) for number, line in lines)
+    return sum(
+        number not in documentation and not re.match(r"\s*(#|$)", line) for number, line in lines
+    )
 
 
 def go_lines(text: str) -> int:
-    """Counts lines that are neither empty nor a comment. The C code before `import "C"` is code too."""
+    """Counts lines that are neither empty nor a comment.
+
+    The C code before `import "C"` is code too.
+    """
     return sum(not re.match(r"\s*(//|/\*$|\*/$|$)", line) for line in text.splitlines())
 
 
 class Packages(unittest.TestCase):
     def test_counts(self) -> None:
-        self.assertEqual(python_lines('"""Text.\n\nMore."""\n\n# Why.\nA = 1\n"""Of A."""\n\n\ndef f():\n    """Returns."""\n    return """\na"""\n'), 4)
-        self.assertEqual(go_lines('// Text.\npackage p\n\n/*\n// C.\n#include <x.h>\n*/\nimport "C"\n'), 3)
+        self.assertEqual(
+            python_lines(
+                '"""Text.\n\nMore."""\n\n# Why.\nA = 1\n"""Of A."""\n\n\ndef f():\n'
+                '    """Returns."""\n    return """\na"""\n'
+            ),
+            4,
+        )
+        self.assertEqual(
+            go_lines('// Text.\npackage p\n\n/*\n// C.\n#include <x.h>\n*/\nimport "C"\n'), 3
+        )
 
     def test_python(self) -> None:
-        lines = {file.name: python_lines(file.read_text()) for file in (TOP / "bindings/python/archcaraway").glob("*.py")}
+        lines = {
+            file.name: python_lines(file.read_text())
+            for file in (TOP / "bindings/python/archcaraway").glob("*.py")
+        }
         self.assertLessEqual(lines.pop("_shards.py"), SPLIT_POINTS)
         self.assertLessEqual(sum(lines.values()), MOST)
 
     def test_go(self) -> None:
-        files = [file for file in (TOP / "bindings/go").glob("*.go") if not file.name.endswith("_test.go")]
+        files = [
+            file
+            for file in (TOP / "bindings/go").glob("*.go")
+            if not file.name.endswith("_test.go")
+        ]
         lines = {file.name: go_lines(file.read_text()) for file in files}
         self.assertLessEqual(lines.pop("shards.go"), SPLIT_POINTS)
         self.assertLessEqual(sum(lines.values()), MOST)

@@ -1,4 +1,4 @@
-"""Tests of the pages themselves: how long they are, and whether a long one begins with its contents."""
+"""Tests of the length of pages, and that a long one begins with its contents."""
 
 import subprocess
 import unittest
@@ -11,12 +11,17 @@ MOST_OF_A_RECORD = 60
 
 def tracked(*patterns: str) -> list[Path]:
     """Returns the files of the repository that match."""
-    listed = subprocess.run(["git", "ls-files", "-z", *patterns], cwd=TOP, check=True, stdout=subprocess.PIPE).stdout.decode()
+    listed = subprocess.run(
+        ["git", "ls-files", "-z", *patterns], cwd=TOP, check=True, stdout=subprocess.PIPE
+    ).stdout.decode()
     return [TOP / name for name in listed.split("\0") if name and (TOP / name).is_file()]
 
 
 class Pages(unittest.TestCase):
-    """The README, the pages of docs/ and of the crates, and the decision records. The changelog may be longer."""
+    """The README, the pages of docs/ and of the crates, and the decision records.
+
+    The changelog may be longer.
+    """
 
     PAGES = tracked("docs/*.md", "crates/*/README.md", "CONTRIBUTING.md", "*/README.md")
 

@@ -39,7 +39,9 @@ class Release(unittest.TestCase):
             self.assertEqual(self.release, found and found[1], place)
 
     def test_changelog(self) -> None:
-        self.assertRegex((TOP / "CHANGELOG.md").read_text(), rf"(?m)^## {re.escape(self.release)}, \d{{4}}-")
+        self.assertRegex(
+            (TOP / "CHANGELOG.md").read_text(), rf"(?m)^## {re.escape(self.release)}, \d{{4}}-"
+        )
 
 
 if __name__ == "__main__":

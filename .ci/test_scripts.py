@@ -282,7 +282,13 @@ class MoreEdits(unittest.TestCase):
                 (crates / part).mkdir(parents=True)
             self.assertEqual(
                 more_edits.paths_to_copy(crates),
-                ["crates.txt", "HANDLES", "crates/keys/src", "crates/wire/specs", "crates/wire/src"],
+                [
+                    "crates.txt",
+                    "HANDLES",
+                    "crates/keys/src",
+                    "crates/wire/specs",
+                    "crates/wire/src",
+                ],
             )
 
     def test_kept_paths(self) -> None:
@@ -385,7 +391,11 @@ class ItemTimes(unittest.TestCase):
         self.assertEqual([item.seconds for item in found], [9.0, 0.5, 3.0])
         self.assertEqual(
             item_times.report(found, 2),
-            ["    9.0 a::first (first)", "    3.0 a::c", "   12.5 processor seconds for 3 functions"],
+            [
+                "    9.0 a::first (first)",
+                "    3.0 a::c",
+                "   12.5 processor seconds for 3 functions",
+            ],
         )
         self.assertEqual(item_times.report([], 2), ["    0.0 processor seconds for 0 functions"])
 

@@ -4,7 +4,8 @@
 //     memory boundaries random|rising range|single KEY_BYTES BATCHES
 //     memory replies BATCHES TRANSACTIONS [acknowledged]
 //
-// A batch of `boundaries` has 100 transactions with one write each. Memory is the growth of the resident set, on Linux.
+// A batch of `boundaries` has 100 transactions with one write each. Memory is the growth of the
+// resident set, on Linux.
 //     cc -O2 -Iinclude bench/memory.c out/quick/libarchcaraway.a -o memory
 #include <stdio.h>
 #include <stdlib.h>
@@ -31,7 +32,8 @@ static void write_key(uint8_t *key, size_t length, bool rising) {
     drawn ^= drawn << 13, drawn ^= drawn >> 7, drawn ^= drawn << 17;
     uint64_t rest = rising ? number++ : drawn;
     memset(key, 'a', length);
-    for (size_t digit = 1; digit <= 12 && digit <= length; digit++, rest /= 10) key[length - digit] = (uint8_t)('0' + rest % 10);
+    for (size_t digit = 1; digit <= 12 && digit <= length; digit++, rest /= 10)
+        key[length - digit] = (uint8_t)('0' + rest % 10);
 }
 
 static void boundaries(bool rising, bool single, size_t length, int64_t batches) {
@@ -53,12 +55,14 @@ static void boundaries(bool rising, bool single, size_t length, int64_t batches)
             archcaraway_batch_write(&writer, begin, length, end, length + single);
         }
         DEMAND(archcaraway_batch_end(&writer) == 0);
-        DEMAND(archcaraway_set_resolve(&set, writer.bytes, writer.length, reply, sizeof reply, &size) == 0);
+        DEMAND(archcaraway_set_resolve(&set, writer.bytes, writer.length, reply, sizeof reply,
+                                       &size) == 0);
     }
     uint64_t count = archcaraway_set_boundaries(&set);
-    double grown = (double)(resident() - before), reported = (double)archcaraway_set_bytes_held(&set);
-    printf("%llu boundaries, %.0f bytes per boundary, of which the set reports %.0f\n", (unsigned long long)count,
-           grown / (double)count, reported / (double)count);
+    double grown = (double)(resident() - before),
+           reported = (double)archcaraway_set_bytes_held(&set);
+    printf("%llu boundaries, %.0f bytes per boundary, of which the set reports %.0f\n",
+           (unsigned long long)count, grown / (double)count, reported / (double)count);
 }
 
 static void replies(int64_t batches, int transactions, bool acknowledged) {
@@ -71,7 +75,8 @@ static void replies(int64_t batches, int transactions, bool acknowledged) {
     long before = resident();
     for (int64_t batch = 0; batch < batches; batch++) {
         archcaraway_batch_begin(&writer, batch - 1, batch, acknowledged ? batch - 1 : -1);
-        for (int transaction = 0; transaction < transactions; transaction++) archcaraway_batch_transaction(&writer, 0, false);
+        for (int transaction = 0; transaction < transactions; transaction++)
+            archcaraway_batch_transaction(&writer, 0, false);
         DEMAND(archcaraway_batch_end(&writer) == 0);
         DEMAND(archcaraway_core_admit(&core, 0, writer.bytes, writer.length) == 0);
         DEMAND(archcaraway_core_give(&core, 0, reply, sizeof reply, &size, &kind, &version) == 0);
@@ -81,7 +86,8 @@ static void replies(int64_t batches, int transactions, bool acknowledged) {
 
 int main(int count, char **words) {
     if (count == 6 && strcmp(words[1], "boundaries") == 0)
-        boundaries(strcmp(words[2], "rising") == 0, strcmp(words[3], "single") == 0, strtoul(words[4], NULL, 10), atol(words[5]));
+        boundaries(strcmp(words[2], "rising") == 0, strcmp(words[3], "single") == 0,
+                   strtoul(words[4], NULL, 10), atol(words[5]));
     else if (count >= 4 && strcmp(words[1], "replies") == 0)
         replies(atol(words[2]), atoi(words[3]), count == 5);
     else

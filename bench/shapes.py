@@ -1,10 +1,12 @@
 #!/usr/bin/env python3
 # SPDX-License-Identifier: Apache-2.0
-"""Writes batches of the shapes that the program `workload` does not have, as frames of wire version 1.
+"""Writes batches of the shapes that the program `workload` does not have, as frames of wire version
+1.
 
     bench/shapes.py SHAPE FILE [--seed N] [--scale F]
 
-The bytes depend on the shape, the seed and the scale alone. A scale of 0.1 writes a tenth of the batches.
+The bytes depend on the shape, the seed and the scale alone. A scale of 0.1 writes a tenth of the
+batches.
 """
 
 import argparse
@@ -59,7 +61,10 @@ def encode_batch(previous: int, version: int, received: int, transactions: list[
 
 
 def encode_chain(batches: Iterator[Batch]) -> Iterator[bytes]:
-    """Returns the frames of a chain. Each batch has received the replies up to eight batches before it."""
+    """Returns the frames of a chain.
+
+    Each batch has received the replies up to eight batches before it.
+    """
     versions = [-1] * 8
     for version, transactions in batches:
         yield encode_batch(versions[-1], version, versions[-8], transactions)
@@ -77,12 +82,17 @@ def mix(number: int, salt: int) -> int:
 def short_key(number: int) -> bytes:
     """Returns 8 to 24 bytes: one of 16 table prefixes, then bytes that look random."""
     drawn = mix(number, 0x1234567)
-    body = b''.join(part.to_bytes(8, 'big') for part in (mix(drawn, 0x89ABCDE), mix(drawn, 0x7777777), drawn))
+    body = b''.join(
+        part.to_bytes(8, 'big') for part in (mix(drawn, 0x89ABCDE), mix(drawn, 0x7777777), drawn)
+    )
     return bytes((0x15, 1 + (drawn >> 40) % 16)) + body[:6 + drawn % 17]
 
 
 def earlier(version: int, step: int, lag: int) -> int:
-    """Returns the version `lag` batches before `version` in a chain with one batch per `step`, or 0 before its start."""
+    """Returns the version `lag` batches before `version`, or 0 before the start of the chain.
+
+    The chain has one batch per `step`.
+    """
     return max(0, version - lag * step)
 
 
@@ -92,7 +102,10 @@ def scaled(count: int, scale: float) -> range:
 
 
 def zipfian(rng: random.Random, scale: float) -> Iterator[Batch]:
-    """Single keys of which few are frequent: 200,000 transactions of 5 reads and 2 writes, 50 to 500 per batch."""
+    """Single keys of which few are frequent.
+
+    200,000 transactions of 5 reads and 2 writes, 50 to 500 per batch.
+    """
     sums = list(accumulate((rank + 20.0) ** -0.8 for rank in range(1_000_000)))
     version, versions, remaining = 0, [0], max(1, int(200_000 * scale))
 
@@ -114,15 +127,26 @@ def zipfian(rng: random.Random, scale: float) -> Iterator[Batch]:
         size = min(remaining, 50 + int(rng.random() * 451))
         remaining -= size
         version += 10_000 + int(rng.random() * 20_000)
-        yield version, [encode_transaction(snapshot(), [key() for _ in range(5)], [key() for _ in range(2)])
-                        for _ in range(size)]
+        yield (
+            version,
+            [
+                encode_transaction(snapshot(), [key() for _ in range(5)], [key() for _ in range(2)])
+                for _ in range(size)
+            ],
+        )
         versions.append(version)
 
 
 def wide(rng: random.Random, scale: float) -> Iterator[Batch]:
-    """Transactions of 64 reads and 16 writes of short ranges; one read of 2,000 is long. 100 per batch."""
+    """Transactions of 64 reads and 16 writes of short ranges, 100 per batch.
+
+    One read of 2,000 is long.
+    """
     step = 200_000
-    prefixes = [b'\x02' + (b'tenant-%02d/index-by-time/' % tenant)[:23].ljust(23, b'_') for tenant in range(8)]
+    prefixes = [
+        b'\x02' + (b'tenant-%02d/index-by-time/' % tenant)[:23].ljust(23, b'_')
+        for tenant in range(8)
+    ]
 
     def short_range(longest: int) -> bytes:
         prefix = prefixes[int(rng.random() * 8)]
@@ -135,12 +159,24 @@ def wide(rng: random.Random, scale: float) -> Iterator[Batch]:
 
     for index in scaled(80, scale):
         version = (index + 1) * step
-        yield version, [encode_transaction(earlier(version, step, 1 + int(rng.random() * 10)), [read() for _ in range(64)],
-                                           [short_range(100) for _ in range(16)]) for _ in range(100)]
+        yield (
+            version,
+            [
+                encode_transaction(
+                    earlier(version, step, 1 + int(rng.random() * 10)),
+                    [read() for _ in range(64)],
+                    [short_range(100) for _ in range(16)],
+                )
+                for _ in range(100)
+            ],
+        )
 
 
 def longkeys(rng: random.Random, scale: float) -> Iterator[Batch]:
-    """Keys of 1,000 bytes whose first 900 are equal: 4 reads and 2 writes per transaction, 40 transactions per batch."""
+    """Keys of 1,000 bytes whose first 900 are equal.
+
+    4 reads and 2 writes per transaction, 40 transactions per batch.
+    """
     step = 166_666
     stem = bytes(97 + (i * i + i // 7) % 26 for i in range(900))
     prefixes = [stem + (b'/%02d' % number) + stem[number:number + 77] for number in range(20)]
@@ -158,13 +194,22 @@ def longkeys(rng: random.Random, scale: float) -> Iterator[Batch]:
 
     for index in scaled(100, scale):
         version = (index + 1) * step
-        yield version, [encode_transaction(earlier(version, step, 1 + int(rng.random() * 6)),
-                                           [single(), single(), single(), short_range()], [single(), single()])
-                        for _ in range(40)]
+        yield (
+            version,
+            [
+                encode_transaction(
+                    earlier(version, step, 1 + int(rng.random() * 6)),
+                    [single(), single(), single(), short_range()],
+                    [single(), single()],
+                )
+                for _ in range(40)
+            ],
+        )
 
 
 def growth(window_batches: int) -> Shape:
-    """Returns a shape whose window contains that many batches: 5 reads and 2 writes of single keys, 50 per batch.
+    """Returns a shape whose window contains that many batches: 5 reads and 2 writes of single keys,
+    50 per batch.
 
     The keys are the same for every number of batches; only the versions differ.
     """
@@ -200,7 +245,9 @@ def frames(shape: str, seed: int, scale: float) -> Iterator[bytes]:
 
 def main() -> None:
     """Writes the file that the command line names."""
-    parser = argparse.ArgumentParser(description=__doc__, formatter_class=argparse.RawDescriptionHelpFormatter)
+    parser = argparse.ArgumentParser(
+        description=__doc__, formatter_class=argparse.RawDescriptionHelpFormatter
+    )
     parser.add_argument('shape', choices=SHAPES)
     parser.add_argument('file', type=pathlib.Path)
     parser.add_argument('--seed', type=int, default=0)

@@ -1,8 +1,9 @@
 // SPDX-License-Identifier: Apache-2.0
-// spawn OUTPUT PROGRAM ARGUMENT..: runs a program with its standard output in a file, and prints its seconds, its peak memory in KiB
-// and its exit status.
+// spawn OUTPUT PROGRAM ARGUMENT..: runs a program with its standard output in a file, and prints
+// its seconds, its peak memory in KiB and its exit status.
 //
-// The peak memory of a process on Linux begins with that of the process that forked it. This program is smaller than all that it runs.
+// The peak memory of a process on Linux begins with that of the process that forked it. This
+// program is smaller than all that it runs.
 #define _GNU_SOURCE
 #include <fcntl.h>
 #include <stdio.h>
@@ -34,6 +35,7 @@ int main(int count, char **arguments) {
     int status;
     struct rusage usage;
     if (wait4(child, &status, 0, &usage) != child) return perror("spawn"), 1;
-    printf("%.6f %ld %d\n", now() - start, usage.ru_maxrss, WIFEXITED(status) ? WEXITSTATUS(status) : 128 + WTERMSIG(status));
+    printf("%.6f %ld %d\n", now() - start, usage.ru_maxrss,
+           WIFEXITED(status) ? WEXITSTATUS(status) : 128 + WTERMSIG(status));
     return 0;
 }

@@ -177,7 +177,9 @@ def write_workspace(target: Path, real: frozenset[str], added: list[Path]) -> No
         shutil.rmtree(target / folder.name, ignore_errors=True)
         shutil.copytree(folder, target / folder.name)
     names = ["rattle_std", *crates]
-    members = "".join(f'    "{name}",\n' for name in (*names, FACADE.name, *(a.name for a in added)))
+    members = "".join(
+        f'    "{name}",\n' for name in (*names, FACADE.name, *(a.name for a in added))
+    )
     paths = "".join(PATH.format(name=name, version=VERSION) for name in names)
     workspace = WORKSPACE.format(members=members, version=VERSION, paths=paths)
     (target / "Cargo.toml").write_text(workspace)

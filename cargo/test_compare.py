@@ -27,12 +27,16 @@ class Encoder(unittest.TestCase):
         self.assertEqual(batch_frame(batch_of("0>100: W[a,b)")), rows.ONE_WRITE)
         self.assertEqual(batch_frame(batch_of("0>100: W[a,b)"), 2), rows.ONE_WRITE_2)
         self.assertEqual(batch_frame(batch_of("0>100: W[k]"), 2), rows.SINGLE_KEY_2)
-        self.assertEqual(batch_frame(batch_of("-1>0"), 2), rows.EMPTY_BATCH.replace(b"\1", b"\3", 1))
+        self.assertEqual(
+            batch_frame(batch_of("-1>0"), 2), rows.EMPTY_BATCH.replace(b"\1", b"\3", 1)
+        )
 
     def test_replies(self) -> None:
         self.assertEqual(reply_frame(reply_of("0 empty")), wire_rows.EMPTY_REPLY)
         self.assertEqual(reply_frame(reply_of("100 committed")), wire_rows.ONE_COMMITTED)
-        self.assertEqual(reply_frame(reply_of("100 committed conflict:0")), wire_rows.COMMITTED_AND_CONFLICT)
+        self.assertEqual(
+            reply_frame(reply_of("100 committed conflict:0")), wire_rows.COMMITTED_AND_CONFLICT
+        )
 
     def test_reads_back(self) -> None:
         chance = Random(1)
@@ -78,20 +82,33 @@ class Reference(unittest.TestCase):
         for row in rows.ROWS + rows.SHARING:
             if row.err.startswith("replay: stop") or row.name.startswith("window"):
                 continue
-            form = "json" if "--json" in row.options else "frames" if "--frames" in row.options else "words"
+            form = (
+                "json"
+                if "--json" in row.options
+                else "frames"
+                if "--frames" in row.options
+                else "words"
+            )
             files = [batches_file(parts, 1) for parts in row.files]
-            self.assertEqual(replay_outcome(files, form), Outcome(row.status, row.out.encode(), row.err.encode()), row.name)
+            self.assertEqual(
+                replay_outcome(files, form),
+                Outcome(row.status, row.out.encode(), row.err.encode()),
+                row.name,
+            )
 
     def test_full_gate(self) -> None:
         with self.assertRaises(Unspecified):
             resolve([[Batch(version, version + 1) for version in range(10, 1_035)]])
 
     def test_order_of_files(self) -> None:
-        """What is drawn for several proxies has the same answers whichever batches are taken first."""
+        """Files drawn for several proxies have the same answers, whichever batches come first."""
         chance = Random(3)
         for _ in range(100):
             drawer, window, chain = replays.draw_chain(chance)
-            files = [batches.disturbed_file(chance, some, drawer) for some in batches.dealt(chance, chain, 3)]
+            files = [
+                batches.disturbed_file(chance, some, drawer)
+                for some in batches.dealt(chance, chain, 3)
+            ]
             in_sequence = resolve(files, window or 1_000)
             for _ in range(3):
                 self.assertEqual(resolve_mixed(chance, files, window or 1_000), in_sequence)
@@ -106,7 +123,10 @@ def resolve_mixed(chance: Random, files: list[list[Batch]], window: int) -> list
     for proxy in turns:
         resolver.admit(proxy, next(left[proxy]))
     resolver.finish()
-    return [sorted(resolver.answers.get(proxy, []), key=lambda one: one.version) for proxy in range(len(files))]
+    return [
+        sorted(resolver.answers.get(proxy, []), key=lambda one: one.version)
+        for proxy in range(len(files))
+    ]
 
 
 class Texts(unittest.TestCase):
@@ -119,13 +139,20 @@ class Texts(unittest.TestCase):
 
     def test_lines(self) -> None:
         for line, batch, written in (row.split(" => ") for row in json_rows.WRITTEN.split("\n")):
-            self.assertEqual(json.loads(written).keys() | {"received"}, json.loads(line).keys() | {"received"})
+            self.assertEqual(
+                json.loads(written).keys() | {"received"}, json.loads(line).keys() | {"received"}
+            )
             self.assertEqual(batch_line(batch_of(batch)), written)
-        for _, reply, written in (row.split(" => ") for row in json_rows.WRITTEN_REPLIES.split("\n")):
+        for _, reply, written in (
+            row.split(" => ") for row in json_rows.WRITTEN_REPLIES.split("\n")
+        ):
             self.assertEqual(reply_line(reply_of(reply)), written)
         for reply in (row.split(" => ")[1] for row in json_rows.READ_REPLIES.split("\n")):
             self.assertIn("verdicts", json.loads(reply_line(reply_of(reply))))
-        self.assertEqual(turned(rows.EMPTY_BATCH, "decode", False).out, (batch_line(Batch(-1, 0)) + "\n").encode())
+        self.assertEqual(
+            turned(rows.EMPTY_BATCH, "decode", False).out,
+            (batch_line(Batch(-1, 0)) + "\n").encode(),
+        )
 
     def test_spellings_are_json(self) -> None:
         """Each spelling of a batch has the value of its line."""
@@ -152,7 +179,9 @@ class Comparing(unittest.TestCase):
         self.assertFalse(differs(self.run_of(), refused))
         self.assertTrue(differs(self.run_of("workload"), refused))
         self.assertTrue(differs(self.run_of(), refused | {"other": Outcome(2, b"", b"")}))
-        self.assertTrue(differs(self.run_of(), refused | {"other": Outcome(2, b"", b"warning: b\n")}))
+        self.assertTrue(
+            differs(self.run_of(), refused | {"other": Outcome(2, b"", b"warning: b\n")})
+        )
         self.assertFalse(is_silent(replace(self.run_of(), says=b"error: "), refused))
         self.assertTrue(is_silent(replace(self.run_of(), says=b"error: a\n"), refused))
         help_texts = {"one": Outcome(0, b"help\n", b""), "other": Outcome(0, b"other help\n", b"")}
@@ -178,7 +207,7 @@ class Drawing(unittest.TestCase):
         self.assertEqual(len(found), len(FEATURES))
 
     def test_one_file_has_a_previous_version(self) -> None:
-        """Of several proxies one alone has the batches after a previous version, or there are only right ones."""
+        """Of several proxies one alone has the batches after a version, or all are right ones."""
         chance = Random(4)
         for _ in range(100):
             case: Case = replays.draw_many(chance)
@@ -193,9 +222,14 @@ class Drawing(unittest.TestCase):
         chance = Random(6)
         faults = set()
         for _ in range(3_000):
-            frame = batch_frame(chance.choice(batches.draw_drawer(chance).chain(3, (1,))), chance.choice((1, 2)))
+            frame = batch_frame(
+                chance.choice(batches.draw_drawer(chance).chain(3, (1,))), chance.choice((1, 2))
+            )
             faults.add(frames(damage.damaged(chance, frame), read_batch)[1])
-        names = {"1 Short", "2 Long", "3 Kind", "4 Trailing", "5 Version", "6 Marks", "7 Count", "8 KeyLength", "9 Inverted", "10 Cut", "13 Form", "14 Spelling"}
+        names = {
+            "1 Short", "2 Long", "3 Kind", "4 Trailing", "5 Version", "6 Marks", "7 Count",
+            "8 KeyLength", "9 Inverted", "10 Cut", "13 Form", "14 Spelling",
+        }
         self.assertLessEqual(names, faults)
 
     def test_files_are_named_once(self) -> None:
@@ -206,7 +240,9 @@ class Drawing(unittest.TestCase):
 
     def test_examples(self) -> None:
         names = {case.name for case in example_cases()}
-        self.assertLessEqual({"first_run", "two_proxies", "conflicts", "conflicts.jsonl", "tutorial.jsonl"}, names)
+        self.assertLessEqual(
+            {"first_run", "two_proxies", "conflicts", "conflicts.jsonl", "tutorial.jsonl"}, names
+        )
 
 
 if __name__ == "__main__":

@@ -91,26 +91,39 @@ pub struct Held<T: Send> {
         self.assertEqual(erased(text), text)
 
     def test_loop_loses_its_invariant(self) -> None:
-        text = "fn f() {\n    for i in 0..3\n        invariant sum { s ≡ i }\n    {\n        g(i);\n    }\n}\n"
+        text = (
+            "fn f() {\n    for i in 0..3\n        invariant sum { s ≡ i }\n    {\n        g(i);\n"
+            "    }\n}\n"
+        )
         self.assertEqual(erased(text), "fn f() {\n    for i in 0..3 {\n        g(i);\n    }\n}\n")
 
     def test_error_is_written_out_or_kept(self) -> None:
-        text = 'use thiserror::Error;\n\n#[derive(Debug, Error)]\npub enum Fault {\n    #[error("1 Memory")]\n    Memory,\n    #[error("line {0}: {1}")]\n    Line(u64, u8),\n}\n'
+        text = (
+            'use thiserror::Error;\n\n#[derive(Debug, Error)]\npub enum Fault {\n    #[error("1 '
+            'Memory")]\n    Memory,\n    #[error("line {0}: {1}")]\n    Line(u64, u8),\n}\n'
+        )
         written = erased(text, ("thiserror",))
         self.assertIn('Self::Memory => write!(f, "1 Memory"),', written)
-        self.assertIn('Self::Line(value0, value1) => write!(f, "line {0}: {1}", value0, value1),', written)
+        self.assertIn(
+            'Self::Line(value0, value1) => write!(f, "line {0}: {1}", value0, value1),', written
+        )
         self.assertIn("impl std::error::Error for Fault {}", written)
         self.assertNotIn("thiserror", written)
         self.assertEqual(erased(text, ("thiserror",), ALL_REAL), text)
 
     def test_crates_of_the_kit_are_stand_ins_or_real(self) -> None:
         text = "use itoa::Buffer;\nuse crate::itoa::Other;\n"
-        self.assertEqual(erased(text, ("itoa",)), "use rattle_std::itoa::Buffer;\nuse crate::itoa::Other;\n")
+        self.assertEqual(
+            erased(text, ("itoa",)), "use rattle_std::itoa::Buffer;\nuse crate::itoa::Other;\n"
+        )
         self.assertEqual(erased(text, ("itoa",), ALL_REAL), text)
         self.assertEqual(erased(text), text)
 
     def test_main_makes_its_handle(self) -> None:
-        self.assertEqual(erased("fn main(rt: HostRuntime) -> u8 {\n    0\n}\n"), "fn main() -> u8 {\n    let rt = HostRuntime::new();\n    0\n}\n")
+        self.assertEqual(
+            erased("fn main(rt: HostRuntime) -> u8 {\n    0\n}\n"),
+            "fn main() -> u8 {\n    let rt = HostRuntime::new();\n    0\n}\n",
+        )
 
     def test_tests_of_the_gate_are_left_out(self) -> None:
         module = "#[cfg(test)]\nmod tests {\n    use super::*;\n\n    fn g() {}\n}\n"
@@ -185,7 +198,11 @@ class Refusals(unittest.TestCase):
             ("#[cfg(test)]\nmod tests;\n", 1, "cfg"),
             ("impl Model for A {\n    fn f() {}\n}\n", 1, "Model"),
             ("#[derive(Error, Debug)]\npub enum F {}\n", 1, "Error"),
-            ("use thiserror::Error;\n#[derive(Debug, Error)]\npub enum F {\n    A,\n}\n", 4, "without an error"),
+            (
+                "use thiserror::Error;\n#[derive(Debug, Error)]\npub enum F {\n    A,\n}\n",
+                4,
+                "without an error",
+            ),
         ]
         for text, line, reason in cases:
             with self.subTest(text=text):

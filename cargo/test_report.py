@@ -1,4 +1,4 @@
-"""The page of `batches report` has the numbers that plain counting gives, for random batches and replies."""
+"""The page of `batches report` has the numbers of plain counting, for random files."""
 
 import html
 import json
@@ -25,15 +25,24 @@ def draw_batch(chance: random.Random, version: int) -> Json:
         reads = [draw_range() for _ in range(chance.randint(1, 4))]
         return {"snapshot": snapshot, "report": True, "reads": reads, "writes": []}
 
-    return {"previous": version - 1, "version": version, "transactions": [draw_txn() for _ in range(chance.randint(0, 5))]}
+    return {
+        "previous": version - 1,
+        "version": version,
+        "transactions": [draw_txn() for _ in range(chance.randint(0, 5))],
+    }
 
 
 def draw_reply(chance: random.Random, batch: Json) -> Json:
     def draw_verdict(txn: Json) -> object:
         places = [place for place in range(len(txn["reads"])) if chance.random() < 0.5]
-        return chance.choice(("committed", "tooold", "conflict", {"conflict": places} if places else "conflict"))
+        return chance.choice(
+            ("committed", "tooold", "conflict", {"conflict": places} if places else "conflict")
+        )
 
-    return {"version": batch["version"], "verdicts": [draw_verdict(txn) for txn in batch["transactions"]]}
+    return {
+        "version": batch["version"],
+        "verdicts": [draw_verdict(txn) for txn in batch["transactions"]],
+    }
 
 
 def lines_of(values: list[Json]) -> bytes:
@@ -57,20 +66,41 @@ class Plain:
 
     def __init__(self, batches: list[Json], replies: list[Json]) -> None:
         first = {reply["version"]: reply for reply in reversed(replies)}
-        chosen = {batch["version"]: batch for batch in reversed(batches) if batch["version"] in first}
-        self.judged = [(batch, first[version]["verdicts"]) for version, batch in sorted(chosen.items())]
+        chosen = {
+            batch["version"]: batch for batch in reversed(batches) if batch["version"] in first
+        }
+        self.judged = [
+            (batch, first[version]["verdicts"]) for version, batch in sorted(chosen.items())
+        ]
         self.verdicts = [verdict for _, verdicts in self.judged for verdict in verdicts]
 
     def page_verdicts(self) -> list[tuple[str, ...]]:
-        count, found = len(self.verdicts), Counter("conflict" if is_conflict(verdict) else verdict for verdict in self.verdicts)
-        rows = [(name, found[word]) for name, word in (("committed", "committed"), ("conflict", "conflict"), ("too old", "tooold"))]
+        count, found = (
+            len(self.verdicts),
+            Counter("conflict" if is_conflict(verdict) else verdict for verdict in self.verdicts),
+        )
+        rows = [
+            (name, found[word])
+            for name, word in (
+                ("committed", "committed"), ("conflict", "conflict"), ("too old", "tooold")
+            )
+        ]
         return [(name, str(part), share(part, count)) for name, part in (*rows, ("all", count))]
 
     def between(self, first: int, last: int) -> list[object]:
-        return [verdict for batch, verdicts in self.judged if first <= batch["version"] <= last for verdict in verdicts]
+        return [
+            verdict
+            for batch, verdicts in self.judged
+            if first <= batch["version"] <= last
+            for verdict in verdicts
+        ]
 
     def ages(self) -> list[int]:
-        pairs = [(batch["version"], txn, verdict) for batch, verdicts in self.judged for txn, verdict in zip(batch["transactions"], verdicts)]
+        pairs = [
+            (batch["version"], txn, verdict)
+            for batch, verdicts in self.judged
+            for txn, verdict in zip(batch["transactions"], verdicts)
+        ]
         return [version - txn["snapshot"] for version, txn, verdict in pairs if verdict == "tooold"]
 
     def hot(self) -> list[tuple[str, int]]:
@@ -89,13 +119,25 @@ class Report(unittest.TestCase):
         self.folder = pathlib.Path(folder.name)
 
     def encode(self, name: str, values: list[Json], *options: str) -> str:
-        run = subprocess.run([BATCHES, "encode", *options], input=lines_of(values), stdout=subprocess.PIPE, check=True, timeout=60)
+        run = subprocess.run(
+            [BATCHES, "encode", *options],
+            input=lines_of(values),
+            stdout=subprocess.PIPE,
+            check=True,
+            timeout=60,
+        )
         (self.folder / name).write_bytes(run.stdout)
         return str(self.folder / name)
 
     def page(self, batches: list[Json], replies: list[Json]) -> str:
-        files = self.encode("batches", batches), "--replies", self.encode("replies", replies, "--replies")
-        run = subprocess.run([BATCHES, "report", *files], stdout=subprocess.PIPE, check=True, timeout=60)
+        files = (
+            self.encode("batches", batches),
+            "--replies",
+            self.encode("replies", replies, "--replies"),
+        )
+        run = subprocess.run(
+            [BATCHES, "report", *files], stdout=subprocess.PIPE, check=True, timeout=60
+        )
         page = self.folder / "page.html"
         page.write_bytes(run.stdout + b"bytes from before")
         subprocess.run([BATCHES, "report", *files, "-o", page], check=True, timeout=60)
@@ -114,9 +156,14 @@ class Report(unittest.TestCase):
         page, plain = self.page(batches, replies), Plain(batches, replies)
         self.assertIn(f"<p>{len(plain.judged)} batches with their replies.", page)
         self.assertEqual(self.rows(page, "Verdicts"), plain.page_verdicts())
-        for title, counts in (("Conflicts over versions", is_conflict), ("Too old over versions", lambda verdict: verdict == "tooold")):
+        for title, counts in (
+            ("Conflicts over versions", is_conflict),
+            ("Too old over versions", lambda verdict: verdict == "tooold"),
+        ):
             self.check_plot(self.section(page, title), plain, counts)
-        for window, count, part in self.rows(page, "Snapshot age of transactions that were too old"):
+        for window, count, part in self.rows(
+            page, "Snapshot age of transactions that were too old"
+        ):
             covered = sum(age <= int(window) for age in plain.ages())
             self.assertEqual((int(count), part), (covered, share(covered, len(plain.ages()))))
         sizes = [len(batch["transactions"]) for batch, _ in plain.judged]
@@ -128,17 +175,24 @@ class Report(unittest.TestCase):
         self.check_hot(page, plain)
 
     def check_plot(self, section: str, plain: Plain, counts: object) -> None:
-        found = re.findall(r"<title>versions (\d+) to (\d+): (\d+) of (\d+), (.*?)</title>", section)
+        found = re.findall(
+            r"<title>versions (\d+) to (\d+): (\d+) of (\d+), (.*?)</title>", section
+        )
         for first, last, count, txns, part in found:
             verdicts = plain.between(int(first), int(last))
             wanted = sum(map(counts, verdicts))
-            self.assertEqual((int(count), int(txns), part), (wanted, len(verdicts), share(wanted, len(verdicts))))
+            self.assertEqual(
+                (int(count), int(txns), part), (wanted, len(verdicts), share(wanted, len(verdicts)))
+            )
         total = sum(map(counts, plain.verdicts))
         self.assertEqual(sum(int(count) for _, _, count, _, _ in found), total)
         self.assertEqual("<p>none</p>" in section, total == 0)
 
     def check_hot(self, page: str, plain: Plain) -> None:
-        wanted = [(name[:120] + "..." if len(name) > 120 else name, str(count)) for name, count in plain.hot()]
+        wanted = [
+            (name[:120] + "..." if len(name) > 120 else name, str(count))
+            for name, count in plain.hot()
+        ]
         self.assertEqual(self.rows(page, "Hot ranges"), wanted)
         conflicts = sum(map(is_conflict, plain.verdicts))
         reported = sum(isinstance(verdict, dict) for verdict in plain.verdicts)
@@ -148,17 +202,31 @@ class Report(unittest.TestCase):
     def test_random(self) -> None:
         for seed in range(20):
             chance = random.Random(seed)
-            versions = [chance.randrange(2_000) * chance.choice((1, 1, 1_000)) for _ in range(chance.randint(0, 60))]
+            versions = [
+                chance.randrange(2_000) * chance.choice((1, 1, 1_000))
+                for _ in range(chance.randint(0, 60))
+            ]
             batches = [draw_batch(chance, version) for version in versions]
             first = {batch["version"]: batch for batch in reversed(batches)}
-            replies = [draw_reply(chance, first[version]) for version in versions if chance.random() < 0.9]
-            replies += [{"version": 10**12 + number, "verdicts": []} for number in range(chance.randint(0, 2))]
+            replies = [
+                draw_reply(chance, first[version]) for version in versions if chance.random() < 0.9
+            ]
+            replies += [
+                {"version": 10**12 + number, "verdicts": []}
+                for number in range(chance.randint(0, 2))
+            ]
             with self.subTest(seed=seed):
                 self.check(batches, replies)
 
     def test_unfit(self) -> None:
-        batches, replies = [draw_batch(random.Random(1), 5)], [{"version": 5, "verdicts": ["committed"] * 9}]
-        files = self.encode("batches", batches), "--replies", self.encode("replies", replies, "--replies")
+        batches, replies = (
+            [draw_batch(random.Random(1), 5)], [{"version": 5, "verdicts": ["committed"] * 9}]
+        )
+        files = (
+            self.encode("batches", batches),
+            "--replies",
+            self.encode("replies", replies, "--replies"),
+        )
         run = subprocess.run([BATCHES, "report", *files], capture_output=True, timeout=60)
         said = f"batches: {files[0]}: the reply of version 5 doesn't fit its batch\n".encode()
         self.assertEqual((run.returncode, run.stdout, run.stderr), (1, b"", said))

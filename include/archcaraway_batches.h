@@ -13,8 +13,8 @@ extern "C" {
 #endif
 
 /*
- * A key that is borrowed: the library reads it during the call alone. A null pointer with the length
- * 0 is the empty key.
+ * A key that is borrowed: the library reads it during the call alone. A null pointer with the
+ * length 0 is the empty key.
  */
 typedef struct archcaraway_bytes {
     const uint8_t *bytes;
@@ -23,7 +23,8 @@ typedef struct archcaraway_bytes {
 
 /*
  * The range from `begin` up to `end`, without `end`. If `single` is true it is the key `begin`
- * alone, and `end` isn't looked at. So a range whose end was forgotten isn't taken for a single key.
+ * alone, and `end` isn't looked at. So a range whose end was forgotten isn't taken for a single
+ * key.
  */
 typedef struct archcaraway_range {
     archcaraway_bytes begin;

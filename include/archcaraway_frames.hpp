@@ -3,8 +3,9 @@
 // archcaraway_frames.hpp: batches and replies as frames, for C++17 and later. Header only, over
 // archcaraway_frames.h; archcaraway.hpp includes it.
 //
-// A call that is refused throws archcaraway::Error. Without exceptions (-fno-exceptions) such a call
-// prints the text of its status and aborts; a program that expects refusals calls the C functions.
+// A call that is refused throws archcaraway::Error. Without exceptions (-fno-exceptions) such a
+// call prints the text of its status and aborts; a program that expects refusals calls the C
+// functions.
 //
 // Bytes are given as a View: a std::string, a std::string_view, a std::vector<std::uint8_t> or a
 // literal. A literal has all of its bytes, zeros too: "k\0" has two. A `const char*` and a `char[]`

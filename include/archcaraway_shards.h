@@ -70,9 +70,10 @@ void archcaraway_split_points_free(archcaraway_split_points *points);
 /*
  * Clips the batch of a frame of `length` bytes to a shard, from 0 on, and writes the frame of the
  * clip to `clip`, which has `capacity` bytes. The clip has the versions of the batch, and each of
- * its transactions at its index, with those of its ranges that go to the shard. A range goes to each
- * shard that has a key of it, and is cut to the keys of that shard. An empty range goes to the shard
- * of its begin. The frame of the clip is of version 2 of the form, and its length is `*clip_length`.
+ * its transactions at its index, with those of its ranges that go to the shard. A range goes to
+ * each shard that has a key of it, and is cut to the keys of that shard. An empty range goes to the
+ * shard of its begin. The frame of the clip is of version 2 of the form, and its length is
+ * `*clip_length`.
  *
  * Statuses, of which the first that applies is returned:
  *  - ARGUMENT: also if there is no such shard
@@ -99,16 +100,16 @@ int archcaraway_clip(const archcaraway_split_points *points, size_t shard, const
  *  - FRAME_.. and BEHIND of the batch: its bytes aren't one frame
  *  - FRAME_.. of a reply, by its first fault. FRAME_SHORT if the reply of a shard is missing
  *  - BEHIND: bytes follow the reply of the last shard
- *  - MISFIT_..: a reply isn't one to the clip of this batch. That of another batch is refused by its
- *    version
+ *  - MISFIT_..: a reply isn't one to the clip of this batch. That of another batch is refused by
+ *    its version
  *  - BUFFER, with the needed capacity in `*reply_length`
  *  - OK
  * FRAME_MEMORY may come instead of any but ARGUMENT. `*reply_length` is 0 after any other status.
  * With a status of a reply, and if memory was refused while it was read, `*bad` is its shard, else
  * the number of shards. `bad` may be null.
  *
- * A reply with the right version and the right number of transactions is believed. So the answers of
- * two resolvers must not be exchanged: keep a connection per resolver.
+ * A reply with the right version and the right number of transactions is believed. So the answers
+ * of two resolvers must not be exchanged: keep a connection per resolver.
  */
 int archcaraway_combine(const archcaraway_split_points *points, const uint8_t *frame, size_t length,
                         const uint8_t *replies, size_t replies_length, uint8_t *reply,

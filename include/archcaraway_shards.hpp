@@ -55,11 +55,13 @@ public:
     Reply combine(View frame, View replies, std::vector<std::uint8_t>& reply) const {
         std::size_t length = 0;
         int status = archcaraway_combine(&points_, frame.data, frame.size, replies.data,
-                                         replies.size, reply.data(), reply.size(), &length, nullptr);
+                                         replies.size, reply.data(), reply.size(), &length,
+                                         nullptr);
         if (status == ARCHCARAWAY_BUFFER) {
             reply.resize(length);
             status = archcaraway_combine(&points_, frame.data, frame.size, replies.data,
-                                         replies.size, reply.data(), reply.size(), &length, nullptr);
+                                         replies.size, reply.data(), reply.size(), &length,
+                                         nullptr);
         }
         check(status);
         return Reply(View(reply.data(), length));

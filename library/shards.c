@@ -2,8 +2,8 @@
 /*
  * The functions of archcaraway_shards.h. Not proved.
  *
- * Each tests its pointers and lengths, and calls the proved export of the same name. A proved export
- * takes no array of pointers, so the keys of split points are copied here into one buffer.
+ * Each tests its pointers and lengths, and calls the proved export of the same name. A proved
+ * export takes no array of pointers, so the keys of split points are copied here into one buffer.
  */
 #include <stdlib.h>
 #include <string.h>
@@ -98,8 +98,8 @@ int archcaraway_clip(const archcaraway_split_points *points, size_t shard, const
     if (is_none(points) || !is_span(frame, length) || !is_span(clip, capacity)) {
         return ARCHCARAWAY_ARGUMENT;
     }
-    return archcaraway_export_clip(*points, shard, readable(frame), length, writable(clip), capacity,
-                                   clip_length, &at);
+    return archcaraway_export_clip(*points, shard, readable(frame), length, writable(clip),
+                                   capacity, clip_length, &at);
 }
 
 int archcaraway_combine(const archcaraway_split_points *points, const uint8_t *frame, size_t length,

@@ -25,7 +25,7 @@ NAMES: tuple[str, ...] = ('replay', *CXX_PROGRAMS, *RUST_PROGRAMS)
 
 @dataclass(frozen=True)
 class Program:
-    """A program that prints the verdicts of a file, and the command that prints the nanoseconds of each batch."""
+    """A program that prints the verdicts of a file, and the command that times each batch."""
 
     name: str
     path: pathlib.Path
@@ -49,19 +49,27 @@ def edition() -> str:
 
 
 def own_program(name: str) -> pathlib.Path:
-    """Returns the path of `replay` or `workload`: the proved program, or else that of the Cargo edition."""
+    """Returns the path of `replay` or `workload`: the proved one, or that of the Cargo edition."""
     proved = TOP / 'crates' / name / 'out' / name
     return proved if proved.exists() else TOP / 'out' / 'quick' / name
 
 
 def build_own(latency: bool) -> None:
-    """Builds `replay` and `workload` unless they are proved and built, and the program that times batches."""
+    """Builds the program that times batches.
+
+    Builds `replay` and `workload` too, unless they are proved and built.
+    """
     if not all((TOP / 'crates' / name / 'out' / name).exists() for name in ('replay', 'workload')):
         run(['make', '--no-print-directory', 'quick'])
     if latency:
         run(['cargo/erase.py', str(OUT / 'workspace'), '--add', 'bench/latency'])
-        run(['cargo', 'build', '--manifest-path', str(OUT / 'workspace' / 'Cargo.toml'), '--release', '--offline', '--quiet',
-             '--bin', 'archcaraway-latency'], RUST_FLAGS)
+        run(
+            [
+                'cargo', 'build', '--manifest-path', str(OUT / 'workspace' / 'Cargo.toml'),
+                '--release', '--offline', '--quiet', '--bin', 'archcaraway-latency',
+            ],
+            RUST_FLAGS,
+        )
 
 
 def build_baselines() -> None:
@@ -69,9 +77,19 @@ def build_baselines() -> None:
     OUT.mkdir(parents=True, exist_ok=True)
     run([os.environ.get('CC', 'cc'), '-O2', '-o', str(OUT / 'spawn'), 'bench/spawn.c'])
     for name, (folder, definitions) in CXX_PROGRAMS.items():
-        run([os.environ.get('CXX', 'c++'), *CXX_FLAGS, *definitions, '-o', str(OUT / name), str(BASELINES / folder / 'main.cpp')])
-    run(['cargo', 'build', '--manifest-path', str(BASELINES / 'Cargo.toml'), '--target-dir', str(OUT / 'target'), '--release',
-         '--offline', '--locked', '--quiet'], RUST_FLAGS)
+        run(
+            [
+                os.environ.get('CXX', 'c++'), *CXX_FLAGS, *definitions, '-o', str(OUT / name),
+                str(BASELINES / folder / 'main.cpp'),
+            ]
+        )
+    run(
+        [
+            'cargo', 'build', '--manifest-path', str(BASELINES / 'Cargo.toml'), '--target-dir',
+            str(OUT / 'target'), '--release', '--offline', '--locked', '--quiet',
+        ],
+        RUST_FLAGS,
+    )
 
 
 def find(name: str) -> Program:

@@ -1,5 +1,5 @@
 # SPDX-License-Identifier: Apache-2.0
-"""Several resolvers: their times beside other programs, what they print together, and the conflicts that they add."""
+"""Several resolvers: their times, what they print together, and the conflicts that they add."""
 
 import csv
 import pathlib
@@ -19,16 +19,39 @@ from measuring.workloads import count as size_of
 WORDS = ('conflict', 'tooold', 'committed', 'empty')
 RANKS = {word: rank for rank, word in enumerate(WORDS)}
 ONE = 'replay-1'
-COLUMNS = ('workload', 'program', 'resolvers', 'batches', 'transactions', 'ranges', 'rounds',
-           *(f'{measure}_{part}' for measure in ('seconds', 'ratio_to_art', 'ratio_to_one', 'transactions_per_second')
-             for part in ('median', 'least', 'greatest')),
-           'peak_mib', 'committed', 'conflict', 'tooold', 'extra_conflicts')
+COLUMNS = (
+    'workload',
+    'program',
+    'resolvers',
+    'batches',
+    'transactions',
+    'ranges',
+    'rounds',
+    *(
+        f'{measure}_{part}'
+        for measure in ('seconds', 'ratio_to_art', 'ratio_to_one', 'transactions_per_second')
+        for part in ('median', 'least', 'greatest')
+    ),
+    'peak_mib',
+    'committed',
+    'conflict',
+    'tooold',
+    'extra_conflicts',
+)
 EXPLANATION = (
-    'seconds: complete processes, standard output to a file; each measure has its median, least and greatest over the rounds',
-    'ratio_to_art: seconds divided by those of the radix tree in the same round; below 1, replay is faster',
+    (
+        'seconds: complete processes, standard output to a file; '
+        'each measure has its median, least and greatest over the rounds'
+    ),
+    (
+        'ratio_to_art: seconds divided by those of the radix tree in the same round; '
+        'below 1, replay is faster'
+    ),
     'ratio_to_one: seconds divided by those of one resolver in the same round',
-    'extra_conflicts: conflicts beyond those of one resolver, which several resolvers report since each keeps the writes of '
-    'transactions that others reject',
+    (
+        'extra_conflicts: conflicts beyond those of one resolver, which several resolvers report '
+        'since each keeps the writes of transactions that others reject'
+    ),
 )
 
 
@@ -40,7 +63,9 @@ class Resolvers(Program):
 
     def command(self, limit: int, file: pathlib.Path) -> list[str]:
         """Returns the command that prints the verdicts."""
-        return [str(self.path), '--resolvers', str(self.resolvers), '--limit', str(limit), str(file)]
+        return [
+            str(self.path), '--resolvers', str(self.resolvers), '--limit', str(limit), str(file)
+        ]
 
 
 def runs_of(replay: pathlib.Path, most: int) -> list[Resolvers]:
@@ -49,11 +74,17 @@ def runs_of(replay: pathlib.Path, most: int) -> list[Resolvers]:
 
 
 def combined(lines: Sequence[str]) -> str:
-    """Returns the line of all shards, given that of each: the same proxy and version, and the least verdict of each transaction."""
+    """Returns the line of all shards, given that of each.
+
+    It has the same proxy and version, and the least verdict of each transaction.
+    """
     parts = [line.split() for line in lines]
     if len({(part[0], part[1], len(part)) for part in parts}) > 1:
         raise Different(f'the lines of shards are of different batches: {lines[0][:40]}')
-    words = (min(words, key=RANKS.__getitem__) for words in zip(*(part[2:] for part in parts), strict=True))
+    words = (
+        min(words, key=RANKS.__getitem__)
+        for words in zip(*(part[2:] for part in parts), strict=True)
+    )
     return ' '.join([*parts[0][:2], *words])
 
 
@@ -75,7 +106,17 @@ def check(workload: Workload, file: pathlib.Path, count: int) -> None:
     replay, batches = own_program('replay'), own_program('batches')
     points, together = folder / 'points', folder / 'together.txt'
     run_to(points, batches, 'split-points', '--resolvers', count, file)
-    run_to(together, replay, '--resolvers', count, '--split-points', points, '--limit', workload.limit, file)
+    run_to(
+        together,
+        replay,
+        '--resolvers',
+        count,
+        '--split-points',
+        points,
+        '--limit',
+        workload.limit,
+        file,
+    )
     outputs = []
     for shard in range(count):
         clip, output = folder / 'clip', folder / f'shard{shard}.txt'
@@ -87,7 +128,10 @@ def check(workload: Workload, file: pathlib.Path, count: int) -> None:
         with together.open() as whole:
             for number, (line, *own) in enumerate(zip(whole, *files, strict=True), 1):
                 if combined(own) != line.rstrip('\n'):
-                    raise Different(f'{workload.shape}: {count} resolvers print other verdicts than their shards, first in line {number}')
+                    raise Different(
+                        f'{workload.shape}: {count} resolvers print other verdicts than their '
+                        f'shards, first in line {number}'
+                    )
     finally:
         for each in files:
             each.close()
@@ -116,8 +160,18 @@ class Row:
         ratio = three(self.ratio, 2) if self.ratio else ['', '', '']
         parts = [*three(self.seconds, 3), *ratio, *three(self.to_one, 2), *three(rate, 0)]
         counts = (str(self.verdicts[word]) for word in ('committed', 'conflict', 'tooold'))
-        return [self.workload, self.program, '' if self.resolvers is None else str(self.resolvers), *map(str, self.size), str(self.ranges),
-                str(self.rounds), *parts, f'{self.peak_mib:.1f}', *counts, str(self.extra)]
+        return [
+            self.workload,
+            self.program,
+            '' if self.resolvers is None else str(self.resolvers),
+            *map(str, self.size),
+            str(self.ranges),
+            str(self.rounds),
+            *parts,
+            f'{self.peak_mib:.1f}',
+            *counts,
+            str(self.extra),
+        ]
 
 
 def three(found: Spread, decimals: int) -> list[str]:
@@ -125,7 +179,9 @@ def three(found: Spread, decimals: int) -> list[str]:
     return [f'{value:.{decimals}f}' for value in (found.median, found.least, found.greatest)]
 
 
-def measure(workload: Workload, file: pathlib.Path, built: Sequence[Program], rounds: int) -> list[Row]:
+def measure(
+    workload: Workload, file: pathlib.Path, built: Sequence[Program], rounds: int
+) -> list[Row]:
     """Runs every program once per round, and compares what they print."""
     by_name = {program.name: program for program in built}
     runs: dict[str, list[Run]] = {name: [] for name in by_name}
@@ -140,18 +196,41 @@ def measure(workload: Workload, file: pathlib.Path, built: Sequence[Program], ro
             compare(workload.shape, f'{name}-first', name, folder)
     if 'art' in by_name:
         compare(workload.shape, ONE, 'art', folder)
-    return rows_of(workload, size_of(file), by_name, runs, {name: verdicts((folder / f'{name}.txt').open()) for name in by_name})
+    return rows_of(
+        workload,
+        size_of(file),
+        by_name,
+        runs,
+        {name: verdicts((folder / f'{name}.txt').open()) for name in by_name},
+    )
 
 
-def rows_of(workload: Workload, size: tuple[int, int], built: dict[str, Program], runs: dict[str, list[Run]],
-            found: dict[str, Counter[str]]) -> list[Row]:
+def rows_of(
+    workload: Workload,
+    size: tuple[int, int],
+    built: dict[str, Program],
+    runs: dict[str, list[Run]],
+    found: dict[str, Counter[str]],
+) -> list[Row]:
     """Summarizes the rounds of each program."""
     seconds = {name: [run.seconds for run in own] for name, own in runs.items()}
-    return [Row(workload.shape, name, getattr(program, 'resolvers', None), size, workload.ranges, spread(seconds[name]),
-                ratios(seconds[name], seconds['art']) if 'art' in seconds else None, ratios(seconds[name], seconds[ONE]),
-                len(runs[name]),
-                max(run.peak_mib for run in runs[name]), found[name], found[name]['conflict'] - found[ONE]['conflict'])
-            for name, program in built.items()]
+    return [
+        Row(
+            workload.shape,
+            name,
+            getattr(program, 'resolvers', None),
+            size,
+            workload.ranges,
+            spread(seconds[name]),
+            ratios(seconds[name], seconds['art']) if 'art' in seconds else None,
+            ratios(seconds[name], seconds[ONE]),
+            len(runs[name]),
+            max(run.peak_mib for run in runs[name]),
+            found[name],
+            found[name]['conflict'] - found[ONE]['conflict'],
+        )
+        for name, program in built.items()
+    ]
 
 
 def table(rows: Sequence[Row]) -> str:
@@ -159,9 +238,20 @@ def table(rows: Sequence[Row]) -> str:
     lines = [['', 'seconds', 'ratio to art', 'conflicts', 'extra']]
     for row in rows:
         ratio = '{} ({}-{})'.format(*three(row.ratio, 2)) if row.ratio else ''
-        lines.append([row.program, '{} ({}-{})'.format(*three(row.seconds, 3)), ratio, str(row.verdicts['conflict']), str(row.extra)])
+        lines.append(
+            [
+                row.program,
+                '{} ({}-{})'.format(*three(row.seconds, 3)),
+                ratio,
+                str(row.verdicts['conflict']),
+                str(row.extra),
+            ]
+        )
     widths = [max(map(len, column)) for column in zip(*lines, strict=True)]
-    return '\n'.join('  '.join(cell.ljust(width) for cell, width in zip(line, widths, strict=True)).rstrip() for line in lines)
+    return '\n'.join(
+        '  '.join(cell.ljust(width) for cell, width in zip(line, widths, strict=True)).rstrip()
+        for line in lines
+    )
 
 
 def write(file: pathlib.Path, comments: Iterable[str], rows: Iterable[Row]) -> None:

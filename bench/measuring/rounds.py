@@ -45,24 +45,30 @@ def compare(workload: str, reference: str, program: str, folder: pathlib.Path) -
     """Compares the output of a program with that of the reference, byte by byte."""
     left, right = folder / f'{reference}.txt', folder / f'{program}.txt'
     if not filecmp.cmp(left, right, shallow=False):
-        raise Different(f'{workload}: {program} and {reference} print different verdicts, first in line '
-                        f'{first_difference(left, right)} of {right} and {left}')
+        raise Different(
+            f'{workload}: {program} and {reference} print different verdicts, first in line '
+            f'{first_difference(left, right)} of {right} and {left}'
+        )
 
 
 def run_process(program: Program, limit: int, file: pathlib.Path, output: pathlib.Path) -> Run:
     """Runs a program once with its standard output in a file."""
     command = [str(OUT / 'spawn'), str(output), *program.command(limit, file)]
-    seconds, kib, status = subprocess.run(command, check=True, capture_output=True, text=True).stdout.split()
+    seconds, kib, status = subprocess.run(
+        command, check=True, capture_output=True, text=True
+    ).stdout.split()
     if status != '0':
         raise SystemExit(f'measure: {program.name} ends with status {status} on {file}')
     return Run(float(seconds), int(kib) / 1024)
 
 
 def run_latency(program: Program, file: pathlib.Path) -> tuple[list[int], int | None]:
-    """Returns the nanoseconds of each batch, and the number of boundaries at the end if the program reports it."""
+    """Returns the nanoseconds of each batch, and the boundaries at the end if they are reported."""
     done = subprocess.run([*program.latency, str(file)], check=True, capture_output=True, text=True)
     number, _, unit = done.stderr.strip().partition(' ')
-    return [int(line) for line in done.stdout.split()], int(number) if unit == 'boundaries' else None
+    return (
+        [int(line) for line in done.stdout.split()], int(number) if unit == 'boundaries' else None
+    )
 
 
 @dataclass
@@ -73,7 +79,9 @@ class Rounds:
     boundaries: int | None = None
 
 
-def measure(shape: str, limit: int, file: pathlib.Path, programs: list[Program], rounds: int, latency: bool) -> Rounds:
+def measure(
+    shape: str, limit: int, file: pathlib.Path, programs: list[Program], rounds: int, latency: bool
+) -> Rounds:
     """Runs every program once per round. Raises `Different` if two outputs differ."""
     by_name = {program.name: program for program in programs}
     measured = Rounds({program.name: [] for program in programs})
@@ -85,7 +93,12 @@ def measure(shape: str, limit: int, file: pathlib.Path, programs: list[Program],
             run = run_process(by_name[name], limit, file, folder / f'{name}.txt')
             if latency:
                 nanoseconds, boundaries = run_latency(by_name[name], file)
-                run = Run(run.seconds, run.peak_mib, percentile(nanoseconds, 50) / 1e3, percentile(nanoseconds, 99) / 1e3)
+                run = Run(
+                    run.seconds,
+                    run.peak_mib,
+                    percentile(nanoseconds, 50) / 1e3,
+                    percentile(nanoseconds, 99) / 1e3,
+                )
                 measured.boundaries = measured.boundaries if boundaries is None else boundaries
             measured.runs[name].append(run)
         reference = 'replay' if 'replay' in by_name else order[0]

@@ -7,7 +7,10 @@ from statistics import median
 
 
 def percentile(values: Sequence[float], percent: int) -> float:
-    """Returns the least value that at least that many percent of the values do not exceed (nearest rank)."""
+    """Returns a percentile by the nearest rank.
+
+    It is the least value that at least that many percent of the values do not exceed.
+    """
     rank = -(-percent * len(values) // 100)
     return sorted(values)[max(rank, 1) - 1]
 

@@ -15,16 +15,22 @@ MAX_LIMIT = 16_777_216
 
 @dataclass(frozen=True)
 class Workload:
-    """A shape, its ranges per transaction, and what `replay` and the program `workload` get as arguments."""
+    """A shape, its ranges per transaction, and the arguments of `replay` and `workload`."""
 
     shape: str
     ranges: int
-    # Batches, and transactions per batch, for the program `workload`; None for a shape of bench/shapes.py.
+    # Batches, and transactions per batch, for the program `workload`; None for a shape of
+    # bench/shapes.py.
     size: tuple[int, int] | None = None
     limit: int = DEFAULT_LIMIT
 
-    def command(self, generator: pathlib.Path, file: pathlib.Path, seed: int, scale: float) -> list[str]:
-        """Returns the command that writes the file; the program `workload` writes to its standard output instead."""
+    def command(
+        self, generator: pathlib.Path, file: pathlib.Path, seed: int, scale: float
+    ) -> list[str]:
+        """Returns the command that writes the file.
+
+        The program `workload` writes to its standard output instead.
+        """
         if self.size is None:
             return [sys.executable, '-B', str(TOP / 'bench' / 'shapes.py'), self.shape, str(file),
                     '--seed', str(seed), '--scale', repr(scale)]

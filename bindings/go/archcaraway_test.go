@@ -238,7 +238,8 @@ func TestStartAtAVersion(t *testing.T) {
 			t.Fatal(err)
 		}
 	}
-	if stats, err := core.Stats(); err != nil || stats != (Stats{2, Limit, 1_000_000_002, 995_000_002, 1, 3}) {
+	expected := Stats{2, Limit, 1_000_000_002, 995_000_002, 1, 3}
+	if stats, err := core.Stats(); err != nil || stats != expected {
 		t.Error(stats, err)
 	}
 	other, err := NewSetAt(Window, Limit, 1_000_000_000)

@@ -242,7 +242,8 @@ func TestCoresTakeBatches(t *testing.T) {
 		t.Fatal(err)
 	}
 	reply, err := ReadReply(answer.Frame)
-	if want := (Reply{200, []Entry{{Conflict, []int{1}}}}); err != nil || !reflect.DeepEqual(reply, want) {
+	want := Reply{200, []Entry{{Conflict, []int{1}}}}
+	if err != nil || !reflect.DeepEqual(reply, want) {
 		t.Errorf("%v, not %v: %v", reply, want, err)
 	}
 	for _, versions := range [][3]int64{{-2, 5, -1}, {5, 5, -1}, {4, 5, 5}} {

@@ -8,15 +8,23 @@ from .wire import Batch, Entry, Range, Reply, Txn, single
 
 LAST_VERSION = 2**63 - 1
 PREFIX_LENGTHS = (0, 0, 0, 0, 1, 7, 8, 9, 15, 16, 31, 37, 38, 39, 100)
-LETTERS = (b"ab", b"abc", b"\0a", b"\0\1\xff", bytes(range(256)), b"\x7f\x80\xfe\xff", b"0123456789")
+LETTERS = (
+    b"ab", b"abc", b"\0a", b"\0\1\xff", bytes(range(256)), b"\x7f\x80\xfe\xff", b"0123456789"
+)
 
 
 def draw_pool(chance: Random, count: int) -> list[bytes]:
     """Draws keys, some of which begin with the same bytes."""
     letters = chance.choice(LETTERS)
     longest = chance.choice((1, 2, 3, 5, 9))
-    prefixes = [bytes(chance.choices(letters, k=chance.choice(PREFIX_LENGTHS))) for _ in range(chance.randint(1, 3))]
-    keys = [chance.choice(prefixes) + bytes(chance.choices(letters, k=chance.randint(0, longest))) for _ in range(count)]
+    prefixes = [
+        bytes(chance.choices(letters, k=chance.choice(PREFIX_LENGTHS)))
+        for _ in range(chance.randint(1, 3))
+    ]
+    keys = [
+        chance.choice(prefixes) + bytes(chance.choices(letters, k=chance.randint(0, longest)))
+        for _ in range(count)
+    ]
     if chance.random() < 0.03:
         keys.append(b"k" * chance.choice((255, 256, 4_000, 9_999, 10_000, 10_001)))
     return keys
@@ -47,7 +55,12 @@ class Drawer:
         return min(LAST_VERSION, max(0, near + self.chance.choice((-1, 0, 0, 1, 0, -1_000))))
 
     def txn(self, versions: Sequence[int]) -> Txn:
-        return Txn(self.snapshot(versions), self.chance.random() < 0.4, self.ranges_of_txn(), self.ranges_of_txn())
+        return Txn(
+            self.snapshot(versions),
+            self.chance.random() < 0.4,
+            self.ranges_of_txn(),
+            self.ranges_of_txn(),
+        )
 
     def txns_of_batch(self, versions: Sequence[int]) -> tuple[Txn, ...]:
         return tuple(self.txn(versions) for _ in range(self.chance.randint(0, self.txns)))
@@ -66,18 +79,32 @@ class Drawer:
 
 
 def draw_drawer(chance: Random) -> Drawer:
-    return Drawer(chance, draw_pool(chance, chance.choice((2, 5, 12, 40))), chance.choice((1, 2, 4, 9)), chance.choice((1, 3, 6, 6, 30)))
+    return Drawer(
+        chance,
+        draw_pool(chance, chance.choice((2, 5, 12, 40))),
+        chance.choice((1, 2, 4, 9)),
+        chance.choice((1, 3, 6, 6, 30)),
+    )
 
 
 def draw_count(chance: Random) -> int:
-    return chance.choice((chance.randint(0, 4), chance.randint(4, 15), chance.randint(4, 15), chance.randint(15, 60)))
+    return chance.choice(
+        (chance.randint(0, 4), chance.randint(4, 15), chance.randint(4, 15), chance.randint(15, 60))
+    )
 
 
 def draw_steps(chance: Random, window: int) -> Sequence[int]:
     """Draws how far versions rise, so that some snapshots are too old."""
     if chance.random() < 0.02:
         return (2**61, 2**62, 1)
-    return chance.choice(((1,), (1, 2, 100), (window // 7 + 1, window // 3 + 1, 1), (window, window + 1, max(1, window - 1))))
+    return chance.choice(
+        (
+            (1,),
+            (1, 2, 100),
+            (window // 7 + 1, window // 3 + 1, 1),
+            (window, window + 1, max(1, window - 1)),
+        )
+    )
 
 
 def acknowledged(chance: Random, batches: Sequence[Batch]) -> list[Batch]:
@@ -85,8 +112,12 @@ def acknowledged(chance: Random, batches: Sequence[Batch]) -> list[Batch]:
     versions = [batch.version for batch in batches]
     changed = []
     for batch in batches:
-        below = [version for version in versions if version < batch.version] + [-1, batch.version - 1]
-        changed.append(replace(batch, received=chance.choice(below)) if chance.random() < 0.4 else batch)
+        below = (
+            [version for version in versions if version < batch.version] + [-1, batch.version - 1]
+        )
+        changed.append(
+            replace(batch, received=chance.choice(below)) if chance.random() < 0.4 else batch
+        )
     return changed
 
 
@@ -105,14 +136,20 @@ def other_body(batch: Batch, drawer: Drawer) -> Batch:
 
 
 def disturbance(chance: Random, batch: Batch, drawer: Drawer) -> Batch:
-    """Returns a batch that disturbs the chain: a repeat, another batch of its version or previous version, or one off the chain."""
+    """Returns a batch that disturbs the chain.
+
+    It is a repeat, another batch of its version or previous version, or one off the chain.
+    """
     kind = chance.randrange(5)
     if kind == 0:
         return batch
     if kind == 1:
         return other_body(batch, drawer)
     if kind == 2:
-        return replace(other_body(batch, drawer), version=min(LAST_VERSION, batch.version + chance.randint(1, 100)))
+        return replace(
+            other_body(batch, drawer),
+            version=min(LAST_VERSION, batch.version + chance.randint(1, 100)),
+        )
     previous = chance.randint(-1, batch.version - 1)
     if kind == 3:
         return replace(batch, previous=previous)
@@ -121,7 +158,10 @@ def disturbance(chance: Random, batch: Batch, drawer: Drawer) -> Batch:
 
 
 def disturbed(chance: Random, chain: list[Batch], drawer: Drawer) -> list[Batch]:
-    """The batches of one proxy, which need not be a chain: repeats, gaps, others of a version, and late ones."""
+    """The batches of one proxy, which need not be a chain.
+
+    There are repeats, gaps, others of a version, and late ones.
+    """
     batches = shuffled_near(chance, chain, chance.choice((0, 0, 1, 3, 100)))
     for _ in range(chance.choice((0, 1, 3, len(chain) // 2))):
         if batches:
@@ -146,12 +186,20 @@ def dealt(chance: Random, batches: Sequence[Batch], proxies: int) -> list[list[B
 
 
 def repeats_of(chance: Random, batches: list[Batch], drawer: Drawer) -> list[Batch]:
-    """Repeats some batches after the first of their version, and puts others of a new version after the same previous one."""
+    """Repeats some batches after the first of their version.
+
+    Puts others of a new version after the same previous one.
+    """
     changed = list(batches)
     taken = {batch.version for batch in batches}
     for batch in chance.choices(batches, k=chance.randint(1, 3)):
-        other = replace(other_body(batch, drawer), version=min(LAST_VERSION, batch.version + chance.randint(1, 100)))
-        again = chance.choice((batch, other_body(batch, drawer), batch if other.version in taken else other))
+        other = replace(
+            other_body(batch, drawer),
+            version=min(LAST_VERSION, batch.version + chance.randint(1, 100)),
+        )
+        again = chance.choice(
+            (batch, other_body(batch, drawer), batch if other.version in taken else other)
+        )
         inserted(chance, changed, again, changed.index(batch) + 1)
     return changed
 
@@ -159,8 +207,9 @@ def repeats_of(chance: Random, batches: list[Batch], drawer: Drawer) -> list[Bat
 def disturbed_file(chance: Random, batches: list[Batch], drawer: Drawer) -> list[Batch]:
     """The batches of one proxy among several, such that the schedule decides nothing.
 
-    The first batch after a previous version stays the first in its file, and no other file has one. Replies are given up only
-    in files without repeats, since the schedule decides which batches a repeat comes after.
+    The first batch after a previous version stays the first in its file, and no other file has one.
+    Replies are given up only in files without repeats, since the schedule decides which batches a
+    repeat comes after.
     """
     batches = shuffled_near(chance, batches, chance.choice((0, 0, 0, 2)))
     if not batches or chance.random() < 0.4:
@@ -174,7 +223,10 @@ def draw_entry(chance: Random) -> Entry:
     verdict = chance.choice(("committed", "conflict", "conflict", "tooold"))
     if verdict != "conflict" or chance.random() < 0.4:
         return Entry(verdict)
-    return Entry(verdict, tuple(sorted(chance.sample(range(chance.choice((3, 1_024))), k=chance.randint(0, 3)))))
+    return Entry(
+        verdict,
+        tuple(sorted(chance.sample(range(chance.choice((3, 1_024))), k=chance.randint(0, 3)))),
+    )
 
 
 def draw_reply(chance: Random) -> Reply:

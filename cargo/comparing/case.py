@@ -6,7 +6,8 @@ from enum import Enum
 
 # How full a resolver was, in a summary.
 OCCUPANCY = re.compile(
-    rb'(resolver: held at most |"most_held":)\d+(, boundaries |,"boundaries":)\d+(, at most |,"most_boundaries":)\d+'
+    rb'(resolver: held at most |"most_held":)\d+(, boundaries |,"boundaries":)\d+'
+    rb'(, at most |,"most_boundaries":)\d+'
 )
 
 
@@ -14,7 +15,8 @@ class Text(Enum):
     """How the text of a run is compared."""
 
     EXACT = "exact"
-    # Help, and what `clap` says of a wrong command line: which of the two streams is empty is compared, and whether it is an error.
+    # Help, and what `clap` says of a wrong command line: which of the two streams is empty is
+    # compared, and whether it is an error.
     OF_CLAP = "of clap"
 
 
@@ -48,8 +50,8 @@ class Run:
     expected: Outcome | None = None
     # A part of standard error.
     says: bytes = b""
-    # How full the resolver was isn't compared. The schedule decides it if several proxies share the resolver, and the rules don't say how
-    # many boundaries it has.
+    # How full the resolver was isn't compared. The schedule decides it if several proxies share the
+    # resolver, and the rules don't say how many boundaries it has.
     hides_occupancy: bool = False
 
 

@@ -18,7 +18,9 @@ def with_length(frame: bytes, length: int) -> bytes:
 def too_long(chance: Random, frame: bytes) -> bytes:
     """A length above the limit, or at it, or beside the right one."""
     right = len(frame) - 4
-    return with_length(frame, chance.choice((0x400001, 0x400000, 0xFFFFFFFF, right + 1, max(0, right - 1), 0)))
+    return with_length(
+        frame, chance.choice((0x400001, 0x400000, 0xFFFFFFFF, right + 1, max(0, right - 1), 0))
+    )
 
 
 def trailing(chance: Random, frame: bytes) -> bytes:
@@ -41,8 +43,18 @@ def put(frame: bytes, at: int, field: bytes) -> bytes:
 def field_changed(chance: Random, frame: bytes) -> bytes:
     """A field at its edge: versions, counts, lengths of keys, marks, forms."""
     at = chance.choice((5, 13, 21, 29, 31, 39, 40, 42, chance.randrange(5, len(frame))))
-    field = chance.choice((b"\xff" * 8, b"\x80" + b"\0" * 7, b"\x7f" + b"\xff" * 7, b"\0" * 8, b"\xff", b"\2", b"\1", b"\0"))
-    field = chance.choice((field, b"\x27\x10", b"\x27\x11", b"\x27\x12", b"\x04\x00", b"\x04\x01", b"\x10\x00", b"\x10\x01"))
+    field = chance.choice(
+        (
+            b"\xff" * 8, b"\x80" + b"\0" * 7, b"\x7f" + b"\xff" * 7, b"\0" * 8, b"\xff", b"\2",
+            b"\1", b"\0",
+        )
+    )
+    field = chance.choice(
+        (
+            field, b"\x27\x10", b"\x27\x11", b"\x27\x12", b"\x04\x00", b"\x04\x01", b"\x10\x00",
+            b"\x10\x01",
+        )
+    )
     return put(frame, at, field)[: len(frame)] if at < len(frame) else frame
 
 
@@ -59,11 +71,19 @@ def ends_swapped(chance: Random, frame: bytes) -> bytes:
 def spelled_out(chance: Random, frame: bytes) -> bytes:
     """A single key spelled as a range in version 2, or one byte otherwise in version 1."""
     batches, _ = frames(frame, read_batch)
-    singles = [one for batch in batches for txn in batch.txns for one in txn.reads + txn.writes if one.is_single]
+    singles = [
+        one
+        for batch in batches
+        for txn in batch.txns
+        for one in txn.reads + txn.writes
+        if one.is_single
+    ]
     if not singles or frame[4] != 3:
         return byte_changed(chance, frame)
     one = chance.choice(singles)
-    return framed(frame[4:].replace(b"\1" + text(one.begin), b"\0" + text(one.begin) + text(one.end), 1))
+    return framed(
+        frame[4:].replace(b"\1" + text(one.begin), b"\0" + text(one.begin) + text(one.end), 1)
+    )
 
 
 DAMAGES: tuple[Callable[[Random, bytes], bytes], ...] = (

@@ -6,17 +6,31 @@ from dataclasses import replace
 from .case import Outcome
 from .lines import batch_line, batch_table, reply_line, reply_table
 from .reading import frames, read_batch, read_reply
-from .reference import ALL_LINES, WINDOW, Filter, Unspecified, checked, lines_of, resolve, summary_of
+from .reference import (
+    ALL_LINES,
+    WINDOW,
+    Filter,
+    Unspecified,
+    checked,
+    lines_of,
+    resolve,
+    summary_of,
+)
 from .wire import Batch
 
 
 def fault_lines(faults: Sequence[str], what: str) -> str:
-    return "".join(f"replay: {what} {proxy}: wire {fault}\n" for proxy, fault in enumerate(faults) if fault)
+    return "".join(
+        f"replay: {what} {proxy}: wire {fault}\n" for proxy, fault in enumerate(faults) if fault
+    )
 
 
 def all_asking(batches: Sequence[Batch]) -> list[Batch]:
     """Returns the same batches, whose transactions all ask for their reports."""
-    return [replace(batch, txns=tuple(replace(txn, report=True) for txn in batch.txns)) for batch in batches]
+    return [
+        replace(batch, txns=tuple(replace(txn, report=True) for txn in batch.txns))
+        for batch in batches
+    ]
 
 
 def replay_outcome(
@@ -36,7 +50,9 @@ def replay_outcome(
         recorded.append(some)
         replies_faults.append(fault)
     if any(replies_faults):
-        return Outcome(1, b"", fault_lines(replies_faults, "replies").splitlines(keepends=True)[0].encode())
+        return Outcome(
+            1, b"", fault_lines(replies_faults, "replies").splitlines(keepends=True)[0].encode()
+        )
     batches, faults = zip(*(frames(content, read_batch) for content in files))
     if reports_all:
         batches = tuple(map(all_asking, batches))
@@ -54,14 +70,21 @@ def replay_outcome(
     return Outcome(status, text.encode(), fault_lines(faults, "proxy").encode())
 
 
-def turned(content: bytes, task: str, is_replies: bool, full: bool = False, name: str = "standard input") -> Outcome:
+def turned(
+    content: bytes, task: str, is_replies: bool, full: bool = False, name: str = "standard input"
+) -> Outcome:
     """Returns what `batches decode` or `batches show` prints for these frames of a file."""
     if is_replies:
         replies, fault = frames(content, read_reply)
-        lines = [reply_line(one) + "\n" if task == "decode" else reply_table(one) for one in replies]
+        lines = [
+            reply_line(one) + "\n" if task == "decode" else reply_table(one) for one in replies
+        ]
     else:
         batches, fault = frames(content, read_batch)
-        lines = [batch_line(one) + "\n" if task == "decode" else batch_table(one, full) for one in batches]
+        lines = [
+            batch_line(one) + "\n" if task == "decode" else batch_table(one, full)
+            for one in batches
+        ]
     err = f"batches: {name}: frame {len(lines) + 1}: {fault}\n" if fault else ""
     return Outcome(1 if fault else 0, "".join(lines).encode(), err.encode())
 

@@ -23,7 +23,10 @@ def range_form(of: Range) -> str:
 
 def write_form(write: Write, version: int) -> str:
     origin = "same batch" if write.version == version else "history"
-    return f"{range_form(write.of)} of proxy {write.proxy}, version {write.version}, txn {write.txn} ({origin})"
+    return (
+        f"{range_form(write.of)} of proxy {write.proxy}, version {write.version}, "
+        f"txn {write.txn} ({origin})"
+    )
 
 
 def pair_json(of: Range) -> str:
@@ -31,7 +34,10 @@ def pair_json(of: Range) -> str:
 
 
 def write_json(write: Write) -> str:
-    return f'{{"range":{pair_json(write.of)},"proxy":{write.proxy},"version":{write.version},"txn":{write.txn}}}'
+    return (
+        f'{{"range":{pair_json(write.of)},"proxy":{write.proxy},"version":{write.version},'
+        f'"txn":{write.txn}}}'
+    )
 
 
 @dataclass(frozen=True)
@@ -57,7 +63,11 @@ class Explainer:
         """Takes the batch that was processed last, and returns what explains its rejections."""
         self.processed.append((proxy, batch, reply))
         txns = zip(batch.txns, reply.entries)
-        pairs = [pair for index, (txn, entry) in enumerate(txns) for pair in self.pairs(index, txn, entry, batch.version)]
+        pairs = [
+            pair
+            for index, (txn, entry) in enumerate(txns)
+            for pair in self.pairs(index, txn, entry, batch.version)
+        ]
         return Note("".join(line for line, _ in pairs), tuple(one for _, one in pairs))
 
     def pairs(self, index: int, txn: Txn, entry: Entry, version: int) -> Iterator[tuple[str, str]]:
@@ -65,7 +75,10 @@ class Explainer:
         if entry.verdict == "tooold":
             oldest = max(0, version - self.window)
             yield (
-                f"  txn {index} too old: snapshot {txn.snapshot}, oldest readable version {oldest}\n",
+                (
+                    f"  txn {index} too old: "
+                    f"snapshot {txn.snapshot}, oldest readable version {oldest}\n"
+                ),
                 f'{{"txn":{index},"too_old":{{"snapshot":{txn.snapshot},"oldest":{oldest}}}}}',
             )
         elif entry.verdict == "conflict":
@@ -73,17 +86,26 @@ class Explainer:
                 writes = self.writes(index, txn, txn.reads[read], version)
                 if writes:
                     of = txn.reads[read]
-                    yield self.line(index, read, of, writes, version), self.object(index, read, of, writes, version)
+                    yield (
+                        self.line(index, read, of, writes, version),
+                        self.object(index, read, of, writes, version),
+                    )
 
     def line(self, index: int, read: int, of: Range, writes: Sequence[Write], version: int) -> str:
         further = f", and {len(writes) - 1} more" if len(writes) > 1 else ""
-        return f"  txn {index} read {read} {range_form(of)} conflicts with write {write_form(writes[-1], version)}{further}\n"
+        return (
+            f"  txn {index} read {read} {range_form(of)} conflicts with "
+            f"write {write_form(writes[-1], version)}{further}\n"
+        )
 
-    def object(self, index: int, read: int, of: Range, writes: Sequence[Write], version: int) -> str:
+    def object(
+        self, index: int, read: int, of: Range, writes: Sequence[Write], version: int
+    ) -> str:
         is_same_batch = "true" if writes[-1].version == version else "false"
         return (
-            f'{{"txn":{index},"read":{read},"range":{pair_json(of)},"write":{write_json(writes[-1])},'
-            f'"further":{len(writes) - 1},"same_batch":{is_same_batch}}}'
+            f'{{"txn":{index},"read":{read},"range":{pair_json(of)},'
+            f'"write":{write_json(writes[-1])},"further":{len(writes) - 1},'
+            f'"same_batch":{is_same_batch}}}'
         )
 
     def writes(self, index: int, txn: Txn, read: Range, version: int) -> list[Write]:
@@ -94,5 +116,9 @@ class Explainer:
                 continue
             for other, (writer, entry) in enumerate(zip(batch.txns, reply.entries)):
                 if entry.verdict == "committed" and (batch.version != version or other < index):
-                    found += [Write(proxy, batch.version, other, of) for of in writer.writes if read.meets(of)]
+                    found += [
+                        Write(proxy, batch.version, other, of)
+                        for of in writer.writes
+                        if read.meets(of)
+                    ]
         return found

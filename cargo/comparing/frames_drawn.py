@@ -18,7 +18,10 @@ def draw_frames(chance: Random, is_replies: bool) -> list[bytes]:
 
 
 def draw_decoded(chance: Random) -> Case:
-    """Frames of batches or replies, perhaps damaged or of the other kind, from a file or from standard input."""
+    """Frames of batches or replies, perhaps damaged or of the other kind.
+
+    They come from a file or from standard input.
+    """
     is_replies = chance.random() < 0.4
     found = draw_frames(chance, is_replies if chance.random() < 0.95 else not is_replies)
     content = damaged_file(chance, found) if chance.random() < 0.4 else b"".join(found)
@@ -26,7 +29,20 @@ def draw_decoded(chance: Random) -> Case:
     for task, full in (("decode", False), ("show", False), ("show", True)):
         args = [task, *(["--replies"] if is_replies else []), *(["--full"] if full else [])]
         if chance.random() < 0.5:
-            runs.append(Run("batches", tuple(args), content, expected=turned(content, task, is_replies, full)))
+            runs.append(
+                Run(
+                    "batches",
+                    tuple(args),
+                    content,
+                    expected=turned(content, task, is_replies, full),
+                )
+            )
         else:
-            runs.append(Run("batches", (*args, "frames"), expected=turned(content, task, is_replies, full, "frames")))
+            runs.append(
+                Run(
+                    "batches",
+                    (*args, "frames"),
+                    expected=turned(content, task, is_replies, full, "frames"),
+                )
+            )
     return Case("", "frames shown", {"frames": content}, tuple(runs))

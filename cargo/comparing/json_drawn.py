@@ -31,15 +31,32 @@ class Speller:
         names = list(members)
         if not self.is_plain:
             self.chance.shuffle(names)
-        return "{" + self.joined([f"{self.string(name)}{self.space()}:{self.space()}{members[name]}" for name in names]) + "}"
+        return (
+            "{"
+            + self.joined(
+                [
+                    f"{self.string(name)}{self.space()}:{self.space()}{members[name]}"
+                    for name in names
+                ]
+            )
+            + "}"
+        )
 
     def character(self, one: str) -> str:
         """A character of a string, as it is or escaped."""
         if one in '"\\':
-            return self.chance.choice(("\\" + one, f"\\u{ord(one):04x}")) if not self.is_plain else "\\" + one
+            return (
+                self.chance.choice(("\\" + one, f"\\u{ord(one):04x}"))
+                if not self.is_plain
+                else "\\" + one
+            )
         if self.is_plain or self.chance.random() < 0.95:
             return one
-        return "\\/" if one == "/" else self.chance.choice((f"\\u{ord(one):04x}", f"\\u{ord(one):04X}"))
+        return (
+            "\\/"
+            if one == "/"
+            else self.chance.choice((f"\\u{ord(one):04x}", f"\\u{ord(one):04X}"))
+        )
 
     def string(self, text: str) -> str:
         return '"' + "".join(map(self.character, text)) + '"'
@@ -64,7 +81,10 @@ class Speller:
         members = {"snapshot": self.number(txn.snapshot)}
         if txn.report or self.chance.random() < 0.5:
             members["report"] = str(txn.report).lower()
-        members |= {"reads": self.array(list(map(self.range, txn.reads))), "writes": self.array(list(map(self.range, txn.writes)))}
+        members |= {
+            "reads": self.array(list(map(self.range, txn.reads))),
+            "writes": self.array(list(map(self.range, txn.writes))),
+        }
         return self.object(members)
 
     def batch(self, batch: Batch) -> str:
@@ -92,7 +112,9 @@ def blank(chance: Random) -> str:
     return chance.choice(("", "", "", "\n", " \t\n", "\r\n"))
 
 
-def encode_run(chance: Random, is_replies: bool, text: bytes, expected: Outcome | None) -> tuple[Run, dict[str, bytes]]:
+def encode_run(
+    chance: Random, is_replies: bool, text: bytes, expected: Outcome | None
+) -> tuple[Run, dict[str, bytes]]:
     args = ("encode", "--replies") if is_replies else ("encode",)
     if chance.random() < 0.5:
         return Run("batches", args, text, expected=expected), {}
@@ -108,23 +130,55 @@ def draw_encoded(chance: Random) -> Case:
         lines, frames = list(map(speller.reply, replies)), list(map(reply_frame, replies))
     else:
         batches = draw_batches(chance)
-        lines, frames = list(map(speller.batch, batches)), [batch_frame(batch, 2) for batch in batches]
-    text = "".join(blank(chance) + line + chance.choice(("\n", "\n", "\r\n")) for line in lines) + blank(chance)
+        lines, frames = (
+            list(map(speller.batch, batches)), [batch_frame(batch, 2) for batch in batches]
+        )
+    text = (
+        "".join(blank(chance) + line + chance.choice(("\n", "\n", "\r\n")) for line in lines)
+        + blank(chance)
+    )
     if chance.random() < 0.2:
         text = text.rstrip("\n")
     run, files = encode_run(chance, is_replies, text.encode(), Outcome(0, b"".join(frames), b""))
     return Case("", "JSON", files, (run,))
 
 
-PIECES: tuple[str, ...] = ('"', "\\", "{", "}", "[", "]", ",", ":", "0", "-", ".", "e", "1e3", "true", "null", "\\u0000", "\\ud800", "\\x", "\t", "\0", "\x1f", "\x7f")
-PIECES += ("\u00e9", "\ufeff", "\u2028", "\U0001f600", "\\u00e9", "\\n", "\\/", "\\b", "\\u12", "//", "NaN", "'", "\n", "\r", " ", "\u00a0", "\v")
-VALUES: tuple[str, ...] = ("0", "-0", "-1", "-2", "1", "1.0", "1e3", "1E+2", "0.0", "-", "+1", "01", ".5", "5.", "1e", "9223372036854775807", "9223372036854775808")
-VALUES += ("-9223372036854775808", "-9223372036854775809", "18446744073709551615", "18446744073709551616", "1" * 400, "0." + "0" * 400, "1e999")
-VALUES += ("null", "true", "false", "True", "nul", '""', '"a"', "[]", "{}", "[[]]", '["a"]', '["a","b","c"]', '{"a":1}', "NaN", "Infinity", '"\\ud83d\\ude00"')
-VALUES += ('"\\ud800"', '"\\udc00"', '"\\ud800\\u0041"', '"\\uD800\\uD800"', '"\\u0000"', '"\\u00"', '"\\q"', '"\\x41"', '"\\\\x4"', '"\\\\"', '"unended')
-MEMBERS = ("previous", "version", "received", "transactions", "snapshot", "report", "reads", "writes", "verdicts", "conflict")
-NAMES = (*MEMBERS, "Previous", "version ", "", "\\u0076ersion", "versi\\u006fn", "\\ud800", "x" * 64, "x" * 65, "\u00e9" * 40, '\\"', "\\\\", "a\\nb")
-BYTES = (b"\xff", b"\xc3", b"\xc3\x28", b"\xe2\x82", b"\xed\xa0\x80", b"\xf4\x90\x80\x80", b"\xc0\x80", b"\xef\xbb\xbf", b"\x80", b"\0")
+PIECES: tuple[str, ...] = (
+    '"', "\\", "{", "}", "[", "]", ",", ":", "0", "-", ".", "e", "1e3", "true", "null", "\\u0000",
+    "\\ud800", "\\x", "\t", "\0", "\x1f", "\x7f",
+)
+PIECES += (
+    "\u00e9", "\ufeff", "\u2028", "\U0001f600", "\\u00e9", "\\n", "\\/", "\\b", "\\u12", "//",
+    "NaN", "'", "\n", "\r", " ", "\u00a0", "\v",
+)
+VALUES: tuple[str, ...] = (
+    "0", "-0", "-1", "-2", "1", "1.0", "1e3", "1E+2", "0.0", "-", "+1", "01", ".5", "5.", "1e",
+    "9223372036854775807", "9223372036854775808",
+)
+VALUES += (
+    "-9223372036854775808", "-9223372036854775809", "18446744073709551615", "18446744073709551616",
+    "1" * 400, "0." + "0" * 400, "1e999",
+)
+VALUES += (
+    "null", "true", "false", "True", "nul", '""', '"a"', "[]", "{}", "[[]]", '["a"]',
+    '["a","b","c"]', '{"a":1}', "NaN", "Infinity", '"\\ud83d\\ude00"',
+)
+VALUES += (
+    '"\\ud800"', '"\\udc00"', '"\\ud800\\u0041"', '"\\uD800\\uD800"', '"\\u0000"', '"\\u00"',
+    '"\\q"', '"\\x41"', '"\\\\x4"', '"\\\\"', '"unended',
+)
+MEMBERS = (
+    "previous", "version", "received", "transactions", "snapshot", "report", "reads", "writes",
+    "verdicts", "conflict",
+)
+NAMES = (
+    *MEMBERS, "Previous", "version ", "", "\\u0076ersion", "versi\\u006fn", "\\ud800", "x" * 64,
+    "x" * 65, "\u00e9" * 40, '\\"', "\\\\", "a\\nb",
+)
+BYTES = (
+    b"\xff", b"\xc3", b"\xc3\x28", b"\xe2\x82", b"\xed\xa0\x80", b"\xf4\x90\x80\x80", b"\xc0\x80",
+    b"\xef\xbb\xbf", b"\x80", b"\0",
+)
 
 
 def nested(chance: Random, text: str) -> str:
@@ -132,7 +186,11 @@ def nested(chance: Random, text: str) -> str:
     depth = chance.choice((1, 2, 125, 126, 127, 128, 129, 130, 131, 5_000))
     opening, closing = chance.choice((("[", "]"), ('{"a":', "}"), ('[{"a":', "}]")))
     count = max(1, depth // len(closing))
-    value = opening * count + chance.choice(("", "0", "[]")) + closing * (count if chance.random() < 0.9 else count - 1)
+    value = (
+        opening * count
+        + chance.choice(("", "0", "[]"))
+        + closing * (count if chance.random() < 0.9 else count - 1)
+    )
     return chance.choice((value, with_value(chance, text, value)))
 
 
@@ -146,7 +204,11 @@ def with_value(chance: Random, text: str, value: str) -> str:
     while end < len(text) and text[end] not in ',}]"[{':
         end += 1
     if end < len(text) and text[end] in '"[{':
-        return text[:at] + value + "," + text[end:] if chance.random() < 0.5 else text[:at] + value + text[end + 1 :]
+        return (
+            text[:at] + value + "," + text[end:]
+            if chance.random() < 0.5
+            else text[:at] + value + text[end + 1 :]
+        )
     return text[:at] + value + text[end:]
 
 
@@ -222,23 +284,34 @@ LIMITS: tuple[Callable[[int], str], ...] = (
     repeated('{"version":1,"verdicts":[', '"conflict"', "]}", 4_096),
     lambda more: READS + '"' + "k" * (10_000 + more) + '"],"writes":[]}]}',
     lambda more: READS + '["","' + "k" * (10_001 + more) + '"]],"writes":[]}]}',
-    lambda more: '{"version":1,"verdicts":[{"conflict":[' + ",".join(map(str, range(1_024 + more))) + "]}]}",
+    lambda more: '{"version":1,"verdicts":[{"conflict":['
+    + ",".join(map(str, range(1_024 + more)))
+    + "]}]}",
 )
 
 
 def draw_mistaken(chance: Random) -> Case:
-    """Lines of which one has a mistake, or is at a limit or beyond it. Only what both builds make of it is compared."""
+    """Lines of which one has a mistake, or is at a limit or beyond it.
+
+    Only what both builds make of it is compared.
+    """
     is_replies = chance.random() < 0.3
     speller = Speller(chance)
     if is_replies:
         lines = [speller.reply(draw_reply(chance)).encode() for _ in range(chance.randint(1, 3))]
     else:
-        lines = [batch_line(batch).encode() for batch in draw_batches(chance)] or [speller.batch(Batch(-1, 0)).encode()]
+        lines = (
+            [batch_line(batch).encode() for batch in draw_batches(chance)]
+            or [speller.batch(Batch(-1, 0)).encode()]
+        )
     at = chance.randrange(len(lines))
     if chance.random() < 0.08:
         lines[at] = chance.choice(LIMITS)(chance.choice((-1, 0, 1))).encode()
     else:
         lines[at] = mistaken(chance, lines[at].decode())
-    text = chance.choice((b"", b"", b"", b"\n", b"\xef\xbb\xbf")) + chance.choice((b"\n", b"\n", b"\r\n")).join(lines)
+    text = (
+        chance.choice((b"", b"", b"", b"\n", b"\xef\xbb\xbf"))
+        + chance.choice((b"\n", b"\n", b"\r\n")).join(lines)
+    )
     run, files = encode_run(chance, is_replies, text + chance.choice((b"", b"\n")), None)
     return Case("", "JSON mistakes", files, (run,))

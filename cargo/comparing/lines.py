@@ -1,4 +1,4 @@
-"""Batches and replies as lines of JSON and as tables, as `batches decode` and `batches show` print them."""
+"""Batches and replies as lines of JSON and as tables, as the program `batches` prints them."""
 
 from .wire import Batch, Entry, Range, Reply, Txn
 
@@ -30,16 +30,26 @@ def range_json(of: Range) -> str:
 
 def txn_json(txn: Txn) -> str:
     reads, writes = (",".join(map(range_json, ranges)) for ranges in (txn.reads, txn.writes))
-    return f'{{"snapshot":{txn.snapshot},"report":{str(txn.report).lower()},"reads":[{reads}],"writes":[{writes}]}}'
+    return (
+        f'{{"snapshot":{txn.snapshot},"report":{str(txn.report).lower()},"reads":[{reads}],'
+        f'"writes":[{writes}]}}'
+    )
 
 
 def batch_line(batch: Batch) -> str:
     txns = ",".join(map(txn_json, batch.txns))
-    return f'{{"previous":{batch.previous},"version":{batch.version},"received":{batch.received},"transactions":[{txns}]}}'
+    return (
+        f'{{"previous":{batch.previous},"version":{batch.version},"received":{batch.received},'
+        f'"transactions":[{txns}]}}'
+    )
 
 
 def entry_json(entry: Entry) -> str:
-    return f'{{"conflict":[{",".join(map(str, entry.indices))}]}}' if entry.indices else f'"{entry.verdict}"'
+    return (
+        f'{{"conflict":[{",".join(map(str, entry.indices))}]}}'
+        if entry.indices
+        else f'"{entry.verdict}"'
+    )
 
 
 def reply_line(reply: Reply) -> str:
@@ -58,7 +68,10 @@ def range_shown(of: Range, full: bool) -> str:
 
 def batch_table(batch: Batch, full: bool) -> str:
     """Returns the table of a batch."""
-    lines = [f"batch {batch.previous} > {batch.version}, received {batch.received}, transactions {len(batch.txns)}\n"]
+    lines = [
+        f"batch {batch.previous} > {batch.version}, received {batch.received}, "
+        f"transactions {len(batch.txns)}\n"
+    ]
     for index, txn in enumerate(batch.txns):
         lines.append(f"{index:>6}  snapshot {txn.snapshot}{', report' if txn.report else ''}\n")
         for name, ranges in (("read ", txn.reads), ("write", txn.writes)):
@@ -70,5 +83,8 @@ def reply_table(reply: Reply) -> str:
     """Returns the table of a reply."""
     lines = [f"reply {reply.version}, verdicts {len(reply.entries)}\n"]
     for index, entry in enumerate(reply.entries):
-        lines.append(f"{index:>6}  {SHOWN_VERDICTS[entry.verdict]}{''.join(f' {one}' for one in entry.indices)}\n")
+        lines.append(
+            f"{index:>6}  "
+            f"{SHOWN_VERDICTS[entry.verdict]}{''.join(f' {one}' for one in entry.indices)}\n"
+        )
     return "".join(lines)

@@ -1,8 +1,9 @@
 """Batches and replies as the worked rows write them.
 
-A batch is `previous>version`, perhaps ` received N`, and perhaps `: ` with transactions between `; `. A transaction has
-`m` if it requests a report, `R[a,b)` and `W[a,b)`, and its snapshot `@N`, by default 0. `R[k]` is the
-range of one key, and `\\xNN` in a key one byte. A reply is its version and a word per transaction, or `empty`.
+A batch is `previous>version`, perhaps ` received N`, and perhaps `: ` with transactions between
+`; `. A transaction has `m` if it requests a report, `R[a,b)` and `W[a,b)`, and its snapshot `@N`,
+by default 0. `R[k]` is the range of one key, and `\\xNN` in a key one byte. A reply is its version
+and a word per transaction, or `empty`.
 """
 
 import re
@@ -10,12 +11,16 @@ import re
 from .wire import Batch, Entry, Range, Reply, Txn, single
 
 BATCH = re.compile(r"(-?\d+)>(\d+)(?: received (-?\d+))?(?:: (.*))?", re.DOTALL)
-PART = re.compile(r"(?P<report>m)|@(?P<snapshot>\d+)|(?P<kind>[RW])\[(?P<begin>[^,\])]*)(?:,(?P<end>[^)]*)\)|\])")
+PART = re.compile(
+    r"(?P<report>m)|@(?P<snapshot>\d+)|(?P<kind>[RW])\[(?P<begin>[^,\])]*)(?:,(?P<end>[^)]*)\)|\])"
+)
 
 
 def key_of(shown: str) -> bytes:
     """Returns the key that the text shows."""
-    return re.sub(r"\\x([0-9a-f]{2})", lambda found: chr(int(found[1], 16)), shown).encode("latin-1")
+    return re.sub(
+        r"\\x([0-9a-f]{2})", lambda found: chr(int(found[1], 16)), shown
+    ).encode("latin-1")
 
 
 def txn_of(shown: str) -> Txn:
@@ -31,7 +36,9 @@ def txn_of(shown: str) -> Txn:
             snapshot = int(part["snapshot"])
         else:
             begin = key_of(part["begin"])
-            ranges[part["kind"]].append(single(begin) if part["end"] is None else Range(begin, key_of(part["end"])))
+            ranges[part["kind"]].append(
+                single(begin) if part["end"] is None else Range(begin, key_of(part["end"]))
+            )
     return Txn(snapshot, report, tuple(ranges["R"]), tuple(ranges["W"]))
 
 

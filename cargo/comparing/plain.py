@@ -138,7 +138,15 @@ def clips_of(ranges: Sequence[Range], first: bytes, end: bytes | None) -> tuple[
 
 def batch_clip(batch: Batch, points: Sequence[bytes], shard: int) -> Batch:
     first, end = [b"", *points][shard], [*points, None][shard]
-    txns = (Txn(txn.snapshot, txn.report, clips_of(txn.reads, first, end), clips_of(txn.writes, first, end)) for txn in batch.txns)
+    txns = (
+        Txn(
+            txn.snapshot,
+            txn.report,
+            clips_of(txn.reads, first, end),
+            clips_of(txn.writes, first, end),
+        )
+        for txn in batch.txns
+    )
     return Batch(batch.previous, batch.version, batch.received, tuple(txns))
 
 

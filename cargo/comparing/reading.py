@@ -131,7 +131,10 @@ def body_at(data: bytes, at: int) -> Body:
 
 
 def frames(data: bytes, read: Callable[[Body], T]) -> tuple[list[T], str]:
-    """Reads frames to the end of a file. Returns them, and the fault by number and name, or an empty text."""
+    """Reads frames to the end of a file.
+
+    Returns them, and the fault by number and name, or an empty text.
+    """
     found: list[T] = []
     at = 0
     while at < len(data):

@@ -1,4 +1,5 @@
-"""What the rules of docs/FOUNDATIONDB.md say of a log of batches, by plain lists, and the lines that docs/REPLAY.md makes of it.
+"""What the rules of docs/FOUNDATIONDB.md say of a log of batches, by plain lists, and the lines
+that docs/REPLAY.md makes of it.
 
 It keeps all writes, and has no limit on boundaries. Of a gate that fills it says nothing.
 """
@@ -99,7 +100,10 @@ class Resolver:
             self.handle(*due)
 
     def next_due(self) -> tuple[int, Batch] | None:
-        """Returns the held batch that leaves next: the least previous version first, among equals the earliest arrival."""
+        """Returns the held batch that leaves next.
+
+        It has the least previous version, and is the earliest arrival among equals.
+        """
         due = [one for one in self.held if one[1].previous <= self.version]
         return min(due, key=lambda one: one[1].previous) if due else None
 
@@ -142,8 +146,16 @@ class Resolver:
     def verdict(self, txn: Txn, edge: int, committed: list[Range]) -> Entry:
         if txn.reads and txn.snapshot < edge:
             return Entry("tooold")
-        history = [index for index, read in enumerate(txn.reads) if self.history.greatest_in(read) > txn.snapshot]
-        batch = [index for index, read in enumerate(txn.reads) if any(read.meets(written) for written in committed)]
+        history = [
+            index
+            for index, read in enumerate(txn.reads)
+            if self.history.greatest_in(read) > txn.snapshot
+        ]
+        batch = [
+            index
+            for index, read in enumerate(txn.reads)
+            if any(read.meets(written) for written in committed)
+        ]
         if not history and not batch:
             return Entry("committed")
         indices = history or batch[:1]
@@ -155,24 +167,32 @@ class Resolver:
         self.held.clear()
 
 
-def resolve(files: Sequence[Sequence[Batch]], window: int = WINDOW, explains: bool = False) -> list[list[Answer]]:
+def resolve(
+    files: Sequence[Sequence[Batch]], window: int = WINDOW, explains: bool = False
+) -> list[list[Answer]]:
     """Returns the answers to each proxy, sorted by version. The files are read in sequence."""
     resolver = Resolver(window, explainer=Explainer(window) if explains else None)
     for proxy, batches in enumerate(files):
         for batch in batches:
             resolver.admit(proxy, batch)
     resolver.finish()
-    return [sorted(resolver.answers.get(proxy, []), key=lambda one: one.version) for proxy in range(len(files))]
+    return [
+        sorted(resolver.answers.get(proxy, []), key=lambda one: one.version)
+        for proxy in range(len(files))
+    ]
 
 
 def words_of(reply: Reply) -> str:
-    words = [entry.verdict + (":" + ",".join(map(str, entry.indices)) if entry.indices else "") for entry in reply.entries]
+    words = [
+        entry.verdict + (":" + ",".join(map(str, entry.indices)) if entry.indices else "")
+        for entry in reply.entries
+    ]
     return " ".join(words) or "empty"
 
 
 
 def line_of(proxy: int, answer: Answer, form: str) -> str:
-    """Returns the line of an answer, and what explains it: in the form `words`, `frames` or `json`."""
+    """Returns the line of an answer and what explains it, as `words`, `frames` or `json`."""
     if form == "json":
         body = f'"answer":"{answer.word}"'
         if answer.reply is not None:
@@ -185,11 +205,19 @@ def line_of(proxy: int, answer: Answer, form: str) -> str:
 
 
 def lines_of(answers: Sequence[Sequence[Answer]], form: str, shown: Filter = ALL_LINES) -> str:
-    return "".join(line_of(proxy, answer, form) for proxy, some in enumerate(answers) for answer in some if shown.shows(answer))
+    return "".join(
+        line_of(proxy, answer, form)
+        for proxy, some in enumerate(answers)
+        for answer in some
+        if shown.shows(answer)
+    )
 
 
 def counts_of(answers: Sequence[Sequence[Answer]]) -> tuple[dict[str, int], tuple[int, int] | None]:
-    """Counts the answers to some proxies, of which each has them in order of versions. Returns the least and the greatest version too."""
+    """Counts the answers to some proxies, of which each has them in order of versions.
+
+    Returns the least and the greatest version too.
+    """
     first, others = [], []
     for some in answers:
         replies = [answer for answer in some if answer.reply is not None]
@@ -206,34 +234,53 @@ def counts_of(answers: Sequence[Sequence[Answer]]) -> tuple[dict[str, int], tupl
 
 
 def percent_of(part: int, whole: int) -> str:
-    """Returns a share in percent with one decimal, rounded to the nearest one, and up from the middle."""
+    """Returns a share in percent with one decimal, rounded to the nearest, and up from half."""
     return str((Decimal(100 * part) / whole).quantize(Decimal("0.1"), ROUND_HALF_UP))
 
 
 def summary_words(name: str, answers: Sequence[Sequence[Answer]]) -> str:
     counts, ends = counts_of(answers)
-    rate = f"{percent_of(counts['conflict'], counts['transactions'])} %" if counts["transactions"] else "none"
+    rate = (
+        f"{percent_of(counts['conflict'], counts['transactions'])} %"
+        if counts["transactions"]
+        else "none"
+    )
     versions = "none" if ends is None else f"{ends[0]} to {ends[1]}"
     parts = [f"{word} {count}" for word, count in counts.items()]
-    return f"{name}: {', '.join([*parts[:5], f'conflict rate {rate}', *parts[5:]])}, versions {versions}\n"
+    return (
+        f"{name}: {', '.join([*parts[:5], f'conflict rate {rate}', *parts[5:]])}, "
+        f"versions {versions}\n"
+    )
 
 
 def summary_members(answers: Sequence[Sequence[Answer]]) -> dict[str, object]:
     counts, ends = counts_of(answers)
-    rate = float(percent_of(counts["conflict"], counts["transactions"])) if counts["transactions"] else None
+    rate = (
+        float(percent_of(counts["conflict"], counts["transactions"]))
+        if counts["transactions"]
+        else None
+    )
     members = list(counts.items())
     members.insert(5, ("conflict_percent", rate))
-    return dict(members) | {"versions": None if ends is None else {"first": ends[0], "last": ends[1]}}
+    return (
+        dict(members) | {"versions": None if ends is None else {"first": ends[0], "last": ends[1]}}
+    )
 
 
 def summary_of(answers: Sequence[Sequence[Answer]], is_json: bool) -> str:
     """Returns the text that `--summary` prints. How full the resolver was is hidden."""
     if is_json:
         proxies = [{"proxy": proxy} | summary_members([some]) for proxy, some in enumerate(answers)]
-        members = json.dumps({"proxies": proxies} | summary_members(answers), separators=(",", ":"))[:-1]
+        members = json.dumps(
+            {"proxies": proxies} | summary_members(answers), separators=(",", ":")
+        )[:-1]
         return members + ',"most_held":*,"boundaries":*,"most_boundaries":*}\n'
     lines = [summary_words(f"proxy {proxy}", [some]) for proxy, some in enumerate(answers)]
-    return "".join(lines) + summary_words("all", answers) + "resolver: held at most *, boundaries *, at most *\n"
+    return (
+        "".join(lines)
+        + summary_words("all", answers)
+        + "resolver: held at most *, boundaries *, at most *\n"
+    )
 
 
 def differences_of(expected: Reply, found: Reply) -> list[str]:
@@ -262,12 +309,20 @@ def checked_proxy(answers: Sequence[Answer], recorded: Sequence[Reply]) -> list[
             lines.append(f"{answer.version} missing")
             continue
         left.remove(found)
-        lines += [f"{answer.version} {difference}" for difference in differences_of(answer.reply, found)]
+        lines += [
+            f"{answer.version} {difference}" for difference in differences_of(answer.reply, found)
+        ]
     return lines + [f"{one.version} unexpected" for one in left]
 
 
-def checked(answers: Sequence[Sequence[Answer]], recorded: Sequence[Sequence[Reply]]) -> tuple[str, int]:
+def checked(
+    answers: Sequence[Sequence[Answer]], recorded: Sequence[Sequence[Reply]]
+) -> tuple[str, int]:
     """Returns the text of a comparison with recorded replies, and the number of differences."""
-    lines = [f"{proxy} {line}\n" for proxy, some in enumerate(answers) for line in checked_proxy(some, recorded[proxy])]
+    lines = [
+        f"{proxy} {line}\n"
+        for proxy, some in enumerate(answers)
+        for line in checked_proxy(some, recorded[proxy])
+    ]
     count = sum(len(some) for some in answers)
     return "".join(lines) + f"checked {count} batches, {len(lines)} differences\n", len(lines)

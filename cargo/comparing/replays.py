@@ -44,11 +44,13 @@ def draw_options(chance: Random, window: int | None) -> list[str]:
 
 
 def draw_filter(chance: Random) -> tuple[list[str], Filter]:
-    """Draws the options that print some lines only, in one run of four, and which lines these are."""
+    """Draws the options that print some lines only, in one run of four, and these lines."""
     if chance.random() < 0.75:
         return [], ALL_LINES
     only = chance.choice((None, "committed", "conflict", "tooold"))
-    least, below = (chance.choice((None, chance.randint(0, 20), 10 ** chance.randint(1, 8))) for _ in range(2))
+    least, below = (
+        chance.choice((None, chance.randint(0, 20), 10 ** chance.randint(1, 8))) for _ in range(2)
+    )
     quiet = chance.random() < 0.1
     options = ["--quiet"] if quiet else []
     if only is not None:
@@ -69,7 +71,9 @@ def names_of(files: Sequence[bytes]) -> dict[str, bytes]:
     return {f"file{proxy}": content for proxy, content in enumerate(files)}
 
 
-def draw_run(chance: Random, files: Sequence[bytes], window: int | None, is_known: bool = True) -> Run:
+def draw_run(
+    chance: Random, files: Sequence[bytes], window: int | None, is_known: bool = True
+) -> Run:
     """A run in one of the forms, with what the rules say of it if they are to be asked."""
     form, is_summary = chance.choice(FORMS), chance.random() < 0.1
     explains = not is_summary and form != "frames" and chance.random() < 0.3
@@ -79,14 +83,24 @@ def draw_run(chance: Random, files: Sequence[bytes], window: int | None, is_know
     else:
         chosen, shown = draw_filter(chance)
     reports_all = chance.random() < 0.2
-    flags = [*chosen, *(["--explain"] if explains else []), *([] if form == "words" else [f"--{form}"])]
+    flags = [
+        *chosen, *(["--explain"] if explains else []), *([] if form == "words" else [f"--{form}"])
+    ]
     flags += ["--report-all"] if reports_all else []
     options, names = draw_options(chance, window), list(names_of(files))
-    args = chance.choice(([*flags, *options, *names], [*options, *names, *flags], [*names, *flags, *options]))
+    args = chance.choice(
+        ([*flags, *options, *names], [*options, *names, *flags], [*names, *flags, *options])
+    )
     expected = None
     if is_known:
         expected = replay_outcome(
-            files, form, window or WINDOW, shown=shown, is_summary=is_summary, explains=explains, reports_all=reports_all
+            files,
+            form,
+            window or WINDOW,
+            shown=shown,
+            is_summary=is_summary,
+            explains=explains,
+            reports_all=reports_all,
         )
     hides_occupancy = is_summary and (is_known or len(files) > 1)
     return Run("replay", tuple(args), expected=expected, hides_occupancy=hides_occupancy)
@@ -110,11 +124,16 @@ def draw_proxies(chance: Random) -> int:
 
 
 def draw_many(chance: Random) -> Case:
-    """One chain dealt to several proxies, with repeats in the file of the first, gaps and files without batches."""
+    """One chain dealt to several proxies.
+
+    The file of the first has repeats. There are gaps and files without batches.
+    """
     drawer, window, chain = draw_chain(chance)
     if chain and chance.random() < 0.2:
         chain.pop(chance.randrange(len(chain)))
-    batches = [disturbed_file(chance, some, drawer) for some in dealt(chance, chain, draw_proxies(chance))]
+    batches = [
+        disturbed_file(chance, some, drawer) for some in dealt(chance, chain, draw_proxies(chance))
+    ]
     files = [b"".join(draw_bytes(chance, some)) for some in batches]
     return Case("", "several proxies", names_of(files), (draw_run(chance, files, window),))
 
@@ -123,7 +142,10 @@ def draw_history(chance: Random) -> Case:
     """Many keys, so that trees have levels, cells are doubled and sweeps go along leaves."""
     sorts = ManyKeys(chance)
     chain = sorts.chain(chance.choice((5, 15, 30)))
-    files = [b"".join(draw_bytes(chance, some)) for some in dealt(chance, chain, chance.choice((1, 1, 3)))]
+    files = [
+        b"".join(draw_bytes(chance, some))
+        for some in dealt(chance, chain, chance.choice((1, 1, 3)))
+    ]
     return Case("", "history", names_of(files), (draw_run(chance, files, sorts.window),))
 
 
@@ -136,7 +158,9 @@ class ManyKeys:
         prefix = b"p" * chance.choice((0, 0, 3, 8, 20, 40))
         lengths = chance.choice(((4,), (5,), (8,), range(1, 10)))
         count = chance.choice((200, 1_000, 1_000, 6_000))
-        keys = {prefix + bytes(chance.choices(letters, k=chance.choice(lengths))) for _ in range(count)}
+        keys = {
+            prefix + bytes(chance.choices(letters, k=chance.choice(lengths))) for _ in range(count)
+        }
         keys.update(chance.choice(((), (b"", prefix), (prefix[:-1], prefix + b"\0"))))
         self.pool = sorted(keys)
         self.window = chance.choice((None, 3, 8, 40))
@@ -144,7 +168,9 @@ class ManyKeys:
     def run(self, most: int) -> Range:
         """Returns a range from one key up to another, at most this many keys further."""
         at = self.chance.randrange(len(self.pool) - 1)
-        return Range(self.pool[at], self.pool[min(len(self.pool) - 1, at + self.chance.randint(1, most))])
+        return Range(
+            self.pool[at], self.pool[min(len(self.pool) - 1, at + self.chance.randint(1, most))]
+        )
 
     def range(self) -> Range:
         kind = self.chance.random()
@@ -158,7 +184,12 @@ class ManyKeys:
     def neighbours(self) -> tuple[Range, ...]:
         """Single keys side by side, which a tree writes into one leaf."""
         at = self.chance.randrange(len(self.pool))
-        return tuple(map(single, self.pool[at : at + self.chance.choice((3, 40, 200)) : self.chance.choice((1, 2))]))
+        return tuple(
+            map(
+                single,
+                self.pool[at : at + self.chance.choice((3, 40, 200)) : self.chance.choice((1, 2))],
+            )
+        )
 
     def txn(self, previous: int) -> Txn:
         snapshot = max(0, previous - self.chance.choice((0, 0, 0, 0, 1, 4)))
@@ -171,7 +202,10 @@ class ManyKeys:
         keys = [single(key) for key in self.chance.sample(self.pool, k=len(self.pool) * 2 // 3)]
         ranges = [self.run(2) for _ in range(len(self.pool) // 10)]
         self.chance.shuffle(keys)
-        return tuple(Txn(0, False, (), tuple((keys + ranges)[at : at + 1_024])) for at in range(0, len(keys + ranges), 1_024))
+        return tuple(
+            Txn(0, False, (), tuple((keys + ranges)[at : at + 1_024]))
+            for at in range(0, len(keys + ranges), 1_024)
+        )
 
     def chain(self, count: int) -> list[Batch]:
         chain = [Batch(-1, 0, -1, self.filling())]
@@ -184,11 +218,18 @@ class ManyKeys:
 
 
 def draw_stop(chance: Random) -> Case:
-    """A limit that writes may exceed. Several proxies have one chain alone, whose batches up to the stop are answered."""
+    """A limit that writes may exceed.
+
+    Several proxies have one chain alone, whose batches up to the stop are answered.
+    """
     drawer, window, chain = draw_chain(chance)
     limit = chance.choice((1, 2, 3, 4, 5, 6, 8, 16, 40, 200, 16_777_216))
     is_alone = chance.random() < 0.5
-    batches = [disturbed(chance, chain, drawer)] if is_alone else dealt(chance, chain, draw_proxies(chance))
+    batches = (
+        [disturbed(chance, chain, drawer)]
+        if is_alone
+        else dealt(chance, chain, draw_proxies(chance))
+    )
     files = [b"".join(draw_bytes(chance, some)) for some in batches]
     is_known = most_boundaries([batch for some in batches for batch in some]) <= limit
     run = draw_run(chance, files, window, is_known)
@@ -197,12 +238,16 @@ def draw_stop(chance: Random) -> Case:
 
 
 def draw_full_gate(chance: Random) -> Case:
-    """About as many held batches of one proxy as the gate holds, and perhaps the chain that frees them."""
+    """About as many held batches of a proxy as the gate holds, perhaps with what frees them."""
     count = chance.choice((1_022, 1_023, 1_024, 1_025))
     held = [Batch(version, version + 1) for version in range(10, 10 + count)]
     # The last of them leaves the others held, and is a repeat itself.
     freeing: list[Batch] = chance.choice([[], [Batch(0, 10)], [Batch(0, 9), Batch(-1, 0)]])
-    files = [file_of([Batch(-1, 0), *shuffled_near(chance, held, chance.choice((0, 3, 2_000))), *freeing])]
+    files = [
+        file_of(
+            [Batch(-1, 0), *shuffled_near(chance, held, chance.choice((0, 3, 2_000))), *freeing]
+        )
+    ]
     return Case("", "gate", names_of(files), (draw_run(chance, files, None),))
 
 
@@ -217,7 +262,9 @@ def draw_full_shares(chance: Random) -> Case:
     dealt_early = [early[proxy * share : (proxy + 1) * share] for proxy in range(proxies)]
     versions = [[*some, last] for some, last in zip(dealt_early, due)]
     files = [file_of(Batch(one - 1, one) for one in some) for some in versions]
-    lines = (f"{proxy} {one} empty\n" for proxy in range(proxies) for one in sorted(versions[proxy]))
+    lines = (
+        f"{proxy} {one} empty\n" for proxy in range(proxies) for one in sorted(versions[proxy])
+    )
     expected = Outcome(0, "".join(lines).encode(), b"")
     run = Run("replay", tuple(names_of(files)), expected=expected)
     return Case("", "full shares", names_of(files), (run,))
@@ -229,7 +276,10 @@ def draw_fault(chance: Random) -> Case:
     if chance.random() < 0.7:
         files = [damaged_file(chance, draw_bytes(chance, disturbed(chance, chain, drawer)))]
     else:
-        files = [b"".join(draw_bytes(chance, some)) for some in dealt(chance, chain, draw_proxies(chance))]
+        files = [
+            b"".join(draw_bytes(chance, some))
+            for some in dealt(chance, chain, draw_proxies(chance))
+        ]
         for proxy in chance.sample(range(len(files)), k=chance.randint(1, 2)):
             files[proxy] = cut(chance, files[proxy]) if len(files[proxy]) > 1 else b"\0"
     # Damage may have made a long transaction out of a short one.
@@ -251,7 +301,7 @@ def entry_changed(chance: Random, reply: Reply) -> Reply:
 
 
 def recorded_changed(chance: Random, replies: list[Reply]) -> list[Reply]:
-    """Changes the replies to a proxy: none or another one, in another order, repeated, or missing."""
+    """Changes the replies to a proxy: none, another one, in another order, repeated or missing."""
     changed = list(replies)
     for _ in range(chance.choice((0, 0, 1, 2))):
         kind = chance.randrange(5)
@@ -272,7 +322,9 @@ def recorded_changed(chance: Random, replies: list[Reply]) -> list[Reply]:
 
 def replies_files(chance: Random, recorded: list[list[Reply]]) -> list[bytes]:
     """The files of replies, of which one may be damaged."""
-    found = [[reply_frame(reply) for reply in recorded_changed(chance, replies)] for replies in recorded]
+    found = [
+        [reply_frame(reply) for reply in recorded_changed(chance, replies)] for replies in recorded
+    ]
     files = [b"".join(frames) for frames in found]
     if chance.random() < 0.1:
         proxy = chance.randrange(len(found))
@@ -286,7 +338,10 @@ def draw_check(chance: Random) -> Case:
     if chance.random() < 0.5:
         batches = [disturbed(chance, chain, drawer)]
     else:
-        batches = [disturbed_file(chance, some, drawer) for some in dealt(chance, chain, draw_proxies(chance))]
+        batches = [
+            disturbed_file(chance, some, drawer)
+            for some in dealt(chance, chain, draw_proxies(chance))
+        ]
     reports_all = chance.random() < 0.2
     answers = resolve(list(map(all_asking, batches)) if reports_all else batches, window or WINDOW)
     files = [b"".join(draw_bytes(chance, some)) for some in batches]
@@ -299,5 +354,9 @@ def draw_check(chance: Random) -> Case:
         args += ["--check", f"replies{proxy}"]
     args += ["--report-all"] if reports_all else []
     given = {f"replies{proxy}": content for proxy, content in enumerate(replies)}
-    expected = replay_outcome(files, window=window or WINDOW, replies=replies, reports_all=reports_all)
-    return Case("", "check", names_of(files) | given, (Run("replay", tuple(args), expected=expected),))
+    expected = replay_outcome(
+        files, window=window or WINDOW, replies=replies, reports_all=reports_all
+    )
+    return Case(
+        "", "check", names_of(files) | given, (Run("replay", tuple(args), expected=expected),)
+    )

@@ -1,4 +1,7 @@
-"""What `replay --resolvers` prints, by one `replay` per shard over clipped files, and a plain combination of what these print."""
+"""What `replay --resolvers` prints, by one `replay` per shard over clipped files.
+
+Their answers are combined by a plain function.
+"""
 
 import json
 import subprocess
@@ -39,7 +42,8 @@ def answer_of(line: dict[str, object]) -> Answer:
 def shard_of(run: subprocess.CompletedProcess[bytes]) -> Shard:
     answers: dict[int, dict[int, list[Answer]]] = {}
     for line in map(json.loads, run.stdout.splitlines()):
-        answers.setdefault(line["proxy"], {}).setdefault(line["version"], []).append(answer_of(line))
+        own = answers.setdefault(line["proxy"], {})
+        own.setdefault(line["version"], []).append(answer_of(line))
     messages = run.stderr.decode().splitlines()
     proxies = [message for message in messages if message.startswith("replay: proxy ")]
     endings = [message for message in messages if message not in proxies]
@@ -51,13 +55,18 @@ def read_indices(txn: Txn, first: bytes, end: bytes | None) -> list[int]:
 
 
 def entry_of(entries: Sequence[Entry], indices: Sequence[Sequence[int]]) -> Entry:
-    """The least verdict of the shards, and all that they report in the numbers of the batch that was sent."""
+    """The least verdict of the shards, and all that they report.
+
+    Reports have the numbers of the batch that was sent.
+    """
     verdict = min((entry.verdict for entry in entries), key=RANKS.index)
     places = {own[place] for entry, own in zip(entries, indices) for place in entry.indices}
     return Entry(verdict, tuple(sorted(places)))
 
 
-def combined(answers: Sequence[Answer], batch: Batch | None, bounds: Sequence[tuple[bytes, bytes | None]]) -> Answer:
+def combined(
+    answers: Sequence[Answer], batch: Batch | None, bounds: Sequence[tuple[bytes, bytes | None]]
+) -> Answer:
     """The answer of all shards, given the first batch of the version that requests a report."""
     if "never" in answers:
         return "never"
@@ -69,7 +78,10 @@ def combined(answers: Sequence[Answer], batch: Batch | None, bounds: Sequence[tu
     indices = [[read_indices(txn, *own) for txn in txns] for own in bounds]
     try:
         return tuple(
-            entry_of([entries[number] for entries in answers], [own[number] if number < len(own) else [] for own in indices])
+            entry_of(
+                [entries[number] for entries in answers],
+                [own[number] if number < len(own) else [] for own in indices],
+            )
             for number in range(len(answers[0]))
         )
     except IndexError:
@@ -80,17 +92,30 @@ def line_of(proxy: int, version: int, answer: Answer, is_json: bool) -> str:
     if is_json and isinstance(answer, str):
         return f'{{"proxy":{proxy},"version":{version},"answer":"{answer}"}}\n'
     if is_json:
-        return f'{{"proxy":{proxy},"version":{version},"verdicts":[{",".join(map(entry_json, answer))}]}}\n'
+        return (
+            f'{{"proxy":{proxy},"version":{version},'
+            f'"verdicts":[{",".join(map(entry_json, answer))}]}}\n'
+        )
     if isinstance(answer, str):
         return f"{proxy} {version} {answer}\n"
-    words = [entry.verdict + (":" + ",".join(map(str, entry.indices)) if entry.indices else "") for entry in answer]
+    words = [
+        entry.verdict + (":" + ",".join(map(str, entry.indices)) if entry.indices else "")
+        for entry in answer
+    ]
     return f"{proxy} {version} {' '.join(words) or 'empty'}\n"
 
 
 class Plain:
     """The runs of all shards."""
 
-    def __init__(self, replay: Path, batches: Path, contents: Sequence[bytes], points: Sequence[bytes], options: Sequence[str]) -> None:
+    def __init__(
+        self,
+        replay: Path,
+        batches: Path,
+        contents: Sequence[bytes],
+        points: Sequence[bytes],
+        options: Sequence[str],
+    ) -> None:
         self.contents, self.points = contents, points
         self.bounds = list(zip([b"", *points], [*points, None]))
         with tempfile.TemporaryDirectory() as folder:
@@ -98,21 +123,42 @@ class Plain:
             (self.folder / "points").write_bytes(point_lines(points))
             for proxy, content in enumerate(contents):
                 (self.folder / f"file{proxy}").write_bytes(content)
-            self.shards = [self.run(replay, batches, shard, options) for shard in range(len(points) + 1)]
+            self.shards = [
+                self.run(replay, batches, shard, options) for shard in range(len(points) + 1)
+            ]
 
     def run(self, replay: Path, batches: Path, shard: int, options: Sequence[str]) -> Shard:
-        """Clips the files to a shard and replays them. The bytes after a fault are left as they are, behind the clips before it."""
+        """Clips the files to a shard and replays them.
+
+        The bytes after a fault are left as they are, behind the clips before it.
+        """
         names = []
         for proxy, content in enumerate(self.contents):
-            clip = [batches, "clip", "--split-points", self.folder / "points", "--shard", str(shard), self.folder / f"file{proxy}"]
+            clip = [
+                batches,
+                "clip",
+                "--split-points",
+                self.folder / "points",
+                "--shard",
+                str(shard),
+                self.folder / f"file{proxy}",
+            ]
             clipped = subprocess.run(clip, capture_output=True, timeout=120)
             names.append(self.folder / f"clip{proxy}")
-            names[-1].write_bytes(clipped.stdout + (rest_of(content) if clipped.returncode else b""))
-        return shard_of(subprocess.run([replay, "--json", *options, *names], capture_output=True, timeout=120))
+            names[-1].write_bytes(
+                clipped.stdout + (rest_of(content) if clipped.returncode else b"")
+            )
+        return shard_of(
+            subprocess.run([replay, "--json", *options, *names], capture_output=True, timeout=120)
+        )
 
     def first_with_report(self, proxy: int) -> dict[int, Batch]:
         read, _ = frames(self.contents[proxy], read_batch)
-        return {batch.version: batch for batch in reversed(read) if any(txn.report for txn in batch.txns)}
+        return {
+            batch.version: batch
+            for batch in reversed(read)
+            if any(txn.report for txn in batch.txns)
+        }
 
     def lines(self, proxy: int, is_json: bool) -> str:
         each = [shard.answers.get(proxy, {}) for shard in self.shards]
@@ -127,10 +173,18 @@ class Plain:
     def outcome(self, is_json: bool) -> Outcome:
         out = "".join(self.lines(proxy, is_json) for proxy in range(len(self.contents)))
         messages = list(self.shards[0].proxies)
-        stops = [(number, shard.ending) for number, shard in enumerate(self.shards) if "stop" in shard.ending]
+        stops = [
+            (number, shard.ending)
+            for number, shard in enumerate(self.shards)
+            if "stop" in shard.ending
+        ]
         if stops:
             messages += [stops[0][1], f"replay: shard {stops[0][0]}"]
-        return Outcome(1 if messages else 0, out.encode(), "".join(f"{message}\n" for message in messages).encode())
+        return Outcome(
+            1 if messages else 0,
+            out.encode(),
+            "".join(f"{message}\n" for message in messages).encode(),
+        )
 
 
 def rest_of(content: bytes) -> bytes:

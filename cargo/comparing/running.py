@@ -33,31 +33,43 @@ class Difference:
 
 
 def time_limit() -> float:
-    """Returns after how many seconds a program counts as endless: more if processes wait for processors."""
+    """Returns after how many seconds a program counts as endless.
+
+    It is more if processes wait for processors.
+    """
     return LIMIT * max(1.0, os.getloadavg()[0] / (os.cpu_count() or 1))
 
 
 def played(programs: Programs, run: Run, folder: Path) -> Outcome:
     """Runs a command line."""
     limit = time_limit()
-    with open("/dev/full", "wb") as full, open(folder / run.stdin_file if run.stdin_file else os.devnull, "rb") as file:
+    source = folder / run.stdin_file if run.stdin_file else os.devnull
+    with open("/dev/full", "wb") as full, open(source, "rb") as file:
         out: BinaryIO | int = full if run.is_full else subprocess.PIPE
         command = [str(programs[run.program]), *run.args]
         given: dict[str, Any] = {"stdin": file} if run.stdin_file else {"input": run.stdin}
         try:
-            done = subprocess.run(command, **given, stdout=out, stderr=subprocess.PIPE, cwd=folder, timeout=limit)
+            done = subprocess.run(
+                command, **given, stdout=out, stderr=subprocess.PIPE, cwd=folder, timeout=limit
+            )
         except subprocess.TimeoutExpired:
             return Outcome(ENDLESS, b"", f"no end after {limit:.0f} seconds".encode())
     return Outcome(done.returncode, done.stdout or b"", done.stderr)
 
 
 def is_of_clap(run: Run, outcome: Outcome) -> bool:
-    """Whether the text is that of `clap`: help, or a refused command line. `workload` prints its own text."""
+    """Whether the text is that of `clap`: help, or a refused command line.
+
+    `workload` prints its own text.
+    """
     return run.text is Text.OF_CLAP or (outcome.status == 2 and run.program in CLAP_SPEAKS)
 
 
 def kind_of(run: Run, text: bytes) -> bytes:
-    """Returns what is compared of a text of `clap`. `batches` without arguments prints its help to standard error."""
+    """Returns what is compared of a text of `clap`.
+
+    `batches` without arguments prints its help to standard error.
+    """
     if run.program == "replay" and text.startswith(b"error: "):
         return b"error"
     return b"text" if text else b""
@@ -98,8 +110,8 @@ def write_files(case: Case, folder: Path) -> None:
 
 
 def compared(case: Case, sides: dict[str, Programs], room: Path) -> list[Difference]:
-    """Runs a case on each side, and returns the runs that differ from each other or from what is expected. A program that doesn't end
-    ends the case."""
+    """Runs a case on each side, and returns the runs that differ from each other or from what is
+    expected. A program that doesn't end ends the case."""
     found = []
     with tempfile.TemporaryDirectory(dir=room) as name:
         folder = Path(name)
@@ -117,7 +129,9 @@ def compared(case: Case, sides: dict[str, Programs], room: Path) -> list[Differe
 
 
 def command_line(run: Run) -> str:
-    words = [arg if isinstance(arg, str) else arg.decode("utf-8", "backslashreplace") for arg in run.args]
+    words = [
+        arg if isinstance(arg, str) else arg.decode("utf-8", "backslashreplace") for arg in run.args
+    ]
     stdin = f" < {run.stdin_file}" if run.stdin_file else " < stdin" if run.stdin else ""
     return shlex.join([run.program, *words]) + stdin + (" > /dev/full" if run.is_full else "")
 

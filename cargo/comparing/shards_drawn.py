@@ -11,10 +11,20 @@ from .wire import Batch, file_of
 
 def draw_points(chance: Random, batches: list[Batch]) -> list[bytes]:
     """Split points, most of which are ends of ranges."""
-    keys = {key for batch in batches for txn in batch.txns for one in txn.reads + txn.writes for key in (one.begin, one.end)}
+    keys = {
+        key
+        for batch in batches
+        for txn in batch.txns
+        for one in txn.reads + txn.writes
+        for key in (one.begin, one.end)
+    }
     keys |= {b"m", b"\\", b"\n", b" ", bytes([chance.randrange(256), chance.randrange(256)])}
     keys.discard(b"")
-    return sorted(chance.sample(sorted(keys), k=chance.randint(0, min(len(keys), chance.choice((1, 2, 5, 63))))))
+    return sorted(
+        chance.sample(
+            sorted(keys), k=chance.randint(0, min(len(keys), chance.choice((1, 2, 5, 63))))
+        )
+    )
 
 
 def draw_shards(chance: Random) -> Case:
@@ -32,10 +42,28 @@ def draw_shards(chance: Random) -> Case:
     runs = (
         Run("batches", ("stats", *names), expected=stats(names, contents, False)),
         Run("batches", ("stats", "--json", *names), expected=stats(names, contents, True)),
-        Run("batches", ("stats",), contents[0], expected=stats(["standard input"], contents[:1], False)),
-        Run("batches", ("split-points", "--resolvers", str(resolvers), *names), expected=split_points(names, contents, resolvers)),
+        Run(
+            "batches",
+            ("stats",),
+            contents[0],
+            expected=stats(["standard input"], contents[:1], False),
+        ),
+        Run(
+            "batches",
+            ("split-points", "--resolvers", str(resolvers), *names),
+            expected=split_points(names, contents, resolvers),
+        ),
         Run("batches", (*clip_args, names[0]), expected=clip(names[0], contents[0], points, shard)),
-        Run("batches", (*clip_args, "-"), contents[-1], expected=clip("standard input", contents[-1], points, shard)),
-        Run("batches", ("opening", "--version", str(version)), expected=Outcome(0, opening(version), b"")),
+        Run(
+            "batches",
+            (*clip_args, "-"),
+            contents[-1],
+            expected=clip("standard input", contents[-1], points, shard),
+        ),
+        Run(
+            "batches",
+            ("opening", "--version", str(version)),
+            expected=Outcome(0, opening(version), b""),
+        ),
     )
     return Case("", "shards", dict(zip(names, contents)) | {"points": point_lines(points)}, runs)

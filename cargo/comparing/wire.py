@@ -1,4 +1,7 @@
-"""Batches and replies, and their frames by docs/WIRE.md. Written apart from the programs, which read what it writes."""
+"""Batches and replies, and their frames by docs/WIRE.md.
+
+Written apart from the programs, which read what it writes.
+"""
 
 import struct
 from collections.abc import Iterable
@@ -86,7 +89,9 @@ def txn_bytes(txn: Txn, version: int) -> bytes:
 def batch_frame(batch: Batch, version: int = 1) -> bytes:
     """Returns the frame of a batch in this version of the wire form."""
     kind = 1 if version == 1 else 3
-    head = struct.pack(">BqqqH", kind, batch.previous, batch.version, batch.received, len(batch.txns))
+    head = struct.pack(
+        ">BqqqH", kind, batch.previous, batch.version, batch.received, len(batch.txns)
+    )
     return framed(head + b"".join(txn_bytes(txn, version) for txn in batch.txns))
 
 

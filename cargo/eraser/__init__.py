@@ -1,1 +1,4 @@
-"""Turns proved Rattle sources into plain Rust: clauses, ghosts and models are removed, and the rest stays as it is written."""
+"""Turns proved Rattle sources into plain Rust.
+
+Clauses, ghosts and models are removed, and the rest stays as it is written.
+"""

@@ -1,4 +1,4 @@
-"""Checks that an erased source has lost nothing but ghosts, by what is left and not by the rules."""
+"""Checks that an erased source has lost nothing but ghosts, by what is left, not by the rules."""
 
 import re
 from itertools import groupby
@@ -15,7 +15,9 @@ SHAPES = {
     "model": r"use std :: marker :: Model ;|(impl [^{]*Model for [^{]* \{( ‹ghost›)* \} ?)+",
     "bound": r": Drop|Drop \+|\+ Drop",
     "test": r"# \[ cfg \( test \) \] mod \w+ \{.*\}",
-    "signature": r"< W : fmt :: Write >|< R : Eprint >|, _rt : & R|rt : HostRuntime|(self \. )?rt ,",
+    "signature": (
+        r"< W : fmt :: Write >|< R : Eprint >|, _rt : & R|rt : HostRuntime|(self \. )?rt ,"
+    ),
     "error": r'use thiserror :: Error ;|, Error|# \[ error \( "" \) \]',
 }
 

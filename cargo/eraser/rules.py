@@ -76,7 +76,9 @@ def apply(source: Source, kit: frozenset[str], real: frozenset[str]) -> None:
     refused = REFUSED
     if "thiserror" not in real:
         write_errors(source)
-        refused += (("an Error that is not derived last on an enum", r"derive \( [^)]*\b(Error)\b"),)
+        refused += (
+            ("an Error that is not derived last on an enum", r"derive \( [^)]*\b(Error)\b"),
+        )
     code = source.code()
     for reason, pattern in REMOVED:
         for match in re.finditer(pattern, code.text):

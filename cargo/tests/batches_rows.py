@@ -81,8 +81,9 @@ JSON_SECOND = (
 )
 
 JSON_EMPTY = (
-    '{"batches":0,"bytes":0,"versions":null,"transactions":0,"reports":0,"transactions_per_batch":null,"reads":0,'
-    '"reads_per_transaction":null,"writes":0,"writes_per_transaction":null,"keys":0,"key_bytes":null}\n'
+    '{"batches":0,"bytes":0,"versions":null,"transactions":0,"reports":0,'
+    '"transactions_per_batch":null,"reads":0,"reads_per_transaction":null,"writes":0,'
+    '"writes_per_transaction":null,"keys":0,"key_bytes":null}\n'
 )
 
 
@@ -109,7 +110,9 @@ ROWS = (
     BatchesRow(("stats", "-", "empty"), STATS_SECOND, stdin="second"),
     BatchesRow(("stats", "--json", "second"), JSON_SECOND),
     BatchesRow(("stats", "empty", "--json"), JSON_EMPTY),
-    BatchesRow(("stats", "first", "missing"), "", "batches: missing: the file can't be opened\n", 1),
+    BatchesRow(
+        ("stats", "first", "missing"), "", "batches: missing: the file can't be opened\n", 1
+    ),
     BatchesRow(("stats", "first", "one"), "", "batches: one: frame 1: 1 Short\n", 1),
     BatchesRow(("stats",), "", "batches: standard input: frame 1: 1 Short\n", 1, stdin="one"),
     BatchesRow(("encode", "missing"), "", "batches: missing: the file can't be opened\n", 1),
@@ -118,9 +121,21 @@ ROWS = (
     BatchesRow(("encode", "."), "", "batches: .: the input can't be read\n", 1),
     BatchesRow(("show", "."), "", "batches: .: the input can't be read\n", 1),
     BatchesRow(("encode", "odd"), "", "batches: odd: line 1, column 1: not JSON\n", 1),
-    BatchesRow(("encode", "-"), "", "batches: standard input: line 2, column 2: not JSON\n", 1, stdin="blank_key"),
+    BatchesRow(
+        ("encode", "-"),
+        "",
+        "batches: standard input: line 2, column 2: not JSON\n",
+        1,
+        stdin="blank_key",
+    ),
     BatchesRow(("decode", "one"), "", "batches: one: frame 1: 1 Short\n", 1),
-    BatchesRow(("show", "--replies", "-"), "", "batches: standard input: frame 1: 1 Short\n", 1, stdin="one"),
+    BatchesRow(
+        ("show", "--replies", "-"),
+        "",
+        "batches: standard input: frame 1: 1 Short\n",
+        1,
+        stdin="one",
+    ),
     BatchesRow(("stats", "."), "", "batches: .: the input can't be read\n", 1),
     BatchesRow(("split-points", "--resolvers", "4", "begins"), "k\ny\nz\n"),
     BatchesRow(("split-points", "--resolvers", "2", "begins"), "k\n"),
@@ -129,7 +144,12 @@ ROWS = (
     BatchesRow(("split-points", "--resolvers=3", "first", "second"), "a\nk\n"),
     BatchesRow(("split-points", "--resolvers", "2"), "k\n", stdin="begins"),
     BatchesRow(("split-points", "--resolvers", "2", "empty"), ""),
-    BatchesRow(("split-points", "--resolvers", "2", "empty", "one"), "", "batches: one: frame 1: 1 Short\n", 1),
+    BatchesRow(
+        ("split-points", "--resolvers", "2", "empty", "one"),
+        "",
+        "batches: one: frame 1: 1 Short\n",
+        1,
+    ),
     BatchesRow(clip("one", 0, "wide"), ("-1>0: R[a,m) W[c]",)),
     BatchesRow(clip("one", 1, "wide"), ("-1>0: R[m,z) W[m,m) W[p,q)",)),
     BatchesRow(clip("two", 0, "wide"), ("-1>0: R[a,c)",)),
@@ -141,35 +161,91 @@ ROWS = (
     BatchesRow(clip("one", 1, "second"), ("100>250: @0",)),
     BatchesRow(clip("escapes", 1, "first"), ("-1>0", r"0>100 received 0: m W[\x00\x5c,\x20); @50")),
     BatchesRow(clip("one", 1, "empty"), ()),
-    BatchesRow(clip("one", 2, "wide"), "", "batches: one: no shard has this number: there are 2, counted from 0\n", 1),
-    BatchesRow(clip("falls", 0, "wide"), "", "batches: falls: line 3: the split point isn't after the one before\n", 1),
-    BatchesRow(clip("again", 0, "wide"), "", "batches: again: line 2: the split point isn't after the one before\n", 1),
-    BatchesRow(clip("blank", 0, "wide"), "", "batches: blank: line 1: the split point isn't after the one before\n", 1),
-    BatchesRow(clip("odd", 0, "wide"), "", "batches: odd: line 2: backslash that begins neither \\\\\\\\ nor \\\\xNN\n", 1),
+    BatchesRow(
+        clip("one", 2, "wide"),
+        "",
+        "batches: one: no shard has this number: there are 2, counted from 0\n",
+        1,
+    ),
+    BatchesRow(
+        clip("falls", 0, "wide"),
+        "",
+        "batches: falls: line 3: the split point isn't after the one before\n",
+        1,
+    ),
+    BatchesRow(
+        clip("again", 0, "wide"),
+        "",
+        "batches: again: line 2: the split point isn't after the one before\n",
+        1,
+    ),
+    BatchesRow(
+        clip("blank", 0, "wide"),
+        "",
+        "batches: blank: line 1: the split point isn't after the one before\n",
+        1,
+    ),
+    BatchesRow(
+        clip("odd", 0, "wide"),
+        "",
+        "batches: odd: line 2: backslash that begins neither \\\\\\\\ nor \\\\xNN\n",
+        1,
+    ),
     BatchesRow(
         clip("printed", 0, "wide"),
         "",
-        "batches: printed: line 2: character that isn't printable ASCII: write its bytes as \\\\xNN\n",
+        (
+            "batches: printed: line 2: character that isn't printable ASCII: "
+            "write its bytes as \\\\xNN\n"
+        ),
         1,
     ),
     BatchesRow(clip("many", 0, "wide"), "", "batches: many: more than 63 split points\n", 1),
     BatchesRow(clip("missing", 0, "wide"), "", "batches: missing: the file can't be opened\n", 1),
     BatchesRow(clip("one", 0, "missing"), "", "batches: missing: the file can't be opened\n", 1),
     BatchesRow(clip("one", 0, "one"), "", "batches: one: frame 1: 1 Short\n", 1),
-    BatchesRow(("report", "first", "--replies", "missing"), "", "batches: missing: the file can't be opened\n", 1),
-    BatchesRow(("report", "missing", "--replies", "empty"), "", "batches: missing: the file can't be opened\n", 1),
+    BatchesRow(
+        ("report", "first", "--replies", "missing"),
+        "",
+        "batches: missing: the file can't be opened\n",
+        1,
+    ),
+    BatchesRow(
+        ("report", "missing", "--replies", "empty"),
+        "",
+        "batches: missing: the file can't be opened\n",
+        1,
+    ),
     BatchesRow(("report", "one", "--replies", "empty"), "", "batches: one: frame 1: 1 Short\n", 1),
-    BatchesRow(("report", "--replies", "empty"), "", "batches: standard input: frame 1: 1 Short\n", 1, stdin="one"),
+    BatchesRow(
+        ("report", "--replies", "empty"),
+        "",
+        "batches: standard input: frame 1: 1 Short\n",
+        1,
+        stdin="one",
+    ),
     BatchesRow(("report", "alone", "--replies", "one"), "", "batches: one: frame 1: 1 Short\n", 1),
-    BatchesRow(("report", "alone", "--replies", "empty", "-o", "missing/page"), "", "batches: missing/page: the file can't be created\n", 1),
-    BatchesRow(("decode", "-"), '{"previous":-1,"version":0,"received":-1,"transactions":[]}\n', stdin="alone"),
+    BatchesRow(
+        ("report", "alone", "--replies", "empty", "-o", "missing/page"),
+        "",
+        "batches: missing/page: the file can't be created\n",
+        1,
+    ),
+    BatchesRow(
+        ("decode", "-"),
+        '{"previous":-1,"version":0,"received":-1,"transactions":[]}\n',
+        stdin="alone",
+    ),
     BatchesRow(("show", "-"), "batch -1 > 0, received -1, transactions 0\n", stdin="alone"),
 )
 FILES["alone"] = ("-1>0",)
 
 @dataclass(frozen=True)
 class KeptRow:
-    """A command line of `report` whose page would overwrite a file that is read: it fails, and the files are as before."""
+    """A command line of `report` whose page would overwrite a file that is read.
+
+    It fails, and the files are as before.
+    """
 
     args: tuple[str, ...]
     # The file of the page.

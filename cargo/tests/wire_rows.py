@@ -8,7 +8,7 @@ ONE_COMMITTED = bytes.fromhex("0000000e 02 0000000000000064 0001 02 0000")
 
 
 def edited(frame: bytes, at: int, field: str, length: str = "", more: str = "") -> bytes:
-    """Returns the frame with another field at this index, another length of the body, and bytes after it."""
+    """Returns the frame with another field, another length of the body, and bytes after it."""
     put = bytes.fromhex(field)
     changed = frame[:at] + put + frame[at + len(put) :] + bytes.fromhex(more)
     return bytes.fromhex(length) + changed[4:] if length else changed
@@ -47,7 +47,11 @@ BATCHES = (
     (edited(ONE_WRITE[:-1], END_LENGTH, "0000", "0000002d"), "9 Inverted"),
     (edited(EMPTY_BATCH, KIND, "03"), ""),
     (edited(ONE_WRITE_2, BEGIN_LENGTH, "02"), "13 Form"),
-    (ONE_WRITE_2[:BEGIN_LENGTH].replace(b"\0\0\0\x2f", b"\0\0\0\x30") + bytes.fromhex("00 0001 6b 0002 6b00"), "14 Spelling"),
+    (
+        ONE_WRITE_2[:BEGIN_LENGTH].replace(b"\0\0\0\x2f", b"\0\0\0\x30")
+        + bytes.fromhex("00 0001 6b 0002 6b00"),
+        "14 Spelling",
+    ),
     (edited(edited(ONE_WRITE_2, BEGIN + 1, "62"), END + 1, "61"), "9 Inverted"),
     (edited(ONE_WRITE_2, BEGIN + 1, "62"), ""),
     (edited(SINGLE_KEY_2, BEGIN_LENGTH + 1, "2711"), "8 KeyLength"),
@@ -60,7 +64,15 @@ REPLIES = (
     (edited(ONE_COMMITTED, 15, "03"), "3 Kind"),
     (edited(ONE_COMMITTED, 16, "0001"), "7 Count"),
     (edited(COMMITTED_AND_CONFLICT, 21, "0400"), "6 Marks"),
-    (COMMITTED_AND_CONFLICT[:18].replace(b"\x13", b"\x15", 1) + bytes.fromhex("00 0002 0000 0000"), "6 Marks"),
-    (COMMITTED_AND_CONFLICT[:18].replace(b"\x13", b"\x15", 1) + bytes.fromhex("00 0002 0000 0001"), ""),
+    (
+        COMMITTED_AND_CONFLICT[:18].replace(b"\x13", b"\x15", 1)
+        + bytes.fromhex("00 0002 0000 0000"),
+        "6 Marks",
+    ),
+    (
+        COMMITTED_AND_CONFLICT[:18].replace(b"\x13", b"\x15", 1)
+        + bytes.fromhex("00 0002 0000 0001"),
+        "",
+    ),
     (edited(COMMITTED_AND_CONFLICT, 4, "02", "00000014", "00"), "4 Trailing"),
 )

@@ -1,5 +1,5 @@
 #!/usr/bin/env python3
-"""Draws the batch of version 300 of the tutorial: keys, versions, and the read that is in conflict."""
+"""Draws the batch of version 300 of the tutorial: keys, versions, and the read in conflict."""
 
 from svg import Picture, write
 
@@ -18,17 +18,24 @@ def write_mark(p: Picture, version: float, y: float) -> None:
 
 
 def read(p: Picture, y: float, kind: str) -> None:
-    """Draws what a read at snapshot 100 must find unwritten: all versions above 100, up to its batch."""
+    """Draws what a read at snapshot 100 must find unwritten: versions above 100 up to its batch."""
     p.rect(across(100) + 12, y - 16, across(300) - across(100) - 24, 32, kind, 4)
 
 
 def picture() -> Picture:
     """Returns the picture."""
-    p = Picture(680, 312, 'Why a transaction is in conflict',
-                'The batch of version 300 of the tutorial. Its first transaction reads the keys account/bob and account/alice at '
-                'snapshot 100. Both were written at version 100, which the snapshot includes. Alice was written again at '
-                '200, above the snapshot: the read with index 1 is in conflict. The second transaction reads bob alone, which '
-                'nobody has written since, so it commits and writes bob at version 300.')
+    p = Picture(
+        680,
+        312,
+        'Why a transaction is in conflict',
+        (
+            'The batch of version 300 of the tutorial. Its first transaction reads the keys '
+            'account/bob and account/alice at snapshot 100. Both were written at version 100, '
+            'which the snapshot includes. Alice was written again at 200, above the snapshot: the '
+            'read with index 1 is in conflict. The second transaction reads bob alone, which '
+            'nobody has written since, so it commits and writes bob at version 300.'
+        ),
+    )
     for y, key in ((ALICE, 'account/alice'), (BOB, 'account/bob')):
         p.text(10, y + 5, key, size=15, mono=True)
         p.line(146, y, 534, y, 'thin', 1)
@@ -43,7 +50,10 @@ def picture() -> Picture:
     p.text(across(200), ALICE - 24, 'read 1: written at 200', 'red', 15, 'middle')
     p.text(across(200), BOB - 24, 'read 0: not written since', 'green', 15, 'middle')
     p.text(across(300) - 14, BOB + 36, 'written by transaction 1', 'blue', 15, 'end')
-    for y, lines, kind in ((ALICE, ('transaction 0', 'reads both'), 'red'), (BOB, ('transaction 1', 'reads bob'), 'green')):
+    for y, lines, kind in (
+        (ALICE, ('transaction 0', 'reads both'), 'red'),
+        (BOB, ('transaction 1', 'reads bob'), 'green'),
+    ):
         for index, line in enumerate(lines):
             p.text(546, y - 22 + 20 * index, line, 'ink', 15)
         p.text(546, y + 18, 'conflict:1' if kind == 'red' else 'committed', kind, 15, mono=True)

@@ -1,5 +1,8 @@
 #!/usr/bin/env python3
-"""Draws the crates of crates.txt: each above all that it uses. Crates that serve tests alone are not drawn."""
+"""Draws the crates of crates.txt: each above all that it uses.
+
+Crates that serve tests alone are not drawn.
+"""
 
 import pathlib
 import re
@@ -37,7 +40,10 @@ def direct(uses: dict[str, list[str]]) -> dict[str, list[str]]:
 
 
 def heights(uses: dict[str, list[str]]) -> dict[str, int]:
-    """Returns how high each crate is: one above the highest that it uses. One that uses none is just below its lowest user."""
+    """Returns how high each crate is: one above the highest that it uses.
+
+    One that uses none is just below its lowest user.
+    """
     height: dict[str, int] = {}
 
     def level(name: str) -> int:
@@ -100,13 +106,22 @@ class Layout:
         """Returns how many pairs of lines cross."""
         total = 0
         for level in range(1, len(self.rows)):
-            place = {id(node): index for row in self.rows[level - 1:level + 1] for index, node in enumerate(row)}
+            place = {
+                id(node): index
+                for row in self.rows[level - 1:level + 1]
+                for index, node in enumerate(row)
+            }
             ends = [(place[id(high)], place[id(low)]) for high, low in self.lines[level]]
-            total += sum((a[0] - b[0]) * (a[1] - b[1]) < 0 for i, a in enumerate(ends) for b in ends[:i])
+            total += sum(
+                (a[0] - b[0]) * (a[1] - b[1]) < 0 for i, a in enumerate(ends) for b in ends[:i]
+            )
         return total
 
     def order(self) -> None:
-        """Puts each row in an order with few crossings: by the middle of the row below, then of the row above, some times."""
+        """Puts each row in an order with few crossings.
+
+        That is by the middle of the row below, then of the row above, some times.
+        """
         best, fewest = [list(row) for row in self.rows], self.crossings()
         for turn in range(60):
             up = turn % 2 == 0
@@ -117,8 +132,11 @@ class Layout:
                 near = self.neighbours(level)[0 if up else 1]
                 row = self.rows[level]
                 own = {id(node): (index + 0.5) / len(row) for index, node in enumerate(row)}
-                row.sort(key=lambda node: sum(place[id(n)] for n in near[id(node)]) / len(near[id(node)])
-                         if near[id(node)] else own[id(node)])
+                row.sort(
+                    key=lambda node: sum(place[id(n)] for n in near[id(node)]) / len(near[id(node)])
+                    if near[id(node)]
+                    else own[id(node)]
+                )
             self.swap()
             if self.crossings() < fewest:
                 best, fewest = [list(row) for row in self.rows], self.crossings()
@@ -134,7 +152,7 @@ class Layout:
                     row[index], row[index + 1] = row[index + 1], row[index]
 
     def place(self) -> None:
-        """Gives each node its place across: near those that it is joined to, and apart from the others of its row."""
+        """Gives each node its place across: near those that it is joined to, apart from others."""
         for row in self.rows:
             x = 0.0
             for node in row:
@@ -156,13 +174,19 @@ class Layout:
 
     @staticmethod
     def spread(row: list[Node], wanted: list[float]) -> None:
-        """Moves the nodes of a row as near to the wanted places as their widths allow, by groups that touch."""
+        """Moves the nodes of a row as near to the wanted places as their widths allow.
+
+        Nodes that touch move as a group.
+        """
         groups: list[list[float]] = []  # sum of wanted starts, count, width
         members: list[list[int]] = []
         for index, node in enumerate(row):
             groups.append([wanted[index] - node.width / 2, 1, node.width + GAP])
             members.append([index])
-            while len(groups) > 1 and groups[-2][0] / groups[-2][1] + groups[-2][2] > groups[-1][0] / groups[-1][1]:
+            while (
+                len(groups) > 1
+                and groups[-2][0] / groups[-2][1] + groups[-2][2] > groups[-1][0] / groups[-1][1]
+            ):
                 last, other = groups.pop(), members.pop()
                 groups[-1][0] += last[0] - last[1] * groups[-1][2]
                 groups[-1][1] += last[1]
@@ -181,8 +205,14 @@ def picture() -> Picture:
     layout = Layout(uses)
     width = int(max(node.x + node.width / 2 for row in layout.rows for node in row)) + MARGIN + 1
     height = ROW * (len(layout.rows) - 1) + HEIGHT + 2 * MARGIN
-    p = Picture(width, height, 'The crates', 'Each crate stands above all that it uses; a line joins it to those that it uses '
-                'directly. ' + ' '.join(f'{name}: {", ".join(used) or "none"}.' for name, used in uses.items()))
+    p = Picture(
+        width,
+        height,
+        'The crates',
+        'Each crate stands above all that it uses; a line joins it to those that it uses '
+        'directly. '
+        + ' '.join(f'{name}: {", ".join(used) or "none"}.' for name, used in uses.items()),
+    )
     for level, lines in enumerate(layout.lines):
         top = height - MARGIN - HEIGHT - ROW * level
         for high, low in lines:

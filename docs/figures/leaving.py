@@ -6,14 +6,23 @@ from svg import Picture, write
 
 def picture() -> Picture:
     """Returns the picture."""
-    p = Picture(700, 250, 'What becomes of a batch',
-                'The resolver is at version 100. A batch whose previous version is 100 is processed. One whose previous version '
-                'is below 100 is a repeat: it is answered with the kept reply, or never. One whose previous version is above 100 '
-                'is held until the resolver comes to it, and is answered held if the run ends before.')
+    p = Picture(
+        700,
+        250,
+        'What becomes of a batch',
+        (
+            'The resolver is at version 100. A batch whose previous version is 100 is processed. '
+            'One whose previous version is below 100 is a repeat: it is answered with the kept '
+            'reply, or never. One whose previous version is above 100 is held until the resolver '
+            'comes to it, and is answered held if the run ends before.'
+        ),
+    )
     p.box(270, 16, 160, 44, ['resolver', 'version 100'], 'box', 15)
-    rows = [(20, '0 > 100', 'below 100: a repeat', ['the kept reply,', 'or never'], 'amber'),
-            (260, '100 > 200', 'at 100: the next batch', ['judged and', 'answered'], 'green'),
-            (500, '200 > 300', 'above 100: too early', ['held until the', 'version is 200'], 'blue')]
+    rows = [
+        (20, '0 > 100', 'below 100: a repeat', ['the kept reply,', 'or never'], 'amber'),
+        (260, '100 > 200', 'at 100: the next batch', ['judged and', 'answered'], 'green'),
+        (500, '200 > 300', 'above 100: too early', ['held until the', 'version is 200'], 'blue'),
+    ]
     for x, batch, why, fate, colour in rows:
         p.curve(350, 60, x + 90, 96)
         p.box(x, 96, 180, 40, [batch], f'{colour}-box', 16, mono=True)

@@ -6,14 +6,26 @@ from svg import Picture, write
 
 def picture() -> Picture:
     """Returns the picture."""
-    p = Picture(700, 280, 'One log, and the answers of each proxy',
-                'Proxy 0 sends the batches from -1 to 0 and from 100 to 200, proxy 1 the batch from 0 to 100. The log takes each '
-                'of them once, those of a proxy in the order sent. The reference resolver computes the answers to the log. Each '
-                'proxy receives its own answers, in order and once.')
+    p = Picture(
+        700,
+        280,
+        'One log, and the answers of each proxy',
+        (
+            'Proxy 0 sends the batches from -1 to 0 and from 100 to 200, proxy 1 the batch from 0 '
+            'to 100. The log takes each of them once, those of a proxy in the order sent. The '
+            'reference resolver computes the answers to the log. Each proxy receives its own '
+            'answers, in order and once.'
+        ),
+    )
     p.box(14, 40, 116, 60, ['proxy 0', '-1>0, 100>200'], 'blue-box', 15)
     p.box(14, 170, 116, 60, ['proxy 1', '0>100'], 'amber-box', 15)
     p.text(176, 24, 'log: the order of taking', 'ink', 15, bold=True)
-    log = [('Take 0', '-1 > 0', 'blue'), ('Take 1', '0 > 100', 'amber'), ('Take 0', '100 > 200', 'blue'), ('Finish', '', 'box')]
+    log = [
+        ('Take 0', '-1 > 0', 'blue'),
+        ('Take 1', '0 > 100', 'amber'),
+        ('Take 0', '100 > 200', 'blue'),
+        ('Finish', '', 'box'),
+    ]
     for index, (step, batch, colour) in enumerate(log):
         kind = colour if colour == 'box' else f'{colour}-box'
         p.box(180, 40 + 54 * index, 130, 44, [step, batch] if batch else [step], kind, 14)

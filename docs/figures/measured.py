@@ -38,7 +38,7 @@ class Row:
 
 @dataclass(frozen=True)
 class Results:
-    """A file of results: its rows by workload and program, and where and when they were measured."""
+    """A file of results: its rows by workload and program, and where and when they were made."""
 
     rows: dict[tuple[str, str], Row]
     comments: dict[str, str]
@@ -51,7 +51,11 @@ class Results:
 
     def workloads(self, prefix: str = '') -> list[str]:
         """Returns the measured workloads whose names begin so, in the order of the file."""
-        return [name for name in dict.fromkeys(workload for workload, _ in self.rows) if name.startswith(prefix)]
+        return [
+            name
+            for name in dict.fromkeys(workload for workload, _ in self.rows)
+            if name.startswith(prefix)
+        ]
 
     @property
     def edition(self) -> str:
@@ -61,7 +65,10 @@ class Results:
     @property
     def source(self) -> str:
         """The date and the machine, on one line."""
-        line = f'{self.comments["date"].partition(";")[0]}, {self.comments["machine"].partition(";")[0]}.'
+        line = (
+            f'{self.comments["date"].partition(";")[0]}, '
+            f'{self.comments["machine"].partition(";")[0]}.'
+        )
         return line if len(line) <= LONGEST else line[:LONGEST - 1] + '…'
 
 
@@ -69,7 +76,9 @@ def read(path: pathlib.Path) -> Results:
     """Reads a file of results."""
     lines = path.read_text().splitlines()
     comments = dict(line[2:].split(': ', 1) for line in lines if line.startswith('# '))
-    rows = (Row(cells) for cells in csv.DictReader(line for line in lines if not line.startswith('#')))
+    rows = (
+        Row(cells) for cells in csv.DictReader(line for line in lines if not line.startswith('#'))
+    )
     return Results({(row.cells['workload'], row.cells['program']): row for row in rows}, comments)
 
 

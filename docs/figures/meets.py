@@ -17,9 +17,16 @@ def span(p: Picture, y: float, begin: str, end: str, colour: str) -> None:
 
 def picture() -> Picture:
     """Returns the picture."""
-    p = Picture(680, 250, 'When two ranges meet',
-                'The ranges from a to c and from b to d meet: both hold b. The ranges from a to b and from b to c do not meet: '
-                'the first one ends before b. The empty range from b to b holds no key, so it meets nothing.')
+    p = Picture(
+        680,
+        250,
+        'When two ranges meet',
+        (
+            'The ranges from a to c and from b to d meet: both hold b. The ranges from a to b and '
+            'from b to c do not meet: the first one ends before b. The empty range from b to b '
+            'holds no key, so it meets nothing.'
+        ),
+    )
     for letter in 'abcd':
         p.text(across(letter), 24, letter, 'ink', 16, 'middle', bold=True, mono=True)
         p.line(across(letter), 32, across(letter), 226, 'thin', 1, dashed=True)

@@ -17,11 +17,18 @@ def span(p: Picture, y: float, begin: str, end: str, colour: str, text: str) -> 
 
 def picture() -> Picture:
     """Returns the picture."""
-    p = Picture(700, 300, 'Which reads conflict',
-                'At version 100 the ranges from a to b and from e to f were written. In the batch of version 200, the first '
-                'transaction reads at snapshot 99: its reads 0 and 2 meet those writes, so it is in conflict and reports 0 and 2. '
-                'The second reads a to b at snapshot 100, which is not below 100, and writes c to d: it is committed. The third '
-                'reads c to d, which the second has written in the same batch: it is in conflict.')
+    p = Picture(
+        700,
+        300,
+        'Which reads conflict',
+        (
+            'At version 100 the ranges from a to b and from e to f were written. In the batch of '
+            'version 200, the first transaction reads at snapshot 99: its reads 0 and 2 meet those '
+            'writes, so it is in conflict and reports 0 and 2. The second reads a to b at snapshot '
+            '100, which is not below 100, and writes c to d: it is committed. The third reads c to '
+            'd, which the second has written in the same batch: it is in conflict.'
+        ),
+    )
     for letter in 'abcdef':
         p.text(across(letter), 22, letter, 'ink', 15, 'middle', bold=True, mono=True)
         p.line(across(letter), 30, across(letter), 286, 'thin', 1, dashed=True)

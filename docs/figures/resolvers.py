@@ -1,5 +1,8 @@
 #!/usr/bin/env python3
-"""Draws the throughput of several resolvers and the conflicts that they add, from the newest results of bench/resolvers."""
+"""Draws the throughput of several resolvers and the conflicts that they add.
+
+The numbers are the newest results of bench/resolvers.
+"""
 
 import sys
 from dataclasses import dataclass
@@ -27,7 +30,10 @@ ACROSS, HEIGHT, GROUND = 204, 88, 154
 
 @dataclass(frozen=True)
 class Bar:
-    """A number of resolvers, or the radix tree: million ranges per second, and added conflicts in percent of the transactions."""
+    """A number of resolvers, or the radix tree.
+
+    Million ranges per second, and added conflicts in percent of the transactions.
+    """
 
     name: str
     rate: float
@@ -36,7 +42,11 @@ class Bar:
 
 def bar_of(row: measured.Row, name: str) -> Bar:
     """Returns the bar of a row."""
-    return Bar(name, row.ranges / row.seconds / 1e6, 100 * int(row.cells['extra_conflicts']) / int(row.cells['transactions']))
+    return Bar(
+        name,
+        row.ranges / row.seconds / 1e6,
+        100 * int(row.cells['extra_conflicts']) / int(row.cells['transactions']),
+    )
 
 
 def rate_of(bar: Bar) -> str:
@@ -54,22 +64,37 @@ def read_groups(results: measured.Results) -> dict[str, list[Bar]]:
     groups: dict[str, list[Bar]] = {}
     for workload in LABELS:
         rows = [row for (name, _), row in results.rows.items() if name == workload]
-        several = sorted((row for row in rows if row.cells['resolvers']), key=lambda row: int(row.cells['resolvers']))
+        several = sorted(
+            (row for row in rows if row.cells['resolvers']),
+            key=lambda row: int(row.cells['resolvers']),
+        )
         if several:
             art = [bar_of(row, RADIX_TREE) for row in rows if not row.cells['resolvers']]
-            groups[workload] = art + [bar_of(row, f'K = {row.cells["resolvers"]}') for row in several]
+            groups[workload] = (
+                art + [bar_of(row, f'K = {row.cells["resolvers"]}') for row in several]
+            )
     return groups
 
 
 def panel(p: Picture, left: float, top: float, workload: str, bars: list[Bar]) -> None:
-    """Draws the bars of a workload, each with its rate above it, and its number of resolvers and added conflicts below."""
+    """Draws the bars of a workload.
+
+    Each has its rate above it, and its number of resolvers and added conflicts below.
+    """
     p.text(left, top + 16, workload, 'ink', 15, bold=True)
     p.text(left, top + 34, LABELS[workload], 'soft', 13)
     greatest = max(bar.rate for bar in bars)
     step, ground = ACROSS / len(bars), top + GROUND
     for index, bar in enumerate(bars):
         middle, high = left + step * (index + 0.5), bar.rate * HEIGHT / greatest
-        p.rect(middle - step * 0.36, ground - high, step * 0.72, high, 'grey-fill' if bar.name == RADIX_TREE else 'blue-fill', 0)
+        p.rect(
+            middle - step * 0.36,
+            ground - high,
+            step * 0.72,
+            high,
+            'grey-fill' if bar.name == RADIX_TREE else 'blue-fill',
+            0,
+        )
         p.text(middle, ground - high - 5, rate_of(bar), 'soft', 13, 'middle')
         if bar.name != RADIX_TREE:
             p.text(middle, ground + 17, bar.name.removeprefix('K = '), 'ink', 13, 'middle')
@@ -81,10 +106,21 @@ def picture(results: measured.Results) -> Picture:
     """Returns the picture."""
     groups = read_groups(results)
     bottom = TOP + HIGH * -(-len(groups) // COLUMNS)
-    said = ' '.join(f'{workload}: ' + ', '.join(f'{bar.name} {rate_of(bar)} with {extra_of(bar)} %' for bar in bars) + '.'
-                    for workload, bars in groups.items())
-    p = Picture(680, bottom + 44, 'Throughput of several resolvers',
-                f'Million read and write ranges per second, and added conflicts in percent of the transactions. {said}')
+    said = ' '.join(
+        f'{workload}: '
+        + ', '.join(f'{bar.name} {rate_of(bar)} with {extra_of(bar)} %' for bar in bars)
+        + '.'
+        for workload, bars in groups.items()
+    )
+    p = Picture(
+        680,
+        bottom + 44,
+        'Throughput of several resolvers',
+        (
+            'Million read and write ranges per second, '
+            f'and added conflicts in percent of the transactions. {said}'
+        ),
+    )
     p.text(10, 24, 'million read and write ranges per second, complete processes', 'ink', 15)
     p.rect(10, 40, 14, 14, 'grey-fill', 2)
     p.text(30, 52, f'{RADIX_TREE}, one thread', 'ink', 15)
@@ -92,7 +128,9 @@ def picture(results: measured.Results) -> Picture:
     p.text(280, 52, f'replay by its number of resolvers; {results.edition}', 'ink', 15)
     p.text(10, 76, 'last line of each: added conflicts, in percent of the transactions', 'red', 15)
     for index, (workload, bars) in enumerate(groups.items()):
-        panel(p, LEFT + WIDE * (index % COLUMNS), TOP + 14 + HIGH * (index // COLUMNS), workload, bars)
+        panel(
+            p, LEFT + WIDE * (index % COLUMNS), TOP + 14 + HIGH * (index // COLUMNS), workload, bars
+        )
     p.text(10, bottom + 30, results.source, 'soft', 15)
     return p
 

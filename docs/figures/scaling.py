@@ -1,5 +1,8 @@
 #!/usr/bin/env python3
-"""Draws how the time per range grows with the boundaries in the window, from the newest results of bench/measure."""
+"""Draws how the time per range grows with the boundaries in the window.
+
+The numbers are the newest results of bench/measure.
+"""
 
 import math
 
@@ -21,12 +24,18 @@ Point = tuple[int, float]
 
 
 def read_lines(results: measured.Results) -> dict[str, list[Point]]:
-    """Returns the boundaries and the nanoseconds per range of each program, by rising boundaries."""
+    """Returns boundaries and nanoseconds per range of each program, by rising boundaries."""
     lines: dict[str, list[Point]] = {}
     for program in PROGRAMS:
-        rows = [row for workload in results.workloads('growth-') if (row := results.row(workload, program)) is not None]
+        rows = [
+            row
+            for workload in results.workloads('growth-')
+            if (row := results.row(workload, program)) is not None
+        ]
         if rows:
-            lines[program] = sorted((row.boundaries, row.seconds / row.ranges * 1e9) for row in rows)
+            lines[program] = sorted(
+                (row.boundaries, row.seconds / row.ranges * 1e9) for row in rows
+            )
     return lines
 
 
@@ -45,7 +54,9 @@ def across(boundaries: float) -> float:
 
 def unit_of(greatest: float) -> int:
     """Returns the distance of the lines of the grid, so that there are at most eight."""
-    return next(unit for unit in (50, 100, 250, 500, 1_000, 2_500, 5_000, 10_000) if greatest / unit <= 8)
+    return next(
+        unit for unit in (50, 100, 250, 500, 1_000, 2_500, 5_000, 10_000) if greatest / unit <= 8
+    )
 
 
 def picture() -> Picture:
@@ -53,15 +64,29 @@ def picture() -> Picture:
     results = measured.newest()
     lines = read_lines(results)
     unit = unit_of(max(nanoseconds for line in lines.values() for _, nanoseconds in line))
-    ceiling = unit * math.ceil(max(nanoseconds for line in lines.values() for _, nanoseconds in line) / unit)
+    ceiling = (
+        unit
+        * math.ceil(max(nanoseconds for line in lines.values() for _, nanoseconds in line) / unit)
+    )
 
     def height(nanoseconds: float) -> float:
         return BOTTOM - (BOTTOM - TOP) * nanoseconds / ceiling
 
-    said = ' '.join(f'{PROGRAMS[name][0]}: ' + ', '.join(f'{nanoseconds:.0f} at {boundaries:,}' for boundaries, nanoseconds in line)
-                    + '.' for name, line in lines.items())
-    p = Picture(680, BOTTOM + 104, 'Time per range and boundaries',
-                f'Nanoseconds per read or write range by boundaries in the window, complete processes. {said}')
+    said = ' '.join(
+        f'{PROGRAMS[name][0]}: '
+        + ', '.join(f'{nanoseconds:.0f} at {boundaries:,}' for boundaries, nanoseconds in line)
+        + '.'
+        for name, line in lines.items()
+    )
+    p = Picture(
+        680,
+        BOTTOM + 104,
+        'Time per range and boundaries',
+        (
+            'Nanoseconds per read or write range by boundaries in the window, '
+            f'complete processes. {said}'
+        ),
+    )
     p.text(10, 24, 'nanoseconds per read or write range, by boundaries in the window', 'ink', 15)
     p.text(10, 46, f'5 reads and 2 writes of single keys; replay: {results.edition}', 'soft', 15)
     for tick in range(0, ceiling + 1, unit):
@@ -73,13 +98,17 @@ def picture() -> Picture:
     order = sorted(lines, key=lambda name: height(lines[name][-1][1]))
     for name, label in zip(order, spread_labels([height(lines[name][-1][1]) for name in order])):
         title, line_kind, fill, text_kind, dashed = PROGRAMS[name]
-        points = [(across(boundaries), height(nanoseconds)) for boundaries, nanoseconds in lines[name]]
+        points = [
+            (across(boundaries), height(nanoseconds)) for boundaries, nanoseconds in lines[name]
+        ]
         for (x1, y1), (x2, y2) in zip(points, points[1:]):
             p.line(x1, y1, x2, y2, line_kind, 2.5, dashed)
         for x, y in points:
             p.circle(x, y, 4, fill)
         p.text(RIGHT + 12, label + 5, title, text_kind, 15)
-    p.text(10, BOTTOM + 54, 'Lower is better. Points are medians of complete processes.', 'soft', 15)
+    p.text(
+        10, BOTTOM + 54, 'Lower is better. Points are medians of complete processes.', 'soft', 15
+    )
     p.text(10, BOTTOM + 76, results.source, 'soft', 15)
     return p
 

@@ -1,5 +1,8 @@
 #!/usr/bin/env python3
-"""Draws how many ranges per second `replay` and two baselines resolve, from the newest results of bench/measure."""
+"""Draws how many ranges per second `replay` and two baselines resolve.
+
+The numbers are the newest results of bench/measure.
+"""
 
 from dataclasses import dataclass
 
@@ -44,9 +47,14 @@ def read_rows(results: measured.Results) -> list[Row]:
             continue
         rates = tuple(row.ranges / row.seconds / 1e6 for row in rows)
         ratio = rows[0].number('ratio_median', 1)
-        found.append(Row(label.format(rounded(rows[0].boundaries)) if '{}' in label else label, rates,
-                         rates[1] * ratio / rows[0].number('ratio_greatest', ratio),
-                         rates[1] * ratio / rows[0].number('ratio_least', ratio)))
+        found.append(
+            Row(
+                label.format(rounded(rows[0].boundaries)) if '{}' in label else label,
+                rates,
+                rates[1] * ratio / rows[0].number('ratio_greatest', ratio),
+                rates[1] * ratio / rows[0].number('ratio_least', ratio),
+            )
+        )
     return found
 
 
@@ -56,8 +64,11 @@ def picture() -> Picture:
     rows = read_rows(results)
     greatest = 1.12 * max(max(*row.rates, row.most) for row in rows)
     bottom = TOP + GROUP * len(rows)
-    said = ' '.join(f'{row.name}: replay {row.rates[1]:.1f}, radix tree {row.rates[0]:.1f}, skip list {row.rates[2]:.1f}.'
-                    for row in rows)
+    said = ' '.join(
+        f'{row.name}: replay {row.rates[1]:.1f}, radix tree {row.rates[0]:.1f}, '
+        f'skip list {row.rates[2]:.1f}.'
+        for row in rows
+    )
 
     def across(rate: float) -> float:
         return LEFT + rate * WIDTH / greatest
@@ -65,11 +76,19 @@ def picture() -> Picture:
     p = Picture(680, bottom + 78, 'Throughput',
                 f'Million read and write ranges per second, complete processes. {said}')
     x = 10.0
-    for name, kind, step in zip(('radix tree, C++', f'replay, {results.edition}', 'skip list, C++'), KINDS, (170, 170, 0)):
+    for name, kind, step in zip(
+        ('radix tree, C++', f'replay, {results.edition}', 'skip list, C++'), KINDS, (170, 170, 0)
+    ):
         p.rect(x, 12, 14, 14, kind, 2)
         p.text(x + 20, 24, name, 'ink', 15)
         x += step
-    p.text(10, 50, 'million read and write ranges per second; the two in C++ are not proved', 'soft', 15)
+    p.text(
+        10,
+        50,
+        'million read and write ranges per second; the two in C++ are not proved',
+        'soft',
+        15,
+    )
     for tick in range(0, int(greatest), 2 if greatest < 16 else 5):
         p.line(across(tick), TOP, across(tick), bottom, 'thin', 1)
         p.text(across(tick), bottom + 20, str(tick), 'soft', 15, 'middle')

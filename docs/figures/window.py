@@ -11,10 +11,14 @@ def across(millions: float) -> float:
     return 84 + millions * 76
 
 
-def read(p: Picture, y: float, snapshot: float, label: str, verdict: str, why: str, colour: str) -> None:
+def read(
+    p: Picture, y: float, snapshot: float, label: str, verdict: str, why: str, colour: str
+) -> None:
     """Draws a read from its snapshot up to the version of its batch."""
     if snapshot < 3:
-        p.text(across(snapshot) - (54 if snapshot == 0 else 0), y - 14, f'snapshot {label}', colour, 15)
+        p.text(
+            across(snapshot) - (54 if snapshot == 0 else 0), y - 14, f'snapshot {label}', colour, 15
+        )
     else:
         p.text(across(6) - 8, y - 14, f'snapshot {label}', colour, 15, 'end')
     p.line(across(snapshot), y, across(6), y, f'{colour}-line', 3)
@@ -25,10 +29,17 @@ def read(p: Picture, y: float, snapshot: float, label: str, verdict: str, why: s
 
 def picture() -> Picture:
     """Returns the picture."""
-    p = Picture(680, 330, 'The window of versions',
-                'The batch of version 6,000,000 with the window of 5,000,000 versions has the edge 1,000,000. A read at '
-                'snapshot 100 is below the edge: too old. A read at snapshot 2,000,000 of a key that was written at 3,500,000 '
-                'is a conflict. A read of that key at snapshot 4,000,000 has seen the write: committed.')
+    p = Picture(
+        680,
+        330,
+        'The window of versions',
+        (
+            'The batch of version 6,000,000 with the window of 5,000,000 versions has the edge '
+            '1,000,000. A read at snapshot 100 is below the edge: too old. A read at snapshot '
+            '2,000,000 of a key that was written at 3,500,000 is a conflict. A read of that key at '
+            'snapshot 4,000,000 has seen the write: committed.'
+        ),
+    )
     p.rect(across(1), 46, across(6) - across(1), 228, 'shade', 0)
     p.text(across(1), 20, 'edge 1,000,000', 'ink', 16, 'middle', bold=True)
     p.text(across(6), 20, 'batch 6,000,000', 'ink', 16, 'middle', bold=True)
@@ -47,8 +58,16 @@ def picture() -> Picture:
     p.line(across(0), 274, across(6) + 20, 274)
     for millions in range(7):
         p.line(across(millions), 274, across(millions), 280)
-        p.text(across(millions), 296, f'{millions}' + (' M' if millions else ''), 'soft', 15, 'middle')
-    p.text(10, 320, 'Writes below the edge may be forgotten: a read that needs them is too old.', 'soft', 15)
+        p.text(
+            across(millions), 296, f'{millions}' + (' M' if millions else ''), 'soft', 15, 'middle'
+        )
+    p.text(
+        10,
+        320,
+        'Writes below the edge may be forgotten: a read that needs them is too old.',
+        'soft',
+        15,
+    )
     return p
 
 

@@ -1,11 +1,13 @@
 #!/usr/bin/env python3
 """A proxy over pipes: `proxy.py BATCHES RECORDS [--clients N] [--transfers N] [--keep FILE]`.
 
-Clients move numbers between accounts. Each reads two accounts and writes both. The proxy sends their transactions as batches to the
-pipe BATCHES, takes the answers from the pipe RECORDS of `replay --stream --replies RECORDS BATCHES`, acknowledges them, and lets a
-client whose transaction was in conflict try again. `-` is standard output for BATCHES, and standard input for RECORDS.
+Clients move numbers between accounts. Each reads two accounts and writes both. The proxy sends
+their transactions as batches to the pipe BATCHES, takes the answers from the pipe RECORDS of
+`replay --stream --replies RECORDS BATCHES`, acknowledges them, and lets a client whose transaction
+was in conflict try again. `-` is standard output for BATCHES, and standard input for RECORDS.
 
-At the end the proxy prints the answers that it received, as `replay` prints them, to standard error, and keeps the batches in FILE.
+At the end the proxy prints the answers that it received, as `replay` prints them, to standard
+error, and keeps the batches in FILE.
 """
 
 import argparse
@@ -33,7 +35,10 @@ def transaction(snapshot, reads, writes):
 
 
 def batch(previous, version, received, transactions):
-    body = struct.pack(">BqqqH", 3, previous, version, received, len(transactions)) + b"".join(transactions)
+    body = (
+        struct.pack(">BqqqH", 3, previous, version, received, len(transactions))
+        + b"".join(transactions)
+    )
     return struct.pack(">I", len(body)) + body
 
 
@@ -48,7 +53,10 @@ def exactly(source, count):
 
 
 def answer(source):
-    """Takes one record. Returns its version and its verdicts, or none for a batch without a reply."""
+    """Takes one record.
+
+    Returns its version and its verdicts, or none for a batch without a reply.
+    """
     status, version = struct.unpack(">Bq", exactly(source, 9))
     if status != 1:
         return version, None
@@ -63,7 +71,10 @@ def answer(source):
 
 
 class Client:
-    """Moves one between two accounts, again and again. It tries a transfer until it is committed."""
+    """Moves one between two accounts, again and again.
+
+    It tries a transfer until it is committed.
+    """
 
     def __init__(self, chance, transfers):
         self.chance = chance
@@ -100,7 +111,11 @@ class Proxy:
         if self.keep:
             self.keep.write(frame)
         version, verdicts = answer(self.source)
-        if version != self.version + WINDOW or verdicts is None or len(verdicts) != len(transactions):
+        if (
+            version != self.version + WINDOW
+            or verdicts is None
+            or len(verdicts) != len(transactions)
+        ):
             raise ValueError(f"an answer to another batch: {version} {verdicts}")
         self.version = version
         self.lines.append(f"0 {version} {' '.join(verdicts) or 'empty'}")
@@ -108,7 +123,10 @@ class Proxy:
 
 
 def serve(proxy, clients, chance):
-    """Sends until no client is left. Some clients wait a batch longer, so that what they have read is old."""
+    """Sends until no client is left.
+
+    Some clients wait a batch longer, so that what they have read is old.
+    """
     accounts = [100] * ACCOUNTS
     proxy.send([])
     waiting = {}
@@ -125,7 +143,9 @@ def serve(proxy, clients, chance):
 
 
 def main():
-    parser = argparse.ArgumentParser(description=__doc__, formatter_class=argparse.RawDescriptionHelpFormatter)
+    parser = argparse.ArgumentParser(
+        description=__doc__, formatter_class=argparse.RawDescriptionHelpFormatter
+    )
     parser.add_argument("batches")
     parser.add_argument("records")
     parser.add_argument("--clients", type=int, default=8)

@@ -1,7 +1,9 @@
 #!/usr/bin/env python3
-"""Runs the proxy over pipes, and compares the answers that it received with those of the batch run: `test.py PROGRAM`.
+"""Runs the proxy over pipes, and compares the answers that it received with those of the batch run:
+`test.py PROGRAM`.
 
-Over named pipes, and over TCP with socat. Ends with status 1 if they differ, or if socat isn't installed.
+Over named pipes, and over TCP with socat. Ends with status 1 if they differ, or if socat isn't
+installed.
 """
 
 import os
@@ -19,8 +21,10 @@ LIMIT = 60  # seconds
 
 
 def compared(program, folder, received):
-    """Returns whether the batch run gives the answers that the proxy received, and some are conflicts."""
-    batch = subprocess.run([program, folder / "kept"], capture_output=True, text=True, timeout=LIMIT, check=True)
+    """Returns whether the batch run gives the answers of the proxy, some of them conflicts."""
+    batch = subprocess.run(
+        [program, folder / "kept"], capture_output=True, text=True, timeout=LIMIT, check=True
+    )
     return batch.stdout == received and "conflict" in received and "committed" in received
 
 
@@ -45,9 +49,15 @@ def over_tcp(program, folder):
     port = free_port()
     serve = f"{program} --stream --replies /dev/fd/3 - 3>&1 >{folder}/lines"
     client = f"{' '.join(PROXY)} - - --keep {folder}/kept 2>{folder}/received"
-    with subprocess.Popen(["socat", f"TCP-LISTEN:{port},reuseaddr", f"SYSTEM:{serve},pipes"]) as server:
+    with subprocess.Popen(
+        ["socat", f"TCP-LISTEN:{port},reuseaddr", f"SYSTEM:{serve},pipes"]
+    ) as server:
         time.sleep(0.5)
-        subprocess.run(["socat", "-t", "10", f"TCP:localhost:{port}", f"SYSTEM:{client}"], timeout=LIMIT, check=True)
+        subprocess.run(
+            ["socat", "-t", "10", f"TCP:localhost:{port}", f"SYSTEM:{client}"],
+            timeout=LIMIT,
+            check=True,
+        )
         server.wait(LIMIT)
     received = (folder / "received").read_text()
     return (folder / "lines").read_text() == received and compared(program, folder, received)
@@ -62,7 +72,10 @@ def main():
         with tempfile.TemporaryDirectory() as folder:
             same = test(program, pathlib.Path(folder))
         failed |= not same
-        print(f"{name}: 8 clients, the batch run gives {'the same' if same else 'other'} answers", flush=True)
+        print(
+            f"{name}: 8 clients, the batch run gives {'the same' if same else 'other'} answers",
+            flush=True,
+        )
     return failed
 
 

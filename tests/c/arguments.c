@@ -1,4 +1,5 @@
-// What is refused before a call does anything: null, numbers outside their ranges, handles that aren't there, bytes behind a frame.
+// What is refused before a call does anything: null, numbers outside their ranges, handles that
+// aren't there, bytes behind a frame.
 #include <stdlib.h>
 
 #include "chains.h"
@@ -40,7 +41,8 @@ static void numbers(void) {
         int other;
         archcaraway_core core = {&other};
         archcaraway_set set = ARCHCARAWAY_NONE;
-        DEMAND(archcaraway_core_new(rows[i].proxies, rows[i].window, rows[i].limit, &core) == rows[i].status);
+        DEMAND(archcaraway_core_new(rows[i].proxies, rows[i].window, rows[i].limit, &core) ==
+               rows[i].status);
         DEMAND((core.at != NULL) == (rows[i].status == ARCHCARAWAY_OK));
         if (rows[i].proxies == 1) {
             set.at = &other;
@@ -65,21 +67,35 @@ static void sets(void) {
     DEMAND(archcaraway_set_new(10, 10, &set) == ARCHCARAWAY_OK);
     DEMAND(archcaraway_set_boundaries(&set) == 1);
     DEMAND(archcaraway_set_boundaries(&none) == 0 && archcaraway_set_boundaries(NULL) == 0);
-    DEMAND(archcaraway_set_resolve(NULL, EMPTY_BATCH, 31, reply, 64, &length) == ARCHCARAWAY_ARGUMENT && length == 0);
-    DEMAND(archcaraway_set_resolve(&none, EMPTY_BATCH, 31, reply, 64, &length) == ARCHCARAWAY_ARGUMENT);
+    DEMAND(archcaraway_set_resolve(NULL, EMPTY_BATCH, 31, reply, 64, &length) ==
+               ARCHCARAWAY_ARGUMENT &&
+           length == 0);
+    DEMAND(archcaraway_set_resolve(&none, EMPTY_BATCH, 31, reply, 64, &length) ==
+           ARCHCARAWAY_ARGUMENT);
     DEMAND(archcaraway_set_resolve(&set, NULL, 31, reply, 64, &length) == ARCHCARAWAY_ARGUMENT);
-    DEMAND(archcaraway_set_resolve(&set, EMPTY_BATCH, 31, NULL, 64, &length) == ARCHCARAWAY_ARGUMENT);
+    DEMAND(archcaraway_set_resolve(&set, EMPTY_BATCH, 31, NULL, 64, &length) ==
+           ARCHCARAWAY_ARGUMENT);
     DEMAND(archcaraway_set_resolve(&set, EMPTY_BATCH, 31, reply, 64, NULL) == ARCHCARAWAY_ARGUMENT);
-    DEMAND(archcaraway_set_resolve(&set, EMPTY_BATCH, SIZE_MAX, reply, 64, &length) == ARCHCARAWAY_ARGUMENT);
-    DEMAND(archcaraway_set_resolve(&set, NULL, 0, reply, 64, &length) == ARCHCARAWAY_FRAME_SHORT && length == 0);
-    DEMAND(archcaraway_set_resolve(&set, EMPTY_BATCH, 30, reply, 64, &length) == ARCHCARAWAY_FRAME_SHORT);
-    DEMAND(archcaraway_set_resolve(&set, EMPTY_BATCH, 31, reply, 14, &length) == ARCHCARAWAY_BUFFER && length == 15);
-    DEMAND(archcaraway_set_resolve(&set, EMPTY_BATCH, 31, NULL, 0, &length) == ARCHCARAWAY_BUFFER && length == 15);
+    DEMAND(archcaraway_set_resolve(&set, EMPTY_BATCH, SIZE_MAX, reply, 64, &length) ==
+           ARCHCARAWAY_ARGUMENT);
+    DEMAND(archcaraway_set_resolve(&set, NULL, 0, reply, 64, &length) == ARCHCARAWAY_FRAME_SHORT &&
+           length == 0);
+    DEMAND(archcaraway_set_resolve(&set, EMPTY_BATCH, 30, reply, 64, &length) ==
+           ARCHCARAWAY_FRAME_SHORT);
+    DEMAND(archcaraway_set_resolve(&set, EMPTY_BATCH, 31, reply, 14, &length) ==
+               ARCHCARAWAY_BUFFER &&
+           length == 15);
+    DEMAND(archcaraway_set_resolve(&set, EMPTY_BATCH, 31, NULL, 0, &length) == ARCHCARAWAY_BUFFER &&
+           length == 15);
     uint8_t behind[32] = {0};
     memcpy(behind, EMPTY_BATCH, 31);
-    DEMAND(archcaraway_set_resolve(&set, behind, 32, reply, 64, &length) == ARCHCARAWAY_BEHIND && length == 0);
-    DEMAND(archcaraway_set_resolve(&set, EMPTY_BATCH, 31, reply, 15, &length) == ARCHCARAWAY_OK && length == 15);
-    DEMAND(archcaraway_set_resolve(&set, EMPTY_BATCH, 31, reply, 15, &length) == ARCHCARAWAY_VERSION_LATE && length == 0);
+    DEMAND(archcaraway_set_resolve(&set, behind, 32, reply, 64, &length) == ARCHCARAWAY_BEHIND &&
+           length == 0);
+    DEMAND(archcaraway_set_resolve(&set, EMPTY_BATCH, 31, reply, 15, &length) == ARCHCARAWAY_OK &&
+           length == 15);
+    DEMAND(archcaraway_set_resolve(&set, EMPTY_BATCH, 31, reply, 15, &length) ==
+               ARCHCARAWAY_VERSION_LATE &&
+           length == 0);
     archcaraway_set_free(&set);
 }
 
@@ -96,22 +112,36 @@ static void cores(void) {
     DEMAND(archcaraway_core_admit(&core, 2, EMPTY_BATCH, 31) == ARCHCARAWAY_ARGUMENT);
     DEMAND(archcaraway_core_admit(&core, UINT32_MAX, EMPTY_BATCH, 31) == ARCHCARAWAY_ARGUMENT);
     DEMAND(archcaraway_core_admit(&core, 0, NULL, 0) == ARCHCARAWAY_FRAME_SHORT);
-    DEMAND(archcaraway_core_finish(NULL) == ARCHCARAWAY_ARGUMENT && archcaraway_core_finish(&none) == ARCHCARAWAY_ARGUMENT);
-    DEMAND(archcaraway_core_owed(NULL) == 0 && archcaraway_core_owed(&none) == 0 && archcaraway_core_owed(&core) == 0);
-    DEMAND(archcaraway_core_stop(NULL) == ARCHCARAWAY_ARGUMENT && archcaraway_core_stop(&core) == ARCHCARAWAY_OK);
-    DEMAND(archcaraway_core_give(NULL, 0, answer, 64, &length, &kind, &version) == ARCHCARAWAY_ARGUMENT);
+    DEMAND(archcaraway_core_finish(NULL) == ARCHCARAWAY_ARGUMENT &&
+           archcaraway_core_finish(&none) == ARCHCARAWAY_ARGUMENT);
+    DEMAND(archcaraway_core_owed(NULL) == 0 && archcaraway_core_owed(&none) == 0 &&
+           archcaraway_core_owed(&core) == 0);
+    DEMAND(archcaraway_core_stop(NULL) == ARCHCARAWAY_ARGUMENT &&
+           archcaraway_core_stop(&core) == ARCHCARAWAY_OK);
+    DEMAND(archcaraway_core_give(NULL, 0, answer, 64, &length, &kind, &version) ==
+           ARCHCARAWAY_ARGUMENT);
     DEMAND(length == 0 && kind == ARCHCARAWAY_NOTHING && version == -1);
-    DEMAND(archcaraway_core_give(&core, 2, answer, 64, &length, &kind, &version) == ARCHCARAWAY_ARGUMENT);
-    DEMAND(archcaraway_core_give(&core, 0, NULL, 64, &length, &kind, &version) == ARCHCARAWAY_ARGUMENT);
-    DEMAND(archcaraway_core_give(&core, 0, answer, 64, NULL, &kind, &version) == ARCHCARAWAY_ARGUMENT);
-    DEMAND(archcaraway_core_give(&core, 0, answer, 64, &length, NULL, &version) == ARCHCARAWAY_ARGUMENT);
-    DEMAND(archcaraway_core_give(&core, 0, answer, 64, &length, &kind, NULL) == ARCHCARAWAY_ARGUMENT);
+    DEMAND(archcaraway_core_give(&core, 2, answer, 64, &length, &kind, &version) ==
+           ARCHCARAWAY_ARGUMENT);
+    DEMAND(archcaraway_core_give(&core, 0, NULL, 64, &length, &kind, &version) ==
+           ARCHCARAWAY_ARGUMENT);
+    DEMAND(archcaraway_core_give(&core, 0, answer, 64, NULL, &kind, &version) ==
+           ARCHCARAWAY_ARGUMENT);
+    DEMAND(archcaraway_core_give(&core, 0, answer, 64, &length, NULL, &version) ==
+           ARCHCARAWAY_ARGUMENT);
+    DEMAND(archcaraway_core_give(&core, 0, answer, 64, &length, &kind, NULL) ==
+           ARCHCARAWAY_ARGUMENT);
     DEMAND(archcaraway_core_give(&core, 0, answer, 64, &length, &kind, &version) == ARCHCARAWAY_OK);
     DEMAND(kind == ARCHCARAWAY_NOTHING && version == -1 && length == 0);
-    DEMAND(archcaraway_core_admit(&core, 1, EMPTY_BATCH, 31) == ARCHCARAWAY_OK && archcaraway_core_owed(&core) == 1);
-    DEMAND(archcaraway_core_give(&core, 1, NULL, 0, &length, &kind, &version) == ARCHCARAWAY_BUFFER && length == 15);
+    DEMAND(archcaraway_core_admit(&core, 1, EMPTY_BATCH, 31) == ARCHCARAWAY_OK &&
+           archcaraway_core_owed(&core) == 1);
+    DEMAND(archcaraway_core_give(&core, 1, NULL, 0, &length, &kind, &version) ==
+               ARCHCARAWAY_BUFFER &&
+           length == 15);
     DEMAND(kind == ARCHCARAWAY_NOTHING && archcaraway_core_owed(&core) == 1);
-    DEMAND(archcaraway_core_give(&core, 1, answer, 15, &length, &kind, &version) == ARCHCARAWAY_OK && length == 15);
+    DEMAND(archcaraway_core_give(&core, 1, answer, 15, &length, &kind, &version) ==
+               ARCHCARAWAY_OK &&
+           length == 15);
     DEMAND(kind == ARCHCARAWAY_REPLY && version == 0 && archcaraway_core_owed(&core) == 0);
     archcaraway_core_free(&core);
 }

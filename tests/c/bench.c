@@ -2,8 +2,9 @@
 //
 //     bench FILE [LIMIT]
 //
-// Each batch is given twice: with no room for a reply, where the library decodes the frame and refuses it, and then with room. It prints
-// the seconds of both, and their difference, which is that of judging, remembering and writing the reply.
+// Each batch is given twice: with no room for a reply, where the library decodes the frame and
+// refuses it, and then with room. It prints the seconds of both, and their difference, which is
+// that of judging, remembering and writing the reply.
 #include <stdlib.h>
 #include <time.h>
 
@@ -20,7 +21,8 @@ int main(int count, char **words) {
     FILE *file = fopen(words[1], "rb");
     DEMAND(file != NULL && fseek(file, 0, SEEK_END) == 0);
     size_t length = (size_t)ftell(file);
-    uint8_t *bytes = (uint8_t *)demand_memory(length), *reply = (uint8_t *)demand_memory(ARCHCARAWAY_MAX_REPLY);
+    uint8_t *bytes = (uint8_t *)demand_memory(length),
+            *reply = (uint8_t *)demand_memory(ARCHCARAWAY_MAX_REPLY);
     rewind(file);
     DEMAND(fread(bytes, 1, length, file) == length);
     fclose(file);
@@ -36,7 +38,8 @@ int main(int count, char **words) {
         int status = archcaraway_set_resolve(&set, bytes + at, frame, NULL, 0, &reply_length);
         double middle = now();
         DEMAND(status == ARCHCARAWAY_BUFFER);
-        status = archcaraway_set_resolve(&set, bytes + at, frame, reply, ARCHCARAWAY_MAX_REPLY, &reply_length);
+        status = archcaraway_set_resolve(&set, bytes + at, frame, reply, ARCHCARAWAY_MAX_REPLY,
+                                         &reply_length);
         whole += now() - middle;
         decoding += middle - start;
         DEMAND(status == ARCHCARAWAY_OK);
@@ -49,10 +52,11 @@ int main(int count, char **words) {
         }
         at += frame;
     }
-    printf("%zu batches, %zu transactions: %zu committed, %zu conflict, %zu too old; %" PRIu64 " boundaries at the end\n"
+    printf("%zu batches, %zu transactions: %zu committed, %zu conflict, %zu too old; %" PRIu64
+           " boundaries at the end\n"
            "seconds: %.4f whole, of which %.4f decoding and %.4f the rest\n",
-           batches, transactions, verdicts[2], verdicts[0], verdicts[1], archcaraway_set_boundaries(&set), whole, decoding,
-           whole - decoding);
+           batches, transactions, verdicts[2], verdicts[0], verdicts[1],
+           archcaraway_set_boundaries(&set), whole, decoding, whole - decoding);
     archcaraway_set_free(&set);
     free(bytes);
     free(reply);

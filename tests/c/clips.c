@@ -11,7 +11,8 @@ static int order(Bytes a, Bytes b) {
     return by_bytes != 0 ? by_bytes : (a.length > b.length) - (a.length < b.length);
 }
 
-// The clip of a range to the keys from one on up to another, if the range goes there. A null key is no end.
+// The clip of a range to the keys from one on up to another, if the range goes there. A null key is
+// no end.
 static bool clip_range(const Range *range, Bytes from, Bytes to, Range *clip) {
     *clip = *range;
     if (order(range->begin, range->end) == 0) {
@@ -38,7 +39,8 @@ static Clip clip_batch(const Batch *batch, Bytes from, Bytes to) {
         own->ranges = demand_memory((t->reads + t->writes) * sizeof(Range));
         own->reads = own->writes = 0;
         for (unsigned k = 0; k < t->reads + t->writes; k++) {
-            if (!clip_range(&t->ranges[k], from, to, &own->ranges[own->reads + own->writes])) continue;
+            if (!clip_range(&t->ranges[k], from, to, &own->ranges[own->reads + own->writes]))
+                continue;
             if (k < t->reads) clip.indices[i][own->reads++] = k;
             else own->writes++;
         }
@@ -72,7 +74,8 @@ static size_t draw_points(Random *random, const Batch *batch, Bytes *keys, size_
 }
 
 // Adds a random reply to the clip, and its verdicts and reports to those of all shards.
-static void add_reply(Random *random, const Clip *clip, Text *replies, unsigned *least, bool (*reported)[8]) {
+static void add_reply(Random *random, const Clip *clip, Text *replies, unsigned *least,
+                      bool (*reported)[8]) {
     size_t begin = replies->length;
     put(replies, 0, 4);
     put(replies, 2, 1);
@@ -127,13 +130,15 @@ static void random_batch(Random *random) {
     const Batch *batch = &chain.chain[0];
     Bytes frame = any_frame(random, batch);
     size_t count = draw_points(random, batch, keys, below(random, 8)), length, bad;
-    for (size_t i = 0; i < count; i++) given[i] = (archcaraway_bytes){keys[i].bytes, keys[i].length};
+    for (size_t i = 0; i < count; i++)
+        given[i] = (archcaraway_bytes){keys[i].bytes, keys[i].length};
     DEMAND(archcaraway_split_points_new(given, count, &points, NULL) == ARCHCARAWAY_OK);
     memset(reported, 0, sizeof reported);
     for (size_t i = 0; i < 8; i++) least[i] = 2;
     for (size_t shard = 0; shard <= count; shard++) {
         Bytes none = {NULL, 0};
-        Clip clip = clip_batch(batch, shard == 0 ? none : keys[shard - 1], shard == count ? none : keys[shard]);
+        Clip clip = clip_batch(batch, shard == 0 ? none : keys[shard - 1],
+                               shard == count ? none : keys[shard]);
         Bytes want = spelled_frame(&clip.batch, 2);
         demand_clip(&points, shard, frame, want);
         add_reply(random, &clip, &replies, least, reported);
@@ -141,8 +146,8 @@ static void random_batch(Random *random) {
         free_clip(&clip);
     }
     Bytes want = plain_reply(batch, least, reported);
-    DEMAND(archcaraway_combine(&points, frame.bytes, frame.length, replies.bytes, replies.length, buffer, ROOM, &length,
-                               &bad) == ARCHCARAWAY_OK);
+    DEMAND(archcaraway_combine(&points, frame.bytes, frame.length, replies.bytes, replies.length,
+                               buffer, ROOM, &length, &bad) == ARCHCARAWAY_OK);
     DEMAND(bad == count + 1 && are_same(buffer, length, want));
     free(want.bytes);
     free(replies.bytes);

@@ -1,9 +1,11 @@
-// Drives random chains through the library, and through the program `replay`, and compares every line.
+// Drives random chains through the library, and through the program `replay`, and compares every
+// line.
 //
 //     differential CHAINS SEED [REPLAY FOLDER]
 //
-// Without the program it drives the library alone. FOLDER is one for the files that the program reads and writes. A batch is also given
-// with buffers that are too small, and to a set beside the core.
+// Without the program it drives the library alone. FOLDER is one for the files that the program
+// reads and writes. A batch is also given with buffers that are too small, and to a set beside the
+// core.
 #include <stdlib.h>
 
 #include "chains.h"
@@ -19,21 +21,25 @@ static const char *stop_line(int stop) {
     }
 }
 
-// Takes an answer, first with a buffer that is too small for a reply, and says whether one was owed.
+// Takes an answer, first with a buffer that is too small for a reply, and says whether one was
+// owed.
 static bool take_answer(archcaraway_core *core, unsigned proxy, Answers *answers) {
     uint64_t owed = archcaraway_core_owed(core);
     uint8_t small[8];
     size_t length = 99;
     Answer answer = {proxy, -1, -2, {NULL, 0}};
-    int status = archcaraway_core_give(core, proxy, small, sizeof small, &length, &answer.kind, &answer.version);
+    int status = archcaraway_core_give(core, proxy, small, sizeof small, &length, &answer.kind,
+                                       &answer.version);
     if (status == ARCHCARAWAY_BUFFER) {
         DEMAND(length >= 15 && answer.kind == ARCHCARAWAY_NOTHING && answer.version == -1);
         DEMAND(archcaraway_core_owed(core) == owed);
         size_t needed = length;
         uint8_t *bytes = (uint8_t *)demand_memory(needed);
-        status = archcaraway_core_give(core, proxy, bytes, needed - 1, &length, &answer.kind, &answer.version);
+        status = archcaraway_core_give(core, proxy, bytes, needed - 1, &length, &answer.kind,
+                                       &answer.version);
         DEMAND(status == ARCHCARAWAY_BUFFER && length == needed);
-        status = archcaraway_core_give(core, proxy, bytes, needed, &length, &answer.kind, &answer.version);
+        status = archcaraway_core_give(core, proxy, bytes, needed, &length, &answer.kind,
+                                       &answer.version);
         DEMAND(status == ARCHCARAWAY_OK && length == needed && answer.kind == ARCHCARAWAY_REPLY);
         answer.frame = (Bytes){bytes, needed};
     }
@@ -50,19 +56,22 @@ static bool take_answer(archcaraway_core *core, unsigned proxy, Answers *answers
 // Runs the chain over a core, and answers the stop that it met.
 static int run_core(Random *random, const Chain *chain, Answers *answers) {
     archcaraway_core core = ARCHCARAWAY_NONE;
-    DEMAND(archcaraway_core_new(chain->proxies, chain->window, chain->limit, &core) == ARCHCARAWAY_OK);
+    DEMAND(archcaraway_core_new(chain->proxies, chain->window, chain->limit, &core) ==
+           ARCHCARAWAY_OK);
     int status = ARCHCARAWAY_OK;
     for (size_t i = 0; i < chain->sent_length && status == ARCHCARAWAY_OK; i++) {
         const Sent *sent = &chain->sent[i];
         status = archcaraway_core_admit(&core, sent->proxy, sent->frame.bytes, sent->frame.length);
-        while (one_in(random, 2) && take_answer(&core, (unsigned)below(random, chain->proxies), answers)) {
+        while (one_in(random, 2) &&
+               take_answer(&core, (unsigned)below(random, chain->proxies), answers)) {
         }
     }
     if (status == ARCHCARAWAY_OK) status = archcaraway_core_finish(&core);
     DEMAND(archcaraway_core_stop(&core) == status);
     if (status != ARCHCARAWAY_OK) {
         DEMAND(archcaraway_core_finish(&core) == status);
-        DEMAND(archcaraway_core_admit(&core, 0, chain->sent[0].frame.bytes, chain->sent[0].frame.length) == status);
+        DEMAND(archcaraway_core_admit(&core, 0, chain->sent[0].frame.bytes,
+                                      chain->sent[0].frame.length) == status);
     }
     for (unsigned proxy = 0; proxy < chain->proxies; proxy++) {
         while (take_answer(&core, proxy, answers)) {
@@ -77,7 +86,8 @@ static int run_core(Random *random, const Chain *chain, Answers *answers) {
 
 static const Answer *answer_at(const Answers *answers, int64_t version) {
     for (size_t i = 0; i < answers->length; i++) {
-        if (answers->items[i].version == version && answers->items[i].kind == ARCHCARAWAY_REPLY) return &answers->items[i];
+        if (answers->items[i].version == version && answers->items[i].kind == ARCHCARAWAY_REPLY)
+            return &answers->items[i];
     }
     return NULL;
 }
@@ -95,7 +105,8 @@ static size_t run_set(Random *random, const Chain *chain, const Answers *answers
         size_t longest = longest_reply(batch), length = 99;
         uint64_t boundaries = archcaraway_set_boundaries(&set);
         uint8_t *reply = (uint8_t *)demand_memory(longest);
-        int status = archcaraway_set_resolve(&set, frame.bytes, frame.length, reply, longest - 1, &length);
+        int status =
+            archcaraway_set_resolve(&set, frame.bytes, frame.length, reply, longest - 1, &length);
         DEMAND(status == ARCHCARAWAY_BUFFER && length == longest);
         DEMAND(archcaraway_set_boundaries(&set) == boundaries);
         status = archcaraway_set_resolve(&set, frame.bytes, frame.length, reply, longest, &length);
@@ -104,7 +115,8 @@ static size_t run_set(Random *random, const Chain *chain, const Answers *answers
         DEMAND(archcaraway_set_boundaries(&set) <= chain->limit);
         status = archcaraway_set_resolve(&set, frame.bytes, frame.length, reply, longest, &length);
         DEMAND(status == ARCHCARAWAY_VERSION_LATE && length == 0);
-        status = archcaraway_set_resolve(&set, frame.bytes, frame.length - 1, reply, longest, &length);
+        status =
+            archcaraway_set_resolve(&set, frame.bytes, frame.length - 1, reply, longest, &length);
         DEMAND(status == ARCHCARAWAY_FRAME_SHORT && length == 0);
         free(reply);
         free(frame.bytes);
@@ -120,7 +132,8 @@ static void print_answers(FILE *out, const Answers *answers) {
         fprintf(out, "%u %" PRId64 " ", answer->proxy, answer->version);
         if (answer->kind == ARCHCARAWAY_NEVER) fprintf(out, "never");
         if (answer->kind == ARCHCARAWAY_HELD) fprintf(out, "held");
-        for (size_t k = 0; k < answer->frame.length; k++) fprintf(out, "%02x", answer->frame.bytes[k]);
+        for (size_t k = 0; k < answer->frame.length; k++)
+            fprintf(out, "%02x", answer->frame.bytes[k]);
         fprintf(out, "\n");
     }
 }
@@ -144,10 +157,12 @@ static Bytes read_file(FILE *file) {
     return bytes;
 }
 
-static void demand_same(FILE *file, FILE *other, const char *what, size_t number, const char *kind) {
+static void demand_same(FILE *file, FILE *other, const char *what, size_t number,
+                        const char *kind) {
     Bytes a = read_file(file), b = read_file(other);
     if (a.length != b.length || memcmp(a.bytes, b.bytes, a.length) != 0) {
-        fprintf(stderr, "chain %zu (%s): %s differs from what the library says\n", number, kind, what);
+        fprintf(stderr, "chain %zu (%s): %s differs from what the library says\n", number, kind,
+                what);
         exit(1);
     }
     free(a.bytes);
@@ -155,21 +170,26 @@ static void demand_same(FILE *file, FILE *other, const char *what, size_t number
 }
 
 // Runs the program on the files of the proxies, and compares what it prints with these answers.
-static void compare(const char *program, const char *folder, const Chain *chain, const Answers *answers, int stop,
-                    size_t number) {
+static void compare(const char *program, const char *folder, const Chain *chain,
+                    const Answers *answers, int stop, size_t number) {
     char command[16384];
-    int used = snprintf(command, sizeof command, "%s --frames --capacity %u --window %" PRId64 " --limit %" PRIu64,
-                        program, 1 + (unsigned)(number % 16), chain->window, chain->limit);
+    int used = snprintf(command, sizeof command,
+                        "%s --frames --capacity %u --window %" PRId64 " --limit %" PRIu64, program,
+                        1 + (unsigned)(number % 16), chain->window, chain->limit);
     for (unsigned proxy = 0; proxy < chain->proxies; proxy++) {
         FILE *file = open_in(folder, "proxy", proxy, "wb");
         for (size_t i = 0; i < chain->sent_length; i++) {
             const Sent *sent = &chain->sent[i];
-            if (sent->proxy == proxy) DEMAND(fwrite(sent->frame.bytes, 1, sent->frame.length, file) == sent->frame.length);
+            if (sent->proxy == proxy)
+                DEMAND(fwrite(sent->frame.bytes, 1, sent->frame.length, file) ==
+                       sent->frame.length);
         }
         DEMAND(fclose(file) == 0);
-        used += snprintf(command + used, sizeof command - (size_t)used, " %s/proxy%u", folder, proxy);
+        used +=
+            snprintf(command + used, sizeof command - (size_t)used, " %s/proxy%u", folder, proxy);
     }
-    used += snprintf(command + used, sizeof command - (size_t)used, " > %s/out0 2> %s/error0", folder, folder);
+    used += snprintf(command + used, sizeof command - (size_t)used, " > %s/out0 2> %s/error0",
+                     folder, folder);
     DEMAND((size_t)used < sizeof command);
     int status = system(command);
     DEMAND((status == 0) == (stop == ARCHCARAWAY_OK));
@@ -201,8 +221,8 @@ int main(int count, char **words) {
         free_answers(&answers);
         free_chain(&chain);
     }
-    printf("differential: %zu chains, %zu batches; %zu replies, %zu never, %zu held; stops: %zu GateFull, %zu ArenaFull; "
-           "%zu batches by a set too; %zu lines %s\n",
+    printf("differential: %zu chains, %zu batches; %zu replies, %zu never, %zu held; "
+           "stops: %zu GateFull, %zu ArenaFull; %zu batches by a set too; %zu lines %s\n",
            chains, batches, kinds[1], kinds[2], kinds[3], stops[2], stops[3], resolved, lines,
            count == 5 ? "as the program prints them" : "not compared");
     return 0;

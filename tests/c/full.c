@@ -2,9 +2,10 @@
 //
 //     full CHAINS SEED
 //
-// One set is given each batch as a frame, one as a batch without a frame, and both refuse what doesn't fit. Whenever a batch is
-// refused, and at the end of a chain, another set resolves those that were not refused: it must give the same replies and have the
-// same numbers, and it must stop at the refused batch.
+// One set is given each batch as a frame, one as a batch without a frame, and both refuse what
+// doesn't fit. Whenever a batch is refused, and at the end of a chain, another set resolves those
+// that were not refused: it must give the same replies and have the same numbers, and it must stop
+// at the refused batch.
 #include <stdlib.h>
 
 #include "chains.h"
@@ -29,7 +30,8 @@ static archcaraway_stats stats_of(const archcaraway_set *set) {
 }
 
 static bool are_same(archcaraway_stats a, archcaraway_stats b) {
-    return a.boundaries == b.boundaries && a.limit == b.limit && a.version == b.version && a.edge == b.edge;
+    return a.boundaries == b.boundaries && a.limit == b.limit && a.version == b.version &&
+           a.edge == b.edge;
 }
 
 // A set that has resolved what was accepted.
@@ -41,8 +43,10 @@ static archcaraway_set set_behind(const Chain *chain, const History *history) {
     for (size_t i = 0; i < history->length; i++) {
         const Accepted *accepted = &history->items[i];
         Bytes frame = written_frame(accepted->batch);
-        DEMAND(archcaraway_set_resolve(&set, frame.bytes, frame.length, reply, sizeof reply, &length) == ARCHCARAWAY_OK);
-        DEMAND(length == accepted->reply.length && memcmp(reply, accepted->reply.bytes, length) == 0);
+        DEMAND(archcaraway_set_resolve(&set, frame.bytes, frame.length, reply, sizeof reply,
+                                       &length) == ARCHCARAWAY_OK);
+        DEMAND(length == accepted->reply.length &&
+               memcmp(reply, accepted->reply.bytes, length) == 0);
         free(frame.bytes);
     }
     return set;
@@ -53,9 +57,12 @@ static int by_values(archcaraway_set *set, const Batch *batch, uint8_t *verdicts
     archcaraway_batch made = ARCHCARAWAY_NONE;
     Values values = values_of(batch);
     DEMAND(archcaraway_batch_new(&made) == ARCHCARAWAY_OK);
-    for (unsigned i = 0; i < batch->count; i++) DEMAND(archcaraway_batch_add(&made, &values.txns[i]) == ARCHCARAWAY_OK);
-    const int status = as_batch ? archcaraway_set_try_judge_batch(set, batch->version, &made, verdicts, batch->count)
-                                : archcaraway_set_try_judge(set, batch->version, values.txns, batch->count, verdicts, NULL);
+    for (unsigned i = 0; i < batch->count; i++)
+        DEMAND(archcaraway_batch_add(&made, &values.txns[i]) == ARCHCARAWAY_OK);
+    const int status = as_batch ? archcaraway_set_try_judge_batch(set, batch->version, &made,
+                                                                  verdicts, batch->count)
+                                : archcaraway_set_try_judge(set, batch->version, values.txns,
+                                                            batch->count, verdicts, NULL);
     archcaraway_batch_free(&made);
     free_values(&values);
     return status;
@@ -64,8 +71,10 @@ static int by_values(archcaraway_set *set, const Batch *batch, uint8_t *verdicts
 static void demand_verdicts(Bytes frame, const uint8_t *verdicts, unsigned count) {
     archcaraway_reply reply;
     archcaraway_entry entry;
-    DEMAND(archcaraway_reply_read(&reply, frame.bytes, frame.length) == ARCHCARAWAY_OK && reply.count == count);
-    for (unsigned i = 0; i < count; i++) DEMAND(archcaraway_reply_next(&reply, &entry) && entry.verdict == verdicts[i]);
+    DEMAND(archcaraway_reply_read(&reply, frame.bytes, frame.length) == ARCHCARAWAY_OK &&
+           reply.count == count);
+    for (unsigned i = 0; i < count; i++)
+        DEMAND(archcaraway_reply_next(&reply, &entry) && entry.verdict == verdicts[i]);
 }
 
 static void try_chain(Random *random, const Chain *chain) {
@@ -81,7 +90,8 @@ static void try_chain(Random *random, const Chain *chain) {
         uint8_t verdicts[64];
         size_t length;
         Bytes frame = written_frame(batch);
-        const int status = archcaraway_set_try_resolve(&framed, frame.bytes, frame.length, reply, sizeof reply, &length);
+        const int status = archcaraway_set_try_resolve(&framed, frame.bytes, frame.length, reply,
+                                                       sizeof reply, &length);
         DEMAND(by_values(&valued, batch, verdicts, one_in(random, 2)) == status);
         DEMAND(are_same(stats_of(&valued), stats_of(&framed)));
         if (status == ARCHCARAWAY_OK) {
@@ -90,14 +100,16 @@ static void try_chain(Random *random, const Chain *chain) {
             history.items[history.length++] = accepted;
             accepted_after_refusals += has_refused;
         } else {
-            DEMAND(status == ARCHCARAWAY_ARENA_FULL && length == 0 && are_same(before, stats_of(&framed)));
+            DEMAND(status == ARCHCARAWAY_ARENA_FULL && length == 0 &&
+                   are_same(before, stats_of(&framed)));
             if (!has_refused || one_in(random, 8)) {
                 archcaraway_set stops = set_behind(chain, &history);
                 DEMAND(are_same(before, stats_of(&stops)));
-                DEMAND(archcaraway_set_resolve(&stops, frame.bytes, frame.length, reply, sizeof reply, &length) ==
-                       ARCHCARAWAY_ARENA_FULL);
-                DEMAND(archcaraway_set_try_resolve(&stops, frame.bytes, frame.length, reply, sizeof reply, &length) ==
-                       ARCHCARAWAY_ARENA_FULL);
+                DEMAND(archcaraway_set_resolve(&stops, frame.bytes, frame.length, reply,
+                                               sizeof reply, &length) == ARCHCARAWAY_ARENA_FULL);
+                DEMAND(archcaraway_set_try_resolve(&stops, frame.bytes, frame.length, reply,
+                                                   sizeof reply,
+                                                   &length) == ARCHCARAWAY_ARENA_FULL);
                 archcaraway_set_free(&stops);
             }
             has_refused = true;
@@ -121,12 +133,16 @@ static void arguments(void) {
     uint8_t reply[64];
     size_t length = 99;
     DEMAND(archcaraway_set_new(10, 10, &set) == ARCHCARAWAY_OK);
-    DEMAND(archcaraway_set_try_resolve(NULL, bytes, 4, reply, 64, &length) == ARCHCARAWAY_ARGUMENT && length == 0);
-    DEMAND(archcaraway_set_try_resolve(&none, bytes, 4, reply, 64, &length) == ARCHCARAWAY_ARGUMENT);
+    DEMAND(archcaraway_set_try_resolve(NULL, bytes, 4, reply, 64, &length) ==
+               ARCHCARAWAY_ARGUMENT &&
+           length == 0);
+    DEMAND(archcaraway_set_try_resolve(&none, bytes, 4, reply, 64, &length) ==
+           ARCHCARAWAY_ARGUMENT);
     DEMAND(archcaraway_set_try_resolve(&set, NULL, 4, reply, 64, &length) == ARCHCARAWAY_ARGUMENT);
     DEMAND(archcaraway_set_try_resolve(&set, bytes, 4, NULL, 64, &length) == ARCHCARAWAY_ARGUMENT);
     DEMAND(archcaraway_set_try_resolve(&set, bytes, 4, reply, 64, NULL) == ARCHCARAWAY_ARGUMENT);
-    DEMAND(archcaraway_set_try_resolve(&set, NULL, 0, reply, 64, &length) == ARCHCARAWAY_FRAME_SHORT);
+    DEMAND(archcaraway_set_try_resolve(&set, NULL, 0, reply, 64, &length) ==
+           ARCHCARAWAY_FRAME_SHORT);
     DEMAND(archcaraway_set_try_judge(&none, 1, NULL, 0, reply, NULL) == ARCHCARAWAY_ARGUMENT);
     DEMAND(archcaraway_set_try_judge(&set, -1, NULL, 0, NULL, NULL) == ARCHCARAWAY_VERSION_LATE);
     DEMAND(archcaraway_set_try_judge_batch(&set, 1, &batch, reply, 64) == ARCHCARAWAY_ARGUMENT);
@@ -146,6 +162,7 @@ int main(int count, char **words) {
         free_chain(&chain);
     }
     DEMAND(chains < 100 || (refused_seen > chains && accepted_after_refusals > chains));
-    printf("%zu chains, %zu batches refused, %zu accepted after a refusal\n", chains, refused_seen, accepted_after_refusals);
+    printf("%zu chains, %zu batches refused, %zu accepted after a refusal\n", chains, refused_seen,
+           accepted_after_refusals);
     return 0;
 }

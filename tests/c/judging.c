@@ -2,8 +2,9 @@
 //
 //     judging CHAINS SEED
 //
-// Four sets judge each chain: by frames, by archcaraway_set_judge, by one batch that is used again and again, and by one to which
-// transactions of two others are appended. Two cores answer it, by frames and by batches. All must agree.
+// Four sets judge each chain: by frames, by archcaraway_set_judge, by one batch that is used again
+// and again, and by one to which transactions of two others are appended. Two cores answer it, by
+// frames and by batches. All must agree.
 #include <stdlib.h>
 
 #include "values.h"
@@ -13,7 +14,8 @@ static int by_frame(archcaraway_set *set, const Batch *batch, uint8_t *verdicts)
     static uint8_t buffer[ARCHCARAWAY_MAX_REPLY];
     Bytes frame = written_frame(batch);
     size_t length, i = 0;
-    int status = archcaraway_set_resolve(set, frame.bytes, frame.length, buffer, sizeof buffer, &length);
+    int status =
+        archcaraway_set_resolve(set, frame.bytes, frame.length, buffer, sizeof buffer, &length);
     if (status == ARCHCARAWAY_OK) {
         archcaraway_reply reply;
         archcaraway_entry entry;
@@ -34,8 +36,13 @@ static void add_a_bad_one(Random *random, archcaraway_batch *batch) {
     switch (below(random, 6)) {
     case 0: txn.snapshot = -1, status = ARCHCARAWAY_FRAME_VERSION; break;
     case 1: range.end.length = 2, status = ARCHCARAWAY_FRAME_INVERTED; break;
-    case 2: range.end.length = ARCHCARAWAY_MAX_KEY + 1, status = ARCHCARAWAY_FRAME_KEY_LENGTH; break;
-    case 3: range.begin.length = ARCHCARAWAY_MAX_KEY, range.single = true, status = ARCHCARAWAY_FRAME_KEY_LENGTH; break;
+    case 2:
+        range.end.length = ARCHCARAWAY_MAX_KEY + 1, status = ARCHCARAWAY_FRAME_KEY_LENGTH;
+        break;
+    case 3:
+        range.begin.length = ARCHCARAWAY_MAX_KEY, range.single = true,
+        status = ARCHCARAWAY_FRAME_KEY_LENGTH;
+        break;
     case 4: range.begin.bytes = NULL; break;
     default: txn.write_count = ARCHCARAWAY_MAX_RANGES + 1, status = ARCHCARAWAY_FRAME_COUNT; break;
     }
@@ -44,13 +51,15 @@ static void add_a_bad_one(Random *random, archcaraway_batch *batch) {
 }
 
 // Fills a batch that has been used before, with bad transactions and dropped ones in between.
-static void fill(Random *random, archcaraway_batch *batch, const Values *values, unsigned from, unsigned to) {
+static void fill(Random *random, archcaraway_batch *batch, const Values *values, unsigned from,
+                 unsigned to) {
     archcaraway_batch_clear(batch);
     DEMAND(archcaraway_batch_room(batch) == ARCHCARAWAY_MAX_TRANSACTIONS);
     for (unsigned i = from; i < to; i++) {
         if (one_in(random, 8)) add_a_bad_one(random, batch);
         if (one_in(random, 8)) {
-            DEMAND(archcaraway_batch_add(batch, &values->txns[from + below(random, to - from)]) == ARCHCARAWAY_OK);
+            DEMAND(archcaraway_batch_add(batch, &values->txns[from + below(random, to - from)]) ==
+                   ARCHCARAWAY_OK);
             archcaraway_batch_drop_last(batch);
         }
         DEMAND(archcaraway_batch_add(batch, &values->txns[i]) == ARCHCARAWAY_OK);
@@ -61,8 +70,10 @@ static void fill(Random *random, archcaraway_batch *batch, const Values *values,
 static size_t verdicts_seen[3], stops_seen;
 
 static void judge_chain(Random *random, const Chain *chain) {
-    archcaraway_set sets[4] = {ARCHCARAWAY_NONE, ARCHCARAWAY_NONE, ARCHCARAWAY_NONE, ARCHCARAWAY_NONE};
-    archcaraway_batch batches[4] = {ARCHCARAWAY_NONE, ARCHCARAWAY_NONE, ARCHCARAWAY_NONE, ARCHCARAWAY_NONE};
+    archcaraway_set sets[4] = {ARCHCARAWAY_NONE, ARCHCARAWAY_NONE, ARCHCARAWAY_NONE,
+                               ARCHCARAWAY_NONE};
+    archcaraway_batch batches[4] = {ARCHCARAWAY_NONE, ARCHCARAWAY_NONE, ARCHCARAWAY_NONE,
+                                    ARCHCARAWAY_NONE};
     for (size_t i = 0; i < 4; i++) {
         DEMAND(archcaraway_set_new(chain->window, chain->limit, &sets[i]) == ARCHCARAWAY_OK);
         DEMAND(archcaraway_batch_new(&batches[i]) == ARCHCARAWAY_OK);
@@ -78,26 +89,31 @@ static void judge_chain(Random *random, const Chain *chain) {
         DEMAND(count <= sizeof verdicts[0]);
         memset(verdicts, 9, sizeof verdicts);
         status[0] = by_frame(&sets[0], batch, verdicts[0]);
-        status[1] = archcaraway_set_judge(&sets[1], batch->version, values.txns, count, verdicts[1], &bad);
+        status[1] =
+            archcaraway_set_judge(&sets[1], batch->version, values.txns, count, verdicts[1], &bad);
         DEMAND(bad == count);
         fill(random, &batches[0], &values, 0, count);
         if (count > 0) {
-            int few = archcaraway_set_judge_batch(&sets[2], batch->version, &batches[0], verdicts[2], count - 1);
+            int few = archcaraway_set_judge_batch(&sets[2], batch->version, &batches[0],
+                                                  verdicts[2], count - 1);
             DEMAND(few == (stop != ARCHCARAWAY_OK ? stop : ARCHCARAWAY_BUFFER));
         }
-        status[2] = archcaraway_set_judge_batch(&sets[2], batch->version, &batches[0], verdicts[2], sizeof verdicts[2]);
+        status[2] = archcaraway_set_judge_batch(&sets[2], batch->version, &batches[0], verdicts[2],
+                                                sizeof verdicts[2]);
         fill(random, &batches[1], &values, 0, middle);
         fill(random, &batches[2], &values, middle, count);
         archcaraway_batch_clear(&batches[3]);
         DEMAND(archcaraway_batch_append(&batches[3], &batches[1]) == ARCHCARAWAY_OK);
         DEMAND(archcaraway_batch_append(&batches[3], &batches[2]) == ARCHCARAWAY_OK);
-        status[3] = archcaraway_set_judge_batch(&sets[3], batch->version, &batches[3], verdicts[3], count);
+        status[3] =
+            archcaraway_set_judge_batch(&sets[3], batch->version, &batches[3], verdicts[3], count);
         for (size_t k = 1; k < 4; k++) {
             DEMAND(status[k] == status[0]);
             DEMAND(memcmp(verdicts[k], verdicts[0], sizeof verdicts[0]) == 0);
             DEMAND(archcaraway_set_boundaries(&sets[k]) == archcaraway_set_boundaries(&sets[0]));
         }
-        for (unsigned t = 0; t < count && status[0] == ARCHCARAWAY_OK; t++) verdicts_seen[verdicts[0][t]]++;
+        for (unsigned t = 0; t < count && status[0] == ARCHCARAWAY_OK; t++)
+            verdicts_seen[verdicts[0][t]]++;
         stop = status[0];
         stops_seen += stop != ARCHCARAWAY_OK;
         free_values(&values);
@@ -116,7 +132,8 @@ static Answers all_answers(archcaraway_core *core, unsigned proxies) {
         for (;;) {
             Answer answer = {proxy, 0, 0, {NULL, 0}};
             size_t length;
-            DEMAND(archcaraway_core_give(core, proxy, buffer, sizeof buffer, &length, &answer.kind, &answer.version) == 0);
+            DEMAND(archcaraway_core_give(core, proxy, buffer, sizeof buffer, &length, &answer.kind,
+                                         &answer.version) == 0);
             if (answer.kind == ARCHCARAWAY_NOTHING) break;
             answer.frame = copy_bytes(buffer, length);
             keep_answer(&answers, answer);
@@ -141,8 +158,8 @@ static void admit_chain(Random *random, const Chain *chain) {
         Bytes frame = written_frame(batch);
         int status = archcaraway_core_admit(&framed, proxy, frame.bytes, frame.length);
         fill(random, &values_held, &values, 0, batch->count);
-        DEMAND(archcaraway_core_admit_batch(&valued, proxy, &values_held, batch->previous, batch->version,
-                                            batch->received) == status);
+        DEMAND(archcaraway_core_admit_batch(&valued, proxy, &values_held, batch->previous,
+                                            batch->version, batch->received) == status);
         free(frame.bytes);
         free_values(&values);
     }
@@ -152,7 +169,8 @@ static void admit_chain(Random *random, const Chain *chain) {
     for (size_t i = 0; i < one.length; i++) {
         const Answer *a = &one.items[i], *b = &two.items[i];
         DEMAND(a->proxy == b->proxy && a->kind == b->kind && a->version == b->version);
-        DEMAND(a->frame.length == b->frame.length && memcmp(a->frame.bytes, b->frame.bytes, a->frame.length) == 0);
+        DEMAND(a->frame.length == b->frame.length &&
+               memcmp(a->frame.bytes, b->frame.bytes, a->frame.length) == 0);
     }
     free_answers(&one);
     free_answers(&two);
@@ -167,38 +185,55 @@ static void refusals(void) {
     archcaraway_core core = ARCHCARAWAY_NONE;
     archcaraway_batch batch = ARCHCARAWAY_NONE, none = ARCHCARAWAY_NONE, other = ARCHCARAWAY_NONE;
     archcaraway_range range = {{key, 1}, {NULL, 0}, true}, inverted = {{key, 1}, {NULL, 0}, false};
-    archcaraway_txn txns[3] = {{0, &range, 1, NULL, 0, false}, {0, NULL, 0, &range, 1, false}, {0, NULL, 0, NULL, 0, false}};
+    archcaraway_txn txns[3] = {{0, &range, 1, NULL, 0, false},
+                               {0, NULL, 0, &range, 1, false},
+                               {0, NULL, 0, NULL, 0, false}};
     uint8_t verdicts[3] = {9, 9, 9};
     size_t bad = 99;
-    DEMAND(archcaraway_set_new(10, 10, &set) == ARCHCARAWAY_OK && archcaraway_core_new(2, 10, 10, &core) == ARCHCARAWAY_OK);
-    DEMAND(archcaraway_batch_new(&batch) == ARCHCARAWAY_OK && archcaraway_batch_new(&other) == ARCHCARAWAY_OK);
+    DEMAND(archcaraway_set_new(10, 10, &set) == ARCHCARAWAY_OK &&
+           archcaraway_core_new(2, 10, 10, &core) == ARCHCARAWAY_OK);
+    DEMAND(archcaraway_batch_new(&batch) == ARCHCARAWAY_OK &&
+           archcaraway_batch_new(&other) == ARCHCARAWAY_OK);
     DEMAND(archcaraway_batch_new(NULL) == ARCHCARAWAY_ARGUMENT);
     DEMAND(archcaraway_set_judge(NULL, 1, txns, 3, verdicts, &bad) == ARCHCARAWAY_ARGUMENT);
     DEMAND(archcaraway_set_judge(&set, 1, NULL, 3, verdicts, &bad) == ARCHCARAWAY_ARGUMENT);
     DEMAND(archcaraway_set_judge(&set, 1, txns, 3, NULL, &bad) == ARCHCARAWAY_ARGUMENT);
-    DEMAND(archcaraway_set_judge(&set, -1, txns, 3, verdicts, &bad) == ARCHCARAWAY_VERSION_LATE && bad == 3);
+    DEMAND(archcaraway_set_judge(&set, -1, txns, 3, verdicts, &bad) == ARCHCARAWAY_VERSION_LATE &&
+           bad == 3);
     txns[1].writes = &inverted;
-    DEMAND(archcaraway_set_judge(&set, 1, txns, 3, verdicts, &bad) == ARCHCARAWAY_FRAME_INVERTED && bad == 1);
+    DEMAND(archcaraway_set_judge(&set, 1, txns, 3, verdicts, &bad) == ARCHCARAWAY_FRAME_INVERTED &&
+           bad == 1);
     txns[1].writes = NULL;
-    DEMAND(archcaraway_set_judge(&set, 1, txns, 3, verdicts, &bad) == ARCHCARAWAY_ARGUMENT && bad == 1);
+    DEMAND(archcaraway_set_judge(&set, 1, txns, 3, verdicts, &bad) == ARCHCARAWAY_ARGUMENT &&
+           bad == 1);
     txns[1].writes = &range;
-    DEMAND(verdicts[0] == 9 && archcaraway_set_judge(&set, 1, NULL, 0, NULL, NULL) == ARCHCARAWAY_OK);
-    DEMAND(archcaraway_set_judge(&set, 2, txns, 3, verdicts, NULL) == ARCHCARAWAY_OK && verdicts[2] == ARCHCARAWAY_COMMITTED);
-    DEMAND(archcaraway_set_judge(&set, 3, txns, 3, verdicts, NULL) == ARCHCARAWAY_OK && verdicts[0] == ARCHCARAWAY_CONFLICT);
-    DEMAND(archcaraway_batch_add(&none, txns) == ARCHCARAWAY_ARGUMENT && archcaraway_batch_add(&batch, NULL) == ARCHCARAWAY_ARGUMENT);
-    for (size_t i = 0; i < ARCHCARAWAY_MAX_TRANSACTIONS; i++) DEMAND(archcaraway_batch_add(&batch, &txns[i % 3]) == ARCHCARAWAY_OK);
-    DEMAND(archcaraway_batch_room(&batch) == 0 && archcaraway_batch_add(&batch, txns) == ARCHCARAWAY_FRAME_COUNT);
-    DEMAND(archcaraway_batch_append(&batch, &other) == ARCHCARAWAY_OK && archcaraway_batch_add(&other, txns) == ARCHCARAWAY_OK);
-    DEMAND(archcaraway_batch_append(&batch, &other) == ARCHCARAWAY_FRAME_COUNT && archcaraway_batch_room(&batch) == 0);
+    DEMAND(verdicts[0] == 9 &&
+           archcaraway_set_judge(&set, 1, NULL, 0, NULL, NULL) == ARCHCARAWAY_OK);
+    DEMAND(archcaraway_set_judge(&set, 2, txns, 3, verdicts, NULL) == ARCHCARAWAY_OK &&
+           verdicts[2] == ARCHCARAWAY_COMMITTED);
+    DEMAND(archcaraway_set_judge(&set, 3, txns, 3, verdicts, NULL) == ARCHCARAWAY_OK &&
+           verdicts[0] == ARCHCARAWAY_CONFLICT);
+    DEMAND(archcaraway_batch_add(&none, txns) == ARCHCARAWAY_ARGUMENT &&
+           archcaraway_batch_add(&batch, NULL) == ARCHCARAWAY_ARGUMENT);
+    for (size_t i = 0; i < ARCHCARAWAY_MAX_TRANSACTIONS; i++)
+        DEMAND(archcaraway_batch_add(&batch, &txns[i % 3]) == ARCHCARAWAY_OK);
+    DEMAND(archcaraway_batch_room(&batch) == 0 &&
+           archcaraway_batch_add(&batch, txns) == ARCHCARAWAY_FRAME_COUNT);
+    DEMAND(archcaraway_batch_append(&batch, &other) == ARCHCARAWAY_OK &&
+           archcaraway_batch_add(&other, txns) == ARCHCARAWAY_OK);
+    DEMAND(archcaraway_batch_append(&batch, &other) == ARCHCARAWAY_FRAME_COUNT &&
+           archcaraway_batch_room(&batch) == 0);
     DEMAND(archcaraway_batch_append(&batch, &batch) == ARCHCARAWAY_ARGUMENT);
-    DEMAND(archcaraway_batch_append(&batch, &none) == ARCHCARAWAY_ARGUMENT && archcaraway_batch_room(&none) == 0);
+    DEMAND(archcaraway_batch_append(&batch, &none) == ARCHCARAWAY_ARGUMENT &&
+           archcaraway_batch_room(&none) == 0);
     DEMAND(archcaraway_set_judge_batch(&set, 3, &other, verdicts, 3) == ARCHCARAWAY_VERSION_LATE);
     DEMAND(archcaraway_set_judge_batch(&set, 4, &other, NULL, 0) == ARCHCARAWAY_BUFFER);
     DEMAND(archcaraway_set_judge_batch(&set, 4, &none, verdicts, 3) == ARCHCARAWAY_ARGUMENT);
     DEMAND(archcaraway_core_admit_batch(&core, 2, &other, -1, 0, -1) == ARCHCARAWAY_ARGUMENT);
     DEMAND(archcaraway_core_admit_batch(&core, 0, &other, 0, 0, -1) == ARCHCARAWAY_ARGUMENT);
     DEMAND(archcaraway_core_admit_batch(&core, 0, &other, -1, 0, 0) == ARCHCARAWAY_ARGUMENT);
-    DEMAND(archcaraway_core_admit_batch(&core, 0, &other, -1, 0, -1) == ARCHCARAWAY_OK && archcaraway_core_owed(&core) == 1);
+    DEMAND(archcaraway_core_admit_batch(&core, 0, &other, -1, 0, -1) == ARCHCARAWAY_OK &&
+           archcaraway_core_owed(&core) == 1);
     archcaraway_batch_drop_last(&other);
     archcaraway_batch_drop_last(&other);
     archcaraway_batch_drop_last(NULL);
@@ -221,8 +256,9 @@ int main(int count, char **words) {
         admit_chain(&random, &chain);
         free_chain(&chain);
     }
-    printf("judging: %zu committed, %zu conflicts, %zu too old, %zu stops, the same by frames and by values\n",
-           verdicts_seen[ARCHCARAWAY_COMMITTED], verdicts_seen[ARCHCARAWAY_CONFLICT], verdicts_seen[ARCHCARAWAY_TOO_OLD],
-           stops_seen);
+    printf("judging: %zu committed, %zu conflicts, %zu too old, %zu stops, the same by frames and "
+           "by values\n",
+           verdicts_seen[ARCHCARAWAY_COMMITTED], verdicts_seen[ARCHCARAWAY_CONFLICT],
+           verdicts_seen[ARCHCARAWAY_TOO_OLD], stops_seen);
     return 0;
 }

@@ -2,9 +2,9 @@
 //
 //     refused CHAINS SEED
 //
-// Linked with --wrap for malloc, realloc and free. A refused call answers a named status: a stop, after which what was answered is a
-// beginning of all answers, or that memory was refused while a frame was read or written, after which the call is made again and
-// nothing is lost. Nothing leaks.
+// Linked with --wrap for malloc, realloc and free. A refused call answers a named status: a stop,
+// after which what was answered is a beginning of all answers, or that memory was refused while a
+// frame was read or written, after which the call is made again and nothing is lost. Nothing leaks.
 #include <stdlib.h>
 
 #include "archcaraway_shards.h"
@@ -24,8 +24,9 @@ static bool take_answer(archcaraway_core *core, unsigned proxy, Answers *answers
     size_t length;
     Answer answer = {proxy, 0, 0, {NULL, 0}};
     int status;
-    while (is_again(status = LIBRARY(archcaraway_core_give(core, proxy, bytes, sizeof bytes, &length, &answer.kind,
-                                                           &answer.version)))) {
+    while (is_again(status = LIBRARY(archcaraway_core_give(
+                        core, proxy, bytes, sizeof bytes, &length, &answer.kind,
+                        &answer.version)))) {
         DEMAND(length == 0 && answer.kind == ARCHCARAWAY_NOTHING);
     }
     DEMAND(status == ARCHCARAWAY_OK);
@@ -47,8 +48,8 @@ static int run_core(const Chain *chain, Answers *answers) {
     }
     for (size_t i = 0; i < chain->sent_length && status == ARCHCARAWAY_OK; i++) {
         const Sent *sent = &chain->sent[i];
-        while (is_again(status = LIBRARY(
-                            archcaraway_core_admit(&core, sent->proxy, sent->frame.bytes, sent->frame.length)))) {
+        while (is_again(status = LIBRARY(archcaraway_core_admit(
+                            &core, sent->proxy, sent->frame.bytes, sent->frame.length)))) {
         }
     }
     if (status == ARCHCARAWAY_OK) status = LIBRARY(archcaraway_core_finish(&core));
@@ -67,7 +68,8 @@ static int run_core(const Chain *chain, Answers *answers) {
 }
 
 static bool is_same(const Answer *a, const Answer *b) {
-    return a->proxy == b->proxy && a->kind == b->kind && a->version == b->version && a->frame.length == b->frame.length &&
+    return a->proxy == b->proxy && a->kind == b->kind && a->version == b->version &&
+           a->frame.length == b->frame.length &&
            (a->frame.length == 0 || memcmp(a->frame.bytes, b->frame.bytes, a->frame.length) == 0);
 }
 
@@ -116,14 +118,15 @@ static int run_set(const Chain *chain, Text *replies) {
     for (size_t i = 0; i < chain->length && status == ARCHCARAWAY_OK; i++) {
         Bytes frame = written_frame(&chain->chain[i]);
         size_t length;
-        while (is_again(status = LIBRARY(archcaraway_set_resolve(&set, frame.bytes, frame.length, reply, sizeof reply,
-                                                                 &length)))) {
+        while (is_again(status = LIBRARY(archcaraway_set_resolve(&set, frame.bytes, frame.length,
+                                                                 reply, sizeof reply, &length)))) {
         }
         for (size_t k = 0; status == ARCHCARAWAY_OK && k < length; k++) put(replies, reply[k], 1);
         if (status != ARCHCARAWAY_OK) {
             int met = status;
             DEMAND(met == ARCHCARAWAY_MEMORY || met == ARCHCARAWAY_ARENA_FULL);
-            DEMAND(LIBRARY(archcaraway_set_resolve(&set, frame.bytes, frame.length, reply, sizeof reply, &length)) == met);
+            DEMAND(LIBRARY(archcaraway_set_resolve(&set, frame.bytes, frame.length, reply,
+                                                   sizeof reply, &length)) == met);
         }
         free(frame.bytes);
     }
@@ -140,19 +143,21 @@ enum { MANY = 150 };
 // Adds a transaction again until it isn't refused.
 static void add(archcaraway_batch *batch, const archcaraway_txn *txn) {
     const size_t room = archcaraway_batch_room(batch);
-    while (is_again(LIBRARY(archcaraway_batch_add(batch, txn)))) DEMAND(archcaraway_batch_room(batch) == room);
+    while (is_again(LIBRARY(archcaraway_batch_add(batch, txn))))
+        DEMAND(archcaraway_batch_room(batch) == room);
     DEMAND(archcaraway_batch_room(batch) == room - 1);
 }
 
 // Appends a batch to an empty one, again until that isn't refused.
 static void append(archcaraway_batch *batch, archcaraway_batch *other) {
     const size_t room = archcaraway_batch_room(batch);
-    while (is_again(LIBRARY(archcaraway_batch_append(batch, other)))) DEMAND(archcaraway_batch_room(batch) == room);
+    while (is_again(LIBRARY(archcaraway_batch_append(batch, other))))
+        DEMAND(archcaraway_batch_room(batch) == room);
     DEMAND(archcaraway_batch_room(batch) == archcaraway_batch_room(other));
 }
 
-// Judges the batches of the chain without frames, each appended to another, and puts the verdicts one behind the other. The first
-// batch has each of its transactions many times.
+// Judges the batches of the chain without frames, each appended to another, and puts the verdicts
+// one behind the other. The first batch has each of its transactions many times.
 static int run_batches(const Chain *chain, Text *said) {
     static uint8_t verdicts[ARCHCARAWAY_MAX_TRANSACTIONS];
     archcaraway_set set = ARCHCARAWAY_NONE;
@@ -170,7 +175,8 @@ static int run_batches(const Chain *chain, Text *said) {
         archcaraway_batch_clear(&other);
         for (size_t k = 0; k < count; k++) add(&one, &values.txns[k % batch->count]);
         append(&other, &one);
-        while (is_again(status = LIBRARY(archcaraway_set_judge_batch(&set, batch->version, &other, verdicts, count)))) {
+        while (is_again(status = LIBRARY(archcaraway_set_judge_batch(&set, batch->version, &other,
+                                                                     verdicts, count)))) {
         }
         DEMAND(status >= ARCHCARAWAY_OK && status <= ARCHCARAWAY_ARENA_FULL);
         for (size_t k = 0; status == ARCHCARAWAY_OK && k < count; k++) put(said, verdicts[k], 1);
@@ -196,7 +202,8 @@ static size_t refuse(int (*run)(const Chain *, Text *), const Chain *chain) {
         int met = run(chain, &some);
         DEMAND(met == stop || met == ARCHCARAWAY_MEMORY);
         stops += met != stop;
-        DEMAND(some.length <= all.length && (some.length == 0 || memcmp(some.bytes, all.bytes, some.length) == 0));
+        DEMAND(some.length <= all.length &&
+               (some.length == 0 || memcmp(some.bytes, all.bytes, some.length) == 0));
         DEMAND(met != stop || some.length == all.length);
         free(some.bytes);
     }
@@ -204,8 +211,8 @@ static size_t refuse(int (*run)(const Chain *, Text *), const Chain *chain) {
     return number;
 }
 
-// Splits at two keys, clips a batch to each shard, and combines its replies, each call again until it isn't refused. Returns the
-// status of the split points.
+// Splits at two keys, clips a batch to each shard, and combines its replies, each call again until
+// it isn't refused. Returns the status of the split points.
 static int run_shards(const Batch *batch) {
     static uint8_t clip[100000], reply[100000];
     static const uint8_t keys[] = "ab";
@@ -216,21 +223,25 @@ static int run_shards(const Batch *batch) {
     size_t length, bad;
     calls = 0;
     int status = LIBRARY(archcaraway_split_points_new(given, 2, &points, &bad));
-    DEMAND(bad == 2 && (status == ARCHCARAWAY_OK || (status == ARCHCARAWAY_MEMORY && points.at == NULL)));
+    DEMAND(bad == 2 &&
+           (status == ARCHCARAWAY_OK || (status == ARCHCARAWAY_MEMORY && points.at == NULL)));
     Text replies = {NULL, 0, 0};
     for (size_t shard = 0; status == ARCHCARAWAY_OK && shard < 3; shard++) {
-        while (is_again(LIBRARY(archcaraway_clip(&points, shard, frame.bytes, frame.length, clip, sizeof clip, &length)))) {
+        while (is_again(LIBRARY(archcaraway_clip(&points, shard, frame.bytes, frame.length, clip,
+                                                 sizeof clip, &length)))) {
             DEMAND(length == 0);
         }
         DEMAND(archcaraway_set_new(ARCHCARAWAY_WINDOW, ARCHCARAWAY_LIMIT, &set) == ARCHCARAWAY_OK);
-        DEMAND(archcaraway_set_resolve(&set, clip, length, reply, sizeof reply, &length) == ARCHCARAWAY_OK);
+        DEMAND(archcaraway_set_resolve(&set, clip, length, reply, sizeof reply, &length) ==
+               ARCHCARAWAY_OK);
         for (size_t k = 0; k < length; k++) put(&replies, reply[k], 1);
         archcaraway_set_free(&set);
     }
     if (status == ARCHCARAWAY_OK) {
         int met;
-        while (is_again(met = LIBRARY(archcaraway_combine(&points, frame.bytes, frame.length, replies.bytes, replies.length,
-                                                          reply, sizeof reply, &length, &bad)))) {
+        while (is_again(met = LIBRARY(archcaraway_combine(&points, frame.bytes, frame.length,
+                                                          replies.bytes, replies.length, reply,
+                                                          sizeof reply, &length, &bad)))) {
             DEMAND(length == 0 && bad <= 3);
         }
         DEMAND(met == ARCHCARAWAY_OK && length != 0);
@@ -248,7 +259,8 @@ static size_t refuse_shards(const Batch *batch) {
     refuse_at = 0;
     DEMAND(run_shards(batch) == ARCHCARAWAY_OK);
     size_t number = calls;
-    for (refuse_at = 1; refuse_at <= number; refuse_at++) stops += run_shards(batch) != ARCHCARAWAY_OK;
+    for (refuse_at = 1; refuse_at <= number; refuse_at++)
+        stops += run_shards(batch) != ARCHCARAWAY_OK;
     return number;
 }
 
@@ -266,7 +278,8 @@ int main(int count, char **words) {
         }
         free_chain(&chain);
     }
-    printf("refused: %zu allocations in turn; %zu stops, %zu calls made again; nothing lost, nothing leaked\n", refused, stops,
-           again);
+    printf("refused: %zu allocations in turn; %zu stops, %zu calls made again; nothing lost, "
+           "nothing leaked\n",
+           refused, stops, again);
     return 0;
 }

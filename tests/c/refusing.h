@@ -1,4 +1,5 @@
-// Counts what the library allocates, and refuses one call. Linked with --wrap for malloc, realloc and free.
+// Counts what the library allocates, and refuses one call. Linked with --wrap for malloc, realloc
+// and free.
 #ifndef REFUSING_H
 #define REFUSING_H
 
@@ -10,7 +11,8 @@ void *__real_malloc(size_t size);
 void *__real_realloc(void *at, size_t size);
 void __real_free(void *at);
 
-// Calls of the library are counted, and the pieces and bytes that it holds, and one call is refused.
+// Calls of the library are counted, and the pieces and bytes that it holds, and one call is
+// refused.
 static bool inside;
 static size_t calls, refuse_at;
 static long held, bytes_held;

@@ -14,7 +14,8 @@ static const char *add_range(archcaraway_writer *writer, const char *at) {
     const char *begin = at + 3, *comma = strchr(begin, ','), *end = strchr(begin, ')');
     DEMAND(comma != NULL && end != NULL);
     int status = (at[1] == 'R' ? archcaraway_batch_read : archcaraway_batch_write)(
-        writer, bytes_of(begin), (size_t)(comma - begin), bytes_of(comma + 1), (size_t)(end - comma - 1));
+        writer, bytes_of(begin), (size_t)(comma - begin), bytes_of(comma + 1),
+        (size_t)(end - comma - 1));
     DEMAND(status == ARCHCARAWAY_OK);
     return end + 1;
 }
@@ -50,7 +51,8 @@ static void put_reply(Text *text, const char *reply) {
         size_t places_at = text->length + 1, places = 0;
         put(text, at[1] == 'X' ? 0 : at[1] == 'T' ? 1 : 2, 1);
         put(text, 0, 2);
-        for (at += 2; *at != ' ' && *at != 0; places++) put(text, (uint64_t)strtoll(at + (*at == ','), &at, 10), 2);
+        for (at += 2; *at != ' ' && *at != 0; places++)
+            put(text, (uint64_t)strtoll(at + (*at == ','), &at, 10), 2);
         text->bytes[places_at + 1] = (uint8_t)places;
     }
     DEMAND(*at == 0 && count < 256);
@@ -79,21 +81,23 @@ static int split(const char *words, archcaraway_split_points *points, size_t *ba
 static void demand_reply(archcaraway_set *set, Bytes frame, const char *want) {
     Bytes reply = reply_frame(want);
     size_t length;
-    DEMAND(archcaraway_set_resolve(set, frame.bytes, frame.length, buffer, sizeof buffer, &length) == ARCHCARAWAY_OK);
+    DEMAND(archcaraway_set_resolve(set, frame.bytes, frame.length, buffer, sizeof buffer,
+                                   &length) == ARCHCARAWAY_OK);
     DEMAND(are_same(buffer, length, reply));
     free(reply.bytes);
 }
 
-static void demand_combined(const archcaraway_split_points *points, Bytes frame, const Text *replies, const char *want) {
+static void demand_combined(const archcaraway_split_points *points, Bytes frame,
+                            const Text *replies, const char *want) {
     Bytes reply = reply_frame(want);
     size_t length, bad;
-    int status = archcaraway_combine(points, frame.bytes, frame.length, replies->bytes, replies->length, buffer,
-                                     sizeof buffer, &length, &bad);
+    int status = archcaraway_combine(points, frame.bytes, frame.length, replies->bytes,
+                                     replies->length, buffer, sizeof buffer, &length, &bad);
     DEMAND(status == ARCHCARAWAY_OK && bad == archcaraway_split_points_shards(points));
     DEMAND(are_same(buffer, length, reply));
     // A buffer that is one byte too small.
-    status = archcaraway_combine(points, frame.bytes, frame.length, replies->bytes, replies->length, buffer,
-                                 reply.length - 1, &length, NULL);
+    status = archcaraway_combine(points, frame.bytes, frame.length, replies->bytes, replies->length,
+                                 buffer, reply.length - 1, &length, NULL);
     DEMAND(status == ARCHCARAWAY_BUFFER && length == reply.length);
     free(reply.bytes);
 }
@@ -123,9 +127,11 @@ static void begin_row(Row *row, const char *words) {
     end_row(row);
     DEMAND(split(words, &row->points, &bad) == ARCHCARAWAY_OK);
     DEMAND(bad + 1 == archcaraway_split_points_shards(&row->points) && bad < MOST_SHARDS);
-    DEMAND(archcaraway_set_new(ARCHCARAWAY_WINDOW, ARCHCARAWAY_LIMIT, &row->alone) == ARCHCARAWAY_OK);
+    DEMAND(archcaraway_set_new(ARCHCARAWAY_WINDOW, ARCHCARAWAY_LIMIT, &row->alone) ==
+           ARCHCARAWAY_OK);
     for (size_t i = 0; i < MOST_SHARDS; i++) {
-        DEMAND(archcaraway_set_new(ARCHCARAWAY_WINDOW, ARCHCARAWAY_LIMIT, &row->sets[i]) == ARCHCARAWAY_OK);
+        DEMAND(archcaraway_set_new(ARCHCARAWAY_WINDOW, ARCHCARAWAY_LIMIT, &row->sets[i]) ==
+               ARCHCARAWAY_OK);
     }
 }
 
@@ -179,20 +185,27 @@ static void bad_points(void) {
     archcaraway_split_points points = ARCHCARAWAY_NONE;
     archcaraway_bytes keys[64];
     size_t bad;
-    DEMAND(split("h h", &points, &bad) == ARCHCARAWAY_POINTS_NOT_RISING && bad == 1 && points.at == NULL);
+    DEMAND(split("h h", &points, &bad) == ARCHCARAWAY_POINTS_NOT_RISING && bad == 1 &&
+           points.at == NULL);
     DEMAND(split("h p c", &points, &bad) == ARCHCARAWAY_POINTS_NOT_RISING && bad == 2);
     for (size_t i = 0; i < 64; i++) keys[i] = (archcaraway_bytes){zeros, i + 1};
-    DEMAND(archcaraway_split_points_new(keys, 64, &points, &bad) == ARCHCARAWAY_POINTS_TOO_MANY && bad == 64);
+    DEMAND(archcaraway_split_points_new(keys, 64, &points, &bad) == ARCHCARAWAY_POINTS_TOO_MANY &&
+           bad == 64);
     keys[1].length = ARCHCARAWAY_MAX_KEY + 1;
-    DEMAND(archcaraway_split_points_new(keys, 3, &points, &bad) == ARCHCARAWAY_FRAME_KEY_LENGTH && bad == 1);
+    DEMAND(archcaraway_split_points_new(keys, 3, &points, &bad) == ARCHCARAWAY_FRAME_KEY_LENGTH &&
+           bad == 1);
     keys[1] = (archcaraway_bytes){NULL, 1};
-    DEMAND(archcaraway_split_points_new(keys, 3, &points, &bad) == ARCHCARAWAY_ARGUMENT && bad == 3);
-    DEMAND(archcaraway_split_points_new(keys, 64, &points, &bad) == ARCHCARAWAY_ARGUMENT && bad == 64);
+    DEMAND(archcaraway_split_points_new(keys, 3, &points, &bad) == ARCHCARAWAY_ARGUMENT &&
+           bad == 3);
+    DEMAND(archcaraway_split_points_new(keys, 64, &points, &bad) == ARCHCARAWAY_ARGUMENT &&
+           bad == 64);
     keys[0] = (archcaraway_bytes){NULL, 0};
-    DEMAND(archcaraway_split_points_new(keys, 1, &points, &bad) == ARCHCARAWAY_POINTS_NOT_RISING && bad == 0);
+    DEMAND(archcaraway_split_points_new(keys, 1, &points, &bad) == ARCHCARAWAY_POINTS_NOT_RISING &&
+           bad == 0);
     DEMAND(archcaraway_split_points_new(NULL, 1, &points, NULL) == ARCHCARAWAY_ARGUMENT);
     DEMAND(archcaraway_split_points_new(keys, 1, NULL, NULL) == ARCHCARAWAY_ARGUMENT);
-    DEMAND(archcaraway_split_points_shards(&points) == 0 && archcaraway_split_points_shards(NULL) == 0);
+    DEMAND(archcaraway_split_points_shards(&points) == 0 &&
+           archcaraway_split_points_shards(NULL) == 0);
     archcaraway_split_points_free(&points);
     archcaraway_split_points_free(NULL);
     // The most, and a longest key.
@@ -203,12 +216,13 @@ static void bad_points(void) {
     archcaraway_split_points_free(&points);
 }
 
-static int combined(const archcaraway_split_points *points, Bytes frame, const char *const *replies, size_t *bad) {
+static int combined(const archcaraway_split_points *points, Bytes frame, const char *const *replies,
+                    size_t *bad) {
     Text text = {NULL, 0, 0};
     size_t length;
     for (; *replies != NULL; replies++) put_reply(&text, *replies);
-    int status = archcaraway_combine(points, frame.bytes, frame.length, text.bytes, text.length, buffer, sizeof buffer,
-                                     &length, bad);
+    int status = archcaraway_combine(points, frame.bytes, frame.length, text.bytes, text.length,
+                                     buffer, sizeof buffer, &length, bad);
     DEMAND(length == 0);
     free(text.bytes);
     return status;
@@ -231,7 +245,8 @@ static void bad_replies(void) {
         {{"100: X1 C", "100: C C", "100: C C", NULL}, ARCHCARAWAY_BEHIND, 2},
     };
     archcaraway_split_points points, none = ARCHCARAWAY_NONE;
-    Bytes frame = batch_frame("0>100; @50 m R[a,b) R[c,d) R[x,y); @0 W[c,z)"), reply = reply_frame("100: C C");
+    Bytes frame = batch_frame("0>100; @50 m R[a,b) R[c,d) R[x,y); @0 W[c,z)"),
+          reply = reply_frame("100: C C");
     size_t bad, length;
     DEMAND(split("m", &points, NULL) == ARCHCARAWAY_OK);
     for (size_t i = 0; i < sizeof rows / sizeof *rows; i++) {
@@ -242,34 +257,41 @@ static void bad_replies(void) {
     Text text = {NULL, 0, 0};
     put_reply(&text, "100: C C");
     for (size_t i = 0; i < frame.length; i++) put(&text, frame.bytes[i], 1);
-    DEMAND(archcaraway_combine(&points, frame.bytes, frame.length, text.bytes, text.length, buffer, ROOM, &length,
-                               &bad) == ARCHCARAWAY_FRAME_KIND);
+    DEMAND(archcaraway_combine(&points, frame.bytes, frame.length, text.bytes, text.length, buffer,
+                               ROOM, &length, &bad) == ARCHCARAWAY_FRAME_KIND);
     DEMAND(bad == 1 && length == 0);
-    DEMAND(archcaraway_combine(&points, reply.bytes, reply.length, text.bytes, text.length, buffer, ROOM, &length,
-                               &bad) == ARCHCARAWAY_FRAME_KIND);
+    DEMAND(archcaraway_combine(&points, reply.bytes, reply.length, text.bytes, text.length, buffer,
+                               ROOM, &length, &bad) == ARCHCARAWAY_FRAME_KIND);
     DEMAND(bad == 2);
     free(text.bytes);
-    DEMAND(archcaraway_combine(&points, frame.bytes, frame.length - 1, NULL, 0, buffer, ROOM, &length, &bad) ==
-           ARCHCARAWAY_FRAME_SHORT);
+    DEMAND(archcaraway_combine(&points, frame.bytes, frame.length - 1, NULL, 0, buffer, ROOM,
+                               &length, &bad) == ARCHCARAWAY_FRAME_SHORT);
     DEMAND(bad == 2);
-    DEMAND(archcaraway_combine(&none, frame.bytes, frame.length, NULL, 0, buffer, ROOM, &length, &bad) ==
+    DEMAND(archcaraway_combine(&none, frame.bytes, frame.length, NULL, 0, buffer, ROOM, &length,
+                               &bad) == ARCHCARAWAY_ARGUMENT);
+    DEMAND(archcaraway_combine(&points, frame.bytes, frame.length, NULL, 1, buffer, ROOM, &length,
+                               &bad) == ARCHCARAWAY_ARGUMENT);
+    DEMAND(archcaraway_clip(&points, 2, frame.bytes, frame.length, buffer, ROOM, &length) ==
            ARCHCARAWAY_ARGUMENT);
-    DEMAND(archcaraway_combine(&points, frame.bytes, frame.length, NULL, 1, buffer, ROOM, &length, &bad) ==
+    DEMAND(archcaraway_clip(&none, 0, frame.bytes, frame.length, buffer, ROOM, &length) ==
            ARCHCARAWAY_ARGUMENT);
-    DEMAND(archcaraway_clip(&points, 2, frame.bytes, frame.length, buffer, ROOM, &length) == ARCHCARAWAY_ARGUMENT);
-    DEMAND(archcaraway_clip(&none, 0, frame.bytes, frame.length, buffer, ROOM, &length) == ARCHCARAWAY_ARGUMENT);
-    DEMAND(archcaraway_clip(&points, 0, frame.bytes, frame.length, buffer, ROOM, NULL) == ARCHCARAWAY_ARGUMENT);
-    DEMAND(archcaraway_clip(&points, 0, reply.bytes, reply.length, buffer, ROOM, &length) == ARCHCARAWAY_FRAME_KIND);
+    DEMAND(archcaraway_clip(&points, 0, frame.bytes, frame.length, buffer, ROOM, NULL) ==
+           ARCHCARAWAY_ARGUMENT);
+    DEMAND(archcaraway_clip(&points, 0, reply.bytes, reply.length, buffer, ROOM, &length) ==
+           ARCHCARAWAY_FRAME_KIND);
     DEMAND(archcaraway_clip(&points, 0, frame.bytes, frame.length - 1, buffer, ROOM, &length) ==
            ARCHCARAWAY_FRAME_SHORT);
-    DEMAND(archcaraway_clip(&points, 0, NULL, 0, NULL, 0, &length) == ARCHCARAWAY_FRAME_SHORT && length == 0);
-    DEMAND(archcaraway_clip(&points, 0, frame.bytes, frame.length, NULL, 0, &length) == ARCHCARAWAY_BUFFER);
+    DEMAND(archcaraway_clip(&points, 0, NULL, 0, NULL, 0, &length) == ARCHCARAWAY_FRAME_SHORT &&
+           length == 0);
+    DEMAND(archcaraway_clip(&points, 0, frame.bytes, frame.length, NULL, 0, &length) ==
+           ARCHCARAWAY_BUFFER);
     archcaraway_split_points_free(&points);
     free(frame.bytes);
     free(reply.bytes);
 }
 
-// A clip whose split points make it too long for a frame: 1,024 ranges over two keys of 10,001 bytes.
+// A clip whose split points make it too long for a frame: 1,024 ranges over two keys of 10,001
+// bytes.
 static void long_clip(void) {
     static uint8_t key[ARCHCARAWAY_MAX_KEY];
     archcaraway_bytes keys[2] = {{key, ARCHCARAWAY_MAX_KEY - 1}, {key, ARCHCARAWAY_MAX_KEY}};
@@ -280,9 +302,11 @@ static void long_clip(void) {
     DEMAND(archcaraway_split_points_new(keys, 2, &points, NULL) == ARCHCARAWAY_OK);
     archcaraway_batch_begin(&writer, 0, 100, -1);
     archcaraway_batch_transaction(&writer, 0, false);
-    for (size_t i = 0; i < ARCHCARAWAY_MAX_RANGES; i++) archcaraway_batch_read(&writer, bytes_of("a"), 1, bytes_of("z"), 1);
+    for (size_t i = 0; i < ARCHCARAWAY_MAX_RANGES; i++)
+        archcaraway_batch_read(&writer, bytes_of("a"), 1, bytes_of("z"), 1);
     DEMAND(archcaraway_batch_end(&writer) == ARCHCARAWAY_OK);
-    DEMAND(archcaraway_clip(&points, 1, writer.bytes, writer.length, buffer, ROOM, &length) == ARCHCARAWAY_FRAME_LONG);
+    DEMAND(archcaraway_clip(&points, 1, writer.bytes, writer.length, buffer, ROOM, &length) ==
+           ARCHCARAWAY_FRAME_LONG);
     DEMAND(length == 0);
     archcaraway_writer_free(&writer);
     archcaraway_split_points_free(&points);

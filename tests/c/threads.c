@@ -1,8 +1,10 @@
-// One call at a time, on any thread: threads use a set and a core in turn, and another one frees them.
+// One call at a time, on any thread: threads use a set and a core in turn, and another one frees
+// them.
 //
 //     threads FRAMES
 //
-// Each of eight threads takes its turn by a lock, makes the next frame, and gives it to both. The set's reply is compared with the core's.
+// Each of eight threads takes its turn by a lock, makes the next frame, and gives it to both. The
+// set's reply is compared with the core's.
 #include <pthread.h>
 #include <stdlib.h>
 
@@ -29,7 +31,8 @@ static void write_frame(archcaraway_writer *writer, const Shared *shared, Random
     uint8_t key[2] = {(uint8_t)below(random, 64), 'k'};
     int64_t back = (int64_t)below(random, 16);
     archcaraway_batch_begin(writer, shared->version - 1, shared->version, shared->version - 1);
-    archcaraway_batch_transaction(writer, shared->version < back ? 0 : shared->version - back, false);
+    archcaraway_batch_transaction(writer, shared->version < back ? 0 : shared->version - back,
+                                  false);
     archcaraway_batch_read_key(writer, key, sizeof key);
     archcaraway_batch_write_key(writer, key, sizeof key);
     DEMAND(archcaraway_batch_end(writer) == ARCHCARAWAY_OK);
@@ -42,13 +45,18 @@ static void give_frame(Shared *shared, unsigned proxy, const archcaraway_writer 
     int64_t version;
     archcaraway_reply read;
     archcaraway_entry entry;
-    DEMAND(archcaraway_set_resolve(&shared->set, writer->bytes, writer->length, reply, sizeof reply, &length) == ARCHCARAWAY_OK);
-    DEMAND(archcaraway_core_admit(&shared->core, proxy, writer->bytes, writer->length) == ARCHCARAWAY_OK);
-    DEMAND(archcaraway_core_owed(&shared->core) == 1 && archcaraway_core_stop(&shared->core) == ARCHCARAWAY_OK);
-    DEMAND(archcaraway_core_give(&shared->core, proxy, answer, sizeof answer, &answer_length, &kind, &version) == ARCHCARAWAY_OK);
+    DEMAND(archcaraway_set_resolve(&shared->set, writer->bytes, writer->length, reply, sizeof reply,
+                                   &length) == ARCHCARAWAY_OK);
+    DEMAND(archcaraway_core_admit(&shared->core, proxy, writer->bytes, writer->length) ==
+           ARCHCARAWAY_OK);
+    DEMAND(archcaraway_core_owed(&shared->core) == 1 &&
+           archcaraway_core_stop(&shared->core) == ARCHCARAWAY_OK);
+    DEMAND(archcaraway_core_give(&shared->core, proxy, answer, sizeof answer, &answer_length, &kind,
+                                 &version) == ARCHCARAWAY_OK);
     DEMAND(kind == ARCHCARAWAY_REPLY && version == shared->version);
     DEMAND(length == answer_length && memcmp(reply, answer, length) == 0);
-    DEMAND(archcaraway_reply_read(&read, reply, length) == ARCHCARAWAY_OK && archcaraway_reply_next(&read, &entry));
+    DEMAND(archcaraway_reply_read(&read, reply, length) == ARCHCARAWAY_OK &&
+           archcaraway_reply_next(&read, &entry));
     shared->conflicts += entry.verdict == ARCHCARAWAY_CONFLICT;
 }
 
@@ -59,7 +67,8 @@ static void *work(void *argument) {
     archcaraway_writer writer = archcaraway_writer_new(archcaraway_grow_malloc, NULL);
     for (bool more = true; more;) {
         DEMAND(pthread_mutex_lock(&shared->lock) == 0);
-        more = shared->version < shared->frames && shared->turns[worker->number] < (size_t)shared->frames / THREADS;
+        more = shared->version < shared->frames &&
+               shared->turns[worker->number] < (size_t)shared->frames / THREADS;
         if (more) {
             write_frame(&writer, shared, &random);
             give_frame(shared, worker->number, &writer);
@@ -86,8 +95,10 @@ int main(int count, char **words) {
     pthread_t last;
     DEMAND(count == 2);
     shared.frames = strtoll(words[1], NULL, 10);
-    DEMAND(archcaraway_set_new(ARCHCARAWAY_WINDOW, ARCHCARAWAY_LIMIT, &shared.set) == ARCHCARAWAY_OK);
-    DEMAND(archcaraway_core_new(THREADS, ARCHCARAWAY_WINDOW, ARCHCARAWAY_LIMIT, &shared.core) == ARCHCARAWAY_OK);
+    DEMAND(archcaraway_set_new(ARCHCARAWAY_WINDOW, ARCHCARAWAY_LIMIT, &shared.set) ==
+           ARCHCARAWAY_OK);
+    DEMAND(archcaraway_core_new(THREADS, ARCHCARAWAY_WINDOW, ARCHCARAWAY_LIMIT, &shared.core) ==
+           ARCHCARAWAY_OK);
     for (unsigned i = 0; i < THREADS; i++) {
         workers[i] = (Worker){.shared = &shared, .number = i};
         DEMAND(pthread_create(&workers[i].thread, NULL, work, &workers[i]) == 0);
@@ -96,7 +107,7 @@ int main(int count, char **words) {
     DEMAND(shared.version == shared.frames);
     DEMAND(pthread_create(&last, NULL, free_both, &shared) == 0 && pthread_join(last, NULL) == 0);
     DEMAND(shared.set.at == NULL && shared.core.at == NULL && shared.conflicts > 0);
-    printf("threads: %lld frames from %d threads, %zu conflicts; freed on another thread\n", (long long)shared.frames, THREADS,
-           shared.conflicts);
+    printf("threads: %lld frames from %d threads, %zu conflicts; freed on another thread\n",
+           (long long)shared.frames, THREADS, shared.conflicts);
     return 0;
 }

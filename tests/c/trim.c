@@ -1,5 +1,5 @@
-// Trims sets: how many bytes that frees, what each refused allocation does, and that no reply changes.
-// The bytes that a set reports are never more than malloc gave for it.
+// Trims sets: how many bytes that frees, what each refused allocation does, and that no reply
+// changes. The bytes that a set reports are never more than malloc gave for it.
 //
 //     trim CHAINS SEED
 //
@@ -13,8 +13,10 @@ enum { WINDOW = 100, BATCHES = 50, WRITES = 1000, KEY = 100 };
 
 static bool are_same(const archcaraway_set *one, const archcaraway_set *other) {
     archcaraway_stats a, b;
-    DEMAND(archcaraway_set_stats(one, &a) == ARCHCARAWAY_OK && archcaraway_set_stats(other, &b) == ARCHCARAWAY_OK);
-    return a.boundaries == b.boundaries && a.limit == b.limit && a.version == b.version && a.edge == b.edge;
+    DEMAND(archcaraway_set_stats(one, &a) == ARCHCARAWAY_OK &&
+           archcaraway_set_stats(other, &b) == ARCHCARAWAY_OK);
+    return a.boundaries == b.boundaries && a.limit == b.limit && a.version == b.version &&
+           a.edge == b.edge;
 }
 
 // The bytes that a set reports, which malloc gave for it.
@@ -25,16 +27,19 @@ static uint64_t reported(const archcaraway_set *set, long given) {
 }
 
 // Judges transactions of one single key each, written or read at the snapshot before the version.
-static void judge(archcaraway_set *set, int64_t version, size_t first, size_t count, bool writes, uint8_t *verdicts) {
+static void judge(archcaraway_set *set, int64_t version, size_t first, size_t count, bool writes,
+                  uint8_t *verdicts) {
     static char keys[WRITES][KEY + 1];
     static archcaraway_range ranges[WRITES];
     static archcaraway_txn txns[WRITES];
     for (size_t i = 0; i < count; i++) {
         snprintf(keys[i], sizeof keys[i], "%0*zu", KEY, first + i);
         ranges[i] = (archcaraway_range){{(const uint8_t *)keys[i], KEY}, {NULL, 0}, true};
-        txns[i] = (archcaraway_txn){version == 0 ? 0 : version - 1, ranges + i, !writes, ranges + i, writes, false};
+        txns[i] = (archcaraway_txn){
+            version == 0 ? 0 : version - 1, ranges + i, !writes, ranges + i, writes, false};
     }
-    DEMAND(LIBRARY(archcaraway_set_judge(set, version, txns, count, verdicts, NULL)) == ARCHCARAWAY_OK);
+    DEMAND(LIBRARY(archcaraway_set_judge(set, version, txns, count, verdicts, NULL)) ==
+           ARCHCARAWAY_OK);
 }
 
 // A set that had 100,001 boundaries and has few.
@@ -43,9 +48,11 @@ static archcaraway_set swept(void) {
     archcaraway_set set = ARCHCARAWAY_NONE;
     int64_t version = 0;
     DEMAND(LIBRARY(archcaraway_set_new(WINDOW, ARCHCARAWAY_MAX_LIMIT, &set)) == ARCHCARAWAY_OK);
-    for (; version < BATCHES; version++) judge(&set, version, (size_t)version * WRITES, WRITES, true, verdicts);
+    for (; version < BATCHES; version++)
+        judge(&set, version, (size_t)version * WRITES, WRITES, true, verdicts);
     DEMAND(archcaraway_set_boundaries(&set) == 2 * BATCHES * WRITES + 1);
-    for (version += WINDOW; archcaraway_set_boundaries(&set) > 9; version++) judge(&set, version, 0, 1, true, verdicts);
+    for (version += WINDOW; archcaraway_set_boundaries(&set) > 9; version++)
+        judge(&set, version, 0, 1, true, verdicts);
     return set;
 }
 
@@ -126,8 +133,10 @@ static void try_chain(Random *random, const Chain *chain) {
         Bytes frame = written_frame(&chain->chain[i]);
         size_t length, same;
         if (one_in(random, 2)) DEMAND(archcaraway_set_trim(&set) == ARCHCARAWAY_OK);
-        const int status = archcaraway_set_resolve(&set, frame.bytes, frame.length, one, sizeof one, &length);
-        DEMAND(archcaraway_set_resolve(&other, frame.bytes, frame.length, two, sizeof two, &same) == status);
+        const int status =
+            archcaraway_set_resolve(&set, frame.bytes, frame.length, one, sizeof one, &length);
+        DEMAND(archcaraway_set_resolve(&other, frame.bytes, frame.length, two, sizeof two, &same) ==
+               status);
         DEMAND(length == same && memcmp(one, two, length) == 0 && are_same(&set, &other));
         free(frame.bytes);
     }
@@ -141,7 +150,8 @@ int main(int count, char **words) {
     DEMAND(count == 3);
     size_t chains = (size_t)strtoul(words[1], NULL, 10);
     Random random = {strtoull(words[2], NULL, 10)};
-    DEMAND(archcaraway_set_trim(NULL) == ARCHCARAWAY_ARGUMENT && archcaraway_set_trim(&none) == ARCHCARAWAY_ARGUMENT);
+    DEMAND(archcaraway_set_trim(NULL) == ARCHCARAWAY_ARGUMENT &&
+           archcaraway_set_trim(&none) == ARCHCARAWAY_ARGUMENT);
     DEMAND(archcaraway_set_bytes_held(NULL) == 0 && archcaraway_set_bytes_held(&none) == 0);
     for (size_t number = 0; number < chains; number++) {
         Chain chain = random_chain(&random);

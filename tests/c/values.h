@@ -6,7 +6,8 @@
 
 #include "chains.h"
 
-// The transactions as C has them. A single key is given as one every other time, and as a range else.
+// The transactions as C has them. A single key is given as one every other time, and as a range
+// else.
 typedef struct {
     archcaraway_txn *txns;
     archcaraway_range *ranges;
@@ -19,8 +20,10 @@ static inline archcaraway_bytes bytes_of(Bytes key) {
 
 static inline Values values_of(const Batch *batch) {
     size_t count = 0, at = 0;
-    for (unsigned i = 0; i < batch->count; i++) count += batch->transactions[i].reads + batch->transactions[i].writes;
-    Values values = {demand_memory(batch->count * sizeof *values.txns), demand_memory(count * sizeof *values.ranges)};
+    for (unsigned i = 0; i < batch->count; i++)
+        count += batch->transactions[i].reads + batch->transactions[i].writes;
+    Values values = {demand_memory(batch->count * sizeof *values.txns),
+                     demand_memory(count * sizeof *values.ranges)};
     for (unsigned i = 0; i < batch->count; i++) {
         const Transaction *t = &batch->transactions[i];
         archcaraway_range *ranges = values.ranges + at;
@@ -30,7 +33,8 @@ static inline Values values_of(const Batch *batch) {
             ranges[k].single = (i + k) % 2 == 0 && is_single(&t->ranges[k]);
             if (ranges[k].single) ranges[k].end.bytes = NULL;
         }
-        archcaraway_txn txn = {t->snapshot, ranges, t->reads, ranges + t->reads, t->writes, t->report};
+        archcaraway_txn txn = {
+            t->snapshot, ranges, t->reads, ranges + t->reads, t->writes, t->report};
         values.txns[i] = txn;
         at += t->reads + t->writes;
     }

@@ -1,4 +1,5 @@
-// The C++ headers: views, single keys, iterators, moves and refusals. Also compiled with -fno-exceptions, where refusals are left out.
+// The C++ headers: views, single keys, iterators, moves and refusals. Also compiled with
+// -fno-exceptions, where refusals are left out.
 #include <algorithm>
 #include <cstdio>
 #include <cstdlib>
@@ -8,12 +9,12 @@
 #include "archcaraway.hpp"
 #include "archcaraway_shards.hpp"
 
-#define DEMAND(holds)                                                                                                  \
-    do {                                                                                                               \
-        if (!(holds)) {                                                                                                \
-            std::fprintf(stderr, "%s:%d: not so: %s\n", __FILE__, __LINE__, #holds);                                   \
-            std::exit(1);                                                                                              \
-        }                                                                                                              \
+#define DEMAND(holds)                                                                              \
+    do {                                                                                           \
+        if (!(holds)) {                                                                            \
+            std::fprintf(stderr, "%s:%d: not so: %s\n", __FILE__, __LINE__, #holds);               \
+            std::exit(1);                                                                          \
+        }                                                                                          \
     } while (0)
 
 using namespace archcaraway;
@@ -22,11 +23,15 @@ using namespace std::string_view_literals;
 
 static_assert(!std::is_copy_constructible_v<Set> && std::is_nothrow_move_constructible_v<Set>);
 static_assert(!std::is_copy_constructible_v<Core> && std::is_nothrow_move_constructible_v<Core>);
-static_assert(!std::is_copy_constructible_v<BatchWriter> && std::is_nothrow_move_constructible_v<BatchWriter>);
+static_assert(!std::is_copy_constructible_v<BatchWriter> &&
+              std::is_nothrow_move_constructible_v<BatchWriter>);
 static_assert(std::is_same_v<std::iterator_traits<Reply::Iterator>::value_type, Entry>);
-static_assert(std::is_base_of_v<std::input_iterator_tag, std::iterator_traits<Reply::Iterator>::iterator_category>);
-static_assert(std::is_convertible_v<std::string, View> && std::is_convertible_v<std::string_view, View>);
-static_assert(std::is_convertible_v<std::vector<std::uint8_t>, View> && std::is_convertible_v<const char*, View>);
+static_assert(std::is_base_of_v<std::input_iterator_tag,
+                                std::iterator_traits<Reply::Iterator>::iterator_category>);
+static_assert(std::is_convertible_v<std::string, View> &&
+              std::is_convertible_v<std::string_view, View>);
+static_assert(std::is_convertible_v<std::vector<std::uint8_t>, View> &&
+              std::is_convertible_v<const char*, View>);
 
 static void views() {
     const char* pointer = "k\0z";
@@ -36,7 +41,8 @@ static void views() {
     const auto length = [](View view) { return view.size; };
     DEMAND(length("") == 0 && length("k") == 1 && length("k\0") == 2 && length("k\0z") == 3);
     DEMAND(length(pointer) == 1 && length(array) == 2);
-    DEMAND(length(string) == 2 && length("k\0z"sv) == 3 && length(bytes) == 3 && length(View()) == 0);
+    DEMAND(length(string) == 2 && length("k\0z"sv) == 3 && length(bytes) == 3 &&
+           length(View()) == 0);
     DEMAND(View(string).text() == "k\0"sv && View(bytes).data == bytes.data());
     const KeyRangeRef range = {"k", "k\0"};
     DEMAND(range.begin.size() == 1 && range.end.size() == 2 && !range.isSingle());
@@ -45,7 +51,8 @@ static void views() {
     DEMAND(single.begin == "k\0"sv && single.isSingle());
 }
 
-static CommitTransactionRef transaction(Version snapshot, std::vector<KeyRangeRef> reads, std::vector<KeyRangeRef> writes) {
+static CommitTransactionRef transaction(Version snapshot, std::vector<KeyRangeRef> reads,
+                                        std::vector<KeyRangeRef> writes) {
     CommitTransactionRef made;
     made.read_snapshot = snapshot;
     made.read_conflict_ranges = std::move(reads);
@@ -83,11 +90,13 @@ static void iterators() {
     Reply reply = set.resolve(writer.end(), bytes);
     DEMAND(reply.size() == 5 && !reply.empty() && reply.version() == 0);
     DEMAND(std::distance(reply.begin(), reply.end()) == 5);
-    DEMAND(std::all_of(reply.begin(), reply.end(), [](const Entry& entry) { return entry.verdict() == Verdict::committed; }));
+    DEMAND(std::all_of(reply.begin(), reply.end(),
+                       [](const Entry& entry) { return entry.verdict() == Verdict::committed; }));
     const std::vector<Entry> entries(reply.begin(), reply.end());
     DEMAND(entries.size() == 5 && entries[0].places() == 0);
     Reply::Iterator at = reply.begin();
-    DEMAND(at == reply.begin() && at++ == reply.begin() && at != reply.begin() && at != reply.end());
+    DEMAND(at == reply.begin() && at++ == reply.begin() && at != reply.begin() &&
+           at != reply.end());
     DEMAND(frameLength(View(bytes)) == 15 + 5 * 3);
     writer.begin(0, 1, -1);
     Reply none = set.resolve(writer.end(), bytes);
@@ -100,7 +109,8 @@ static void moves() {
     set = std::move(other);
     DEMAND(set.boundaries() == 1);
     Core core(2), taken = std::move(core);
-    DEMAND(core.owed() == 0 && core.stop() == ARCHCARAWAY_ARGUMENT && taken.stop() == ARCHCARAWAY_OK);
+    DEMAND(core.owed() == 0 && core.stop() == ARCHCARAWAY_ARGUMENT &&
+           taken.stop() == ARCHCARAWAY_OK);
     BatchWriter writer;
     writer.begin(-1, 0, -1);
     BatchWriter last = std::move(writer);
@@ -243,13 +253,19 @@ static void refusals() {
     DEMAND(refusal([&] { writer.begin(0, 0, -1); }) == ARCHCARAWAY_FRAME_VERSION);
     DEMAND(refusal([&] { writer.end(); }) == ARCHCARAWAY_FRAME_VERSION);
     DEMAND(refusal([&] { set.resolve("", bytes); }) == ARCHCARAWAY_FRAME_SHORT);
-    DEMAND(refusal([&] { Set taken = std::move(set); set.resolve("", bytes); }) == ARCHCARAWAY_ARGUMENT);
+    DEMAND(refusal([&] {
+               Set taken = std::move(set);
+               set.resolve("", bytes);
+           }) == ARCHCARAWAY_ARGUMENT);
     DEMAND(refusal([] { Reply none(View("abc")); }) == ARCHCARAWAY_FRAME_SHORT);
     Batch batch;
     CommitTransactionRef inverted;
     inverted.read_conflict_ranges = {{"b", "a"}};
-    DEMAND(refusal([&] { batch.add(inverted); }) == ARCHCARAWAY_FRAME_INVERTED && batch.size() == 0);
-    DEMAND(refusal([] { SplitPoints points(std::vector<std::string>{"b", "a"}); }) == ARCHCARAWAY_POINTS_NOT_RISING);
+    DEMAND(refusal([&] { batch.add(inverted); }) == ARCHCARAWAY_FRAME_INVERTED &&
+           batch.size() == 0);
+    DEMAND(refusal([] {
+               SplitPoints points(std::vector<std::string>{"b", "a"});
+           }) == ARCHCARAWAY_POINTS_NOT_RISING);
     SplitPoints points(std::vector<std::string>{"m"});
     DEMAND(refusal([&] { points.clip(0, "", bytes); }) == ARCHCARAWAY_FRAME_SHORT);
     DEMAND(refusal([&] { points.clip(2, "", bytes); }) == ARCHCARAWAY_ARGUMENT);
@@ -270,5 +286,6 @@ int main() {
     tries();
     trims();
     refusals();
-    std::puts("header: views, single keys, iterators, moves, batches, shards and refusals are as the header says");
+    std::puts("header: views, single keys, iterators, moves, batches, shards and refusals are as "
+              "the header says");
 }

@@ -116,7 +116,8 @@ struct Node {
             return unsigned(__builtin_ctz(m));
         }
         uint64_t m = count < 64 ? ~0ull << count : 0;
-        for (unsigned i = 0; i < capacity(kind); i += 16) m |= uint64_t(reach(keys() + i, uint8_t(c))) << i;
+        for (unsigned i = 0; i < capacity(kind); i += 16)
+            m |= uint64_t(reach(keys() + i, uint8_t(c))) << i;
         return m ? unsigned(__builtin_ctzll(m)) : 64;
     }
     unsigned nextAll(unsigned c) const {
@@ -137,7 +138,8 @@ private:
     // Returns a bit for each of 16 bytes that is c or more.
     static unsigned reach(Ptr p, uint8_t c) {
         __m128i k = _mm_loadu_si128(reinterpret_cast<const __m128i*>(p));
-        return unsigned(_mm_movemask_epi8(_mm_cmpeq_epi8(_mm_max_epu8(k, _mm_set1_epi8(char(c))), k)));
+        return unsigned(
+            _mm_movemask_epi8(_mm_cmpeq_epi8(_mm_max_epu8(k, _mm_set1_epi8(char(c))), k)));
     }
 };
 static_assert(sizeof(Node) == 12 && sizeof(Slot) == 12, "layout");
@@ -147,10 +149,12 @@ static_assert(sizeof(Node) == 12 && sizeof(Slot) == 12, "layout");
 class Arena {
 public:
     Arena() {
-        void* p = mmap(nullptr, Size, PROT_READ | PROT_WRITE, MAP_PRIVATE | MAP_ANONYMOUS | MAP_NORESERVE, -1, 0);
+        void* p = mmap(nullptr, Size, PROT_READ | PROT_WRITE,
+                       MAP_PRIVATE | MAP_ANONYMOUS | MAP_NORESERVE, -1, 0);
         if (p == MAP_FAILED) throw std::bad_alloc();
         base_ = static_cast<uint8_t*>(p);
-        uint8_t* even = reinterpret_cast<uint8_t*>((reinterpret_cast<uintptr_t>(p) + Huge - 1) & ~uintptr_t(Huge - 1));
+        uint8_t* even = reinterpret_cast<uint8_t*>((reinterpret_cast<uintptr_t>(p) + Huge - 1) &
+                                                   ~uintptr_t(Huge - 1));
         used_ = size_t(even - base_);
         madvise(p, Size, MADV_HUGEPAGE); // may fail
     }
@@ -158,7 +162,8 @@ public:
     uint8_t* of(uint32_t handle) const { return base_ + (size_t(handle >> TagBits) << 4); }
 
     // Leaves of 16 and 32 bytes, the node kinds, then powers of two from 64.
-    static constexpr unsigned L16 = 0, L32 = 1, Nodes = 2, Long = Nodes + Node::Kinds, Classes = Long + 9;
+    static constexpr unsigned L16 = 0, L32 = 1, Nodes = 2, Long = Nodes + Node::Kinds,
+                              Classes = Long + 9;
     static size_t size(unsigned c) {
         static const uint16_t sizes[] = {16, 32, 64, 128, 224, 448, 896, 3136};
         return c < Long ? sizes[c] : size_t(64) << (c - Long);
@@ -216,7 +221,8 @@ public:
     template <class More, class Hit> void ask(More more, Hit hit) {
         Probe probes[Ways];
         unsigned n = 0;
-        while (n < Ways && more(probes[n].r, probes[n].snapshot, probes[n].number)) start(probes[n++]);
+        while (n < Ways && more(probes[n].r, probes[n].snapshot, probes[n].number))
+            start(probes[n++]);
         bool open = n == Ways;
         while (n) {
             for (unsigned i = 0; i < n;) {
@@ -284,7 +290,8 @@ public:
         Sweep s{edge, long(count), false, std::string()};
         resume.append(48, '\0');
         Ptr from = reinterpret_cast<Ptr>(resume.data());
-        if (clean(&root_, 0, s, resume.size() == 48 ? nullptr : from, uint32_t(resume.size() - 48), 0))
+        if (clean(&root_, 0, s, resume.size() == 48 ? nullptr : from, uint32_t(resume.size() - 48),
+                  0))
             root_ = Slot{0, 0, None};
         resume.assign(s.stopped ? s.path : std::string());
     }
@@ -422,7 +429,8 @@ private:
         Ptr k = p.r.a + p.d;
         if (length) {
             uint32_t m = match(n, k, length);
-            if (m != length) return Gaps ? (k[m] < prefix(n)[m] ? p.s.gap : behind(p)) > snap : false;
+            if (m != length)
+                return Gaps ? (k[m] < prefix(n)[m] ? p.s.gap : behind(p)) > snap : false;
         }
         unsigned c = k[length], at = c;
         const Slot* s;
@@ -461,7 +469,9 @@ private:
         const Ver snap = p.snapshot;
         if (r.kind != Point) {
             int got = near(p);
-            return got != Go ? got : between(s, r.a, r.alen, r.b, r.blen, r.kind == Upto, p.d, snap, behind(p));
+            return got != Go
+                       ? got
+                       : between(s, r.a, r.alen, r.b, r.blen, r.kind == Upto, p.d, snap, behind(p));
         }
         Ptr k = r.a + p.d;
         uint32_t rest = r.alen - p.d;
@@ -477,11 +487,14 @@ private:
         return (n->own ? n->point : s.gap) > snap; // the key has no more bytes
     }
 
-    // The usual case of a short range: begin and end differ in their last byte, in a node of sorted children.
+    // The usual case of a short range: begin and end differ in their last byte, in a node of sorted
+    // children.
     int near(const Probe& p) const {
         const Range& r = p.r;
         const uint32_t h = p.s.child;
-        if (r.kind != Before || !inner(h) || (h & TagMask) >= FullMore || r.alen != r.blen || r.common + 1 != r.alen) return Go;
+        if (r.kind != Before || !inner(h) || (h & TagMask) >= FullMore || r.alen != r.blen ||
+            r.common + 1 != r.alen)
+            return Go;
         const Node* n = node(h);
         const uint32_t length = n->length;
         if (p.d + length != r.common) return Go;
@@ -539,7 +552,8 @@ private:
     }
 
     // The keys before b (or up to b) that are after all previous slots.
-    bool upto(const Slot& s, Ptr b, uint32_t blen, bool whole, uint32_t d, Ver snap, Ver next) const {
+    bool upto(const Slot& s, Ptr b, uint32_t blen, bool whole, uint32_t d, Ver snap,
+              Ver next) const {
         if (s.gap > snap) return true;
         if (s.most <= snap && next <= snap) return false;
         if (!inner(s.child)) {
@@ -554,11 +568,13 @@ private:
         if (n->own && n->point > snap) return true;
         unsigned at = n->seek(b[d]);
         if (any(n, 0, at, snap)) return true;
-        if (n->at(at, b[d])) return upto(n->slots()[at], b, blen, whole, d + 1, snap, nextOf(n, at, next));
+        if (n->at(at, b[d]))
+            return upto(n->slots()[at], b, blen, whole, d + 1, snap, nextOf(n, at, next));
         return (at < n->end() ? n->slots()[at].gap : next) > snap;
     }
 
-    bool between(Slot s, Ptr a, uint32_t alen, Ptr b, uint32_t blen, bool whole, uint32_t d, Ver snap, Ver next) const {
+    bool between(Slot s, Ptr a, uint32_t alen, Ptr b, uint32_t blen, bool whole, uint32_t d,
+                 Ver snap, Ver next) const {
         for (;;) {
             if (s.child == None) return false;
             if (!inner(s.child)) {
@@ -599,7 +615,8 @@ private:
                 }
             }
             if (any(n, at, to, snap)) return true;
-            if (n->at(to, b[d])) return upto(slots[to], b, blen, whole, d + 1, snap, nextOf(n, to, next));
+            if (n->at(to, b[d]))
+                return upto(slots[to], b, blen, whole, d + 1, snap, nextOf(n, to, next));
             return (to < n->end() ? slots[to].gap : next) > snap;
         }
     }
@@ -658,7 +675,8 @@ private:
     void settle(const Way& w, const Range& r) {
         if (r.kind == Point) {
             const uint32_t h = w.s->child;
-            if ((h & TagMask) == Full && h != None && !ranges_ && r.alen > w.d) { // the usual case of a new key among many
+            // the usual case of a new key among many
+            if ((h & TagMask) == Full && h != None && !ranges_ && r.alen > w.d) {
                 Node* n = node(h);
                 const unsigned c = r.a[w.d];
                 if (n->slots()[c].child == None) {
@@ -715,7 +733,8 @@ private:
         return true;
     }
 
-    // Inserts the entry of a key if needed and sets its versions. `next`: the gap after all entries below s.
+    // Inserts the entry of a key if needed and sets its versions. `next`: the gap after all entries
+    // below s.
     void enter(Slot* s, Ptr k, uint32_t len, uint32_t d, Role role, Ver next) {
         for (;;) {
             uint32_t h = s->child, rest = len - d;
@@ -915,13 +934,15 @@ private:
         Node* n = node(h);
         size_t seen = n->own;
         entries_ -= n->own;
-        for (unsigned i = n->first(); i < n->end(); i = n->after(i)) seen += dropAll(n->slots()[i].child);
+        for (unsigned i = n->first(); i < n->end(); i = n->after(i))
+            seen += dropAll(n->slots()[i].child);
         freeNode(h, n);
         return seen;
     }
 
-    // After removals: replaces the node by a smaller one, or removes it.
-    __attribute__((noinline)) void tidy(Slot* s) { // keeps its locals out of the frames of the recursion
+    // After removals: replaces the node by a smaller one, or removes it. It isn't inlined, so that
+    // its locals are out of the frames of the recursion.
+    __attribute__((noinline)) void tidy(Slot* s) {
         Node* n = node(s->child);
         unsigned many = n->count;
         if (many == 0) {
@@ -1014,7 +1035,8 @@ private:
             }
         } else if (n->all()) {
             m->count = 0;
-            for (unsigned i = n->first(); i < 256; i = n->after(i)) append(m, uint8_t(i), n->slots()[i]);
+            for (unsigned i = n->first(); i < 256; i = n->after(i))
+                append(m, uint8_t(i), n->slots()[i]);
         } else {
             memcpy(m->keys(), n->keys(), n->count);
             memcpy(m->slots(), n->slots(), n->count * sizeof(Slot));
@@ -1097,7 +1119,8 @@ private:
         }
         if (!from && n->own) {
             w.left--;
-            if (n->point < w.edge && s->gap < w.edge && (at >= n->end() || n->slots()[at].gap < w.edge)) {
+            if (n->point < w.edge && s->gap < w.edge &&
+                (at >= n->end() || n->slots()[at].gap < w.edge)) {
                 n->own = 0;
                 entries_--;
                 gone = true;
@@ -1124,8 +1147,10 @@ private:
                     continue;
                 }
                 if (after < 253) { // the next nodes
-                    if (slots[after + 2].child != None && inner(slots[after + 2].child)) ahead(slots[after + 2].child);
-                    if (slots[after].child != None && inner(slots[after].child)) ahead(slots[after].child);
+                    if (slots[after + 2].child != None && inner(slots[after + 2].child))
+                        ahead(slots[after + 2].child);
+                    if (slots[after].child != None && inner(slots[after].child))
+                        ahead(slots[after].child);
                 }
                 bool same = from && from[d] == at;
                 w.path.push_back(char(at));
@@ -1147,19 +1172,22 @@ private:
                     stop(w, n->keys()[at]);
                     break;
                 }
-                if (at + 2 < end && inner(slots[at + 2].child)) fetch(arena_.of(slots[at + 2].child));
+                if (at + 2 < end && inner(slots[at + 2].child))
+                    fetch(arena_.of(slots[at + 2].child));
                 bool same = from && from[d] == n->keys()[at];
                 bool empty;
                 if (!inner(slots[at].child)) {
                     w.left--;
-                    empty = slots[at].top() < w.edge && (at + 1 < end ? slots[at + 1].gap : next) < w.edge;
+                    empty = slots[at].top() < w.edge &&
+                            (at + 1 < end ? slots[at + 1].gap : next) < w.edge;
                     if (empty) {
                         freeLeaf(slots[at].child);
                         entries_--;
                     }
                 } else {
                     w.path.push_back(char(n->keys()[at]));
-                    empty = clean(slots + at, at + 1 < end ? slots[at + 1].gap : next, w, same ? from : nullptr, flen, d + 1);
+                    empty = clean(slots + at, at + 1 < end ? slots[at + 1].gap : next, w,
+                                  same ? from : nullptr, flen, d + 1);
                     if (!w.stopped) w.path.pop_back();
                 }
                 if (!empty) {

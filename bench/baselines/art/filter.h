@@ -9,8 +9,9 @@ inline uint64_t mixed(uint64_t a, uint64_t b) {
 }
 
 inline uint64_t hash(Ptr k, uint32_t n) {
-    static const uint8_t keep[64] = {255, 255, 255, 255, 255, 255, 255, 255, 255, 255, 255, 255, 255, 255, 255, 255,
-                                     255, 255, 255, 255, 255, 255, 255, 255, 255, 255, 255, 255, 255, 255, 255, 255};
+    static const uint8_t keep[64] = {
+        255, 255, 255, 255, 255, 255, 255, 255, 255, 255, 255, 255, 255, 255, 255, 255,
+        255, 255, 255, 255, 255, 255, 255, 255, 255, 255, 255, 255, 255, 255, 255, 255};
     const uint64_t a = 0x9E3779B97F4A7C15, b = 0xD6E8FEB86659FD93, c = 0xA0761D6478BD642F;
     uint64_t h = n * a, g = b;
     for (; n > 32; n -= 32, k += 32) {
@@ -28,7 +29,9 @@ inline uint64_t hash(Ptr k, uint32_t n) {
 // cleared: they age.
 class Filter {
 public:
-    void prefetch(uint64_t h) const { _mm_prefetch(reinterpret_cast<const char*>(&cells_[h >> shift_]), _MM_HINT_T0); }
+    void prefetch(uint64_t h) const {
+        _mm_prefetch(reinterpret_cast<const char*>(&cells_[h >> shift_]), _MM_HINT_T0);
+    }
     Ver newest(uint64_t h) const { return cells_[h >> shift_]; }
     void put(uint64_t h, Ver v) { cells_[h >> shift_] = v; }
 
@@ -49,9 +52,12 @@ public:
 private:
     static constexpr size_t Load = 4;
     size_t size() const { return size_t(1) << (64 - shift_); }
-    static size_t bytes(size_t cells) { return cells * sizeof(Ver) < 4096 ? 4096 : cells * sizeof(Ver); }
+    static size_t bytes(size_t cells) {
+        return cells * sizeof(Ver) < 4096 ? 4096 : cells * sizeof(Ver);
+    }
     static Ver* room(size_t cells) {
-        void* p = mmap(nullptr, bytes(cells), PROT_READ | PROT_WRITE, MAP_PRIVATE | MAP_ANONYMOUS, -1, 0);
+        void* p =
+            mmap(nullptr, bytes(cells), PROT_READ | PROT_WRITE, MAP_PRIVATE | MAP_ANONYMOUS, -1, 0);
         if (p == MAP_FAILED) throw std::bad_alloc();
         madvise(p, bytes(cells), MADV_HUGEPAGE);
         return static_cast<Ver*>(p);

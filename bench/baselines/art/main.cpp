@@ -40,7 +40,9 @@ private:
             }
             if (buffer_.size() < bytes + Slack) buffer_.resize(bytes + Slack);
             size_t before = to_;
-            for (ssize_t n; to_ < buffer_.size() - Slack && (n = read(file_, buffer_.data() + to_, buffer_.size() - Slack - to_)) > 0;)
+            for (ssize_t n;
+                 to_ < buffer_.size() - Slack &&
+                 (n = read(file_, buffer_.data() + to_, buffer_.size() - Slack - to_)) > 0;)
                 to_ += size_t(n);
             if (to_ == before) return to_ == at_ ? 0 : -1;
         }
@@ -59,7 +61,8 @@ public:
 
     void verdicts(int64_t version, const std::vector<uint8_t>& verdicts) {
         // Each word is copied as 16 bytes, of which the next copy overwrites the spaces.
-        static const char words[3][17] = {" conflict       ", " tooold         ", " committed      "};
+        static const char words[3][17] = {" conflict       ", " tooold         ",
+                                          " committed      "};
         static const uint8_t sizes[] = {9, 7, 10};
         to_ += sprintf(to_, "0 %lld", static_cast<long long>(version));
         if (verdicts.empty()) to_ += sprintf(to_, " empty");
@@ -121,7 +124,8 @@ int main(int argc, char** argv) {
         version = batch.version;
         set.resolve(batch, verdicts);
         if (latency)
-            out.number(std::chrono::duration_cast<std::chrono::nanoseconds>(Clock::now() - start).count());
+            out.number(
+                std::chrono::duration_cast<std::chrono::nanoseconds>(Clock::now() - start).count());
         else
             out.verdicts(version, verdicts);
         if (out.full() && !out.flush()) return fail("cannot write");

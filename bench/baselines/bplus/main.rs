@@ -1,5 +1,6 @@
 // SPDX-License-Identifier: Apache-2.0
-//! `bplus [--latency] FILE`: prints the verdicts of each batch, or the nanoseconds that each batch took.
+//! `bplus [--latency] FILE`: prints the verdicts of each batch, or the nanoseconds that each batch
+//! took.
 #![forbid(unsafe_code)]
 
 use std::io::Write;
@@ -100,8 +101,11 @@ fn write_verdicts(out: &mut impl Write, version: i64, verdicts: &[Verdict]) -> R
         };
         out.write_all(word).map_err(|_| "cannot write")?;
     }
-    out.write_all(b"
-").map_err(|_| "cannot write")
+    out.write_all(
+        b"
+",
+    )
+    .map_err(|_| "cannot write")
 }
 
 fn run(file: &[u8], latency: bool) -> Result<(), Fault> {

@@ -1,7 +1,8 @@
 // SPDX-License-Identifier: Apache-2.0
-//! A B+-tree whose nodes own their children. Keys are records of an arena; a node caches eight bytes of each.
+//! A B+-tree whose nodes own their children. Keys are records of an arena; a node caches eight
+//! bytes of each.
 use crate::arena::*;
-use crate::batch::{lcp, Question, Range};
+use crate::batch::{Question, Range, lcp};
 use std::cmp::Ordering::{self, *};
 
 const B: usize = 32;
@@ -53,7 +54,15 @@ struct Sweep {
 
 impl Node {
     fn new() -> Box<Node> {
-        Box::new(Node { n: 0, skip: 0, digest: [0; B], val: [0; B], slot: [NIL; B], len: [0; B], kids: Vec::new() })
+        Box::new(Node {
+            n: 0,
+            skip: 0,
+            digest: [0; B],
+            val: [0; B],
+            slot: [NIL; B],
+            len: [0; B],
+            kids: Vec::new(),
+        })
     }
     #[inline(always)]
     fn n(&self) -> usize {
@@ -159,7 +168,8 @@ impl Node {
             while self.digest[i] == qd {
                 let o = self.cmp_tie(keys, q, i);
                 if o != Less {
-                    let l = if self.leaf() { 0 } else { lcp(q, self.key(keys, i), skip, usize::MAX) };
+                    let l =
+                        if self.leaf() { 0 } else { lcp(q, self.key(keys, i), skip, usize::MAX) };
                     return (i, l, o == Equal);
                 }
                 if i == 0 {
@@ -168,7 +178,11 @@ impl Node {
                 i -= 1;
             }
         }
-        (i, if i == 0 { l } else { skip + ((qd ^ self.digest[i]).leading_zeros() >> 3) as usize }, false)
+        (
+            i,
+            if i == 0 { l } else { skip + ((qd ^ self.digest[i]).leading_zeros() >> 3) as usize },
+            false,
+        )
     }
     fn side(&self, keys: &Keys, q: &[u8]) -> Side {
         let k = self.key(keys, 0);
@@ -226,7 +240,9 @@ impl Node {
                 }
                 return false;
             }
-            if i + 1 < node.n() && (e < skip || node.cmp(keys, q.end, digest(q.end, skip), i + 1) == Greater) {
+            if i + 1 < node.n()
+                && (e < skip || node.cmp(keys, q.end, digest(q.end, skip), i + 1) == Greater)
+            {
                 return node.above(keys, Some((q.begin, l)), Some(q.end), q.snapshot);
             }
             if node.val[i] <= q.snapshot {
@@ -237,7 +253,13 @@ impl Node {
         }
     }
 
-    fn above(&self, keys: &Keys, begin: Option<(&[u8], usize)>, end: Option<&[u8]>, s: i64) -> bool {
+    fn above(
+        &self,
+        keys: &Keys,
+        begin: Option<(&[u8], usize)>,
+        end: Option<&[u8]>,
+        s: i64,
+    ) -> bool {
         let (i, l) = match begin {
             Some((q, l)) => {
                 let (i, m, _) = self.floor(keys, q, l);
@@ -272,7 +294,8 @@ impl Node {
     fn regrow(&mut self, keys: &Keys) {
         let n = self.n();
         if n > 1 && (self.digest[0] ^ self.digest[n - 1]).leading_zeros() >= 48 {
-            let skip = lcp(self.key(keys, 0), self.key(keys, n - 1), self.skip as usize, usize::MAX);
+            let skip =
+                lcp(self.key(keys, 0), self.key(keys, n - 1), self.skip as usize, usize::MAX);
             if skip > self.skip as usize {
                 self.reskip(keys, skip);
             }
@@ -298,9 +321,21 @@ impl Node {
     }
     /// Returns this node's entry for a parent that skips `skip` bytes.
     fn entry(&self, keys: &Keys, skip: usize) -> Entry {
-        Entry { digest: digest(self.key(keys, 0), skip), val: self.most(), slot: self.slot[0], len: self.len[0] }
+        Entry {
+            digest: digest(self.key(keys, 0), skip),
+            val: self.most(),
+            slot: self.slot[0],
+            len: self.len[0],
+        }
     }
-    fn insert(&mut self, keys: &Keys, i: usize, mut e: Entry, kid: Option<Box<Node>>, shares: bool) -> Option<Box<Node>> {
+    fn insert(
+        &mut self,
+        keys: &Keys,
+        i: usize,
+        mut e: Entry,
+        kid: Option<Box<Node>>,
+        shares: bool,
+    ) -> Option<Box<Node>> {
         if self.n() == B {
             let mut right = self.split(keys);
             let m = self.n();
@@ -361,7 +396,11 @@ impl Node {
         let begins = matches!(begin, Some((_, Some(l))) if l >= skip);
         let side = |q: &[u8]| match begin {
             Some((b, _)) if begins => {
-                if lcp(b, q, 0, skip) >= skip { Side::Shares } else { Side::Above }
+                if lcp(b, q, 0, skip) >= skip {
+                    Side::Shares
+                } else {
+                    Side::Above
+                }
             }
             _ => self.side(keys, q),
         };
@@ -396,9 +435,15 @@ impl Node {
                 if begins && ends && left > 0 && left + 2 <= B {
                     self.open(a, 2);
                     let slot = keys.place(b);
-                    self.set(a, Entry { digest: digest(b, skip), val: version, slot, len: b.len() as u16 });
+                    self.set(
+                        a,
+                        Entry { digest: digest(b, skip), val: version, slot, len: b.len() as u16 },
+                    );
                     let slot = keys.place(e);
-                    self.set(a + 1, Entry { digest: digest(e, skip), val: before, slot, len: e.len() as u16 });
+                    self.set(
+                        a + 1,
+                        Entry { digest: digest(e, skip), val: before, slot, len: e.len() as u16 },
+                    );
                     *count += 2;
                     return None;
                 }
@@ -466,7 +511,14 @@ impl Node {
         new
     }
 
-    fn fix(&mut self, keys: &Keys, i: usize, new: Option<Box<Node>>, version: i64, first: bool) -> Option<Box<Node>> {
+    fn fix(
+        &mut self,
+        keys: &Keys,
+        i: usize,
+        new: Option<Box<Node>>,
+        version: i64,
+        first: bool,
+    ) -> Option<Box<Node>> {
         if first {
             self.slot[0] = self.kids[0].slot[0];
             self.len[0] = self.kids[0].len[0];
@@ -498,7 +550,8 @@ impl Node {
             }
             let mut right = self.kids.remove(i + 1);
             let left = &mut self.kids[i];
-            let skip = lcp(left.key(keys, 0), right.key(keys, 0), 0, left.skip.min(right.skip) as usize);
+            let skip =
+                lcp(left.key(keys, 0), right.key(keys, 0), 0, left.skip.min(right.skip) as usize);
             if skip != left.skip as usize {
                 left.reskip(keys, skip);
             }
@@ -575,7 +628,6 @@ impl Node {
         }
         self.even(keys, at.saturating_sub(1), i + 1);
     }
-
 }
 
 pub struct Tree {

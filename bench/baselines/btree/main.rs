@@ -1,7 +1,9 @@
 // SPDX-License-Identifier: Apache-2.0
-//! `btree [--latency] FILE`: prints the verdicts of each batch, or the nanoseconds that each batch took.
+//! `btree [--latency] FILE`: prints the verdicts of each batch, or the nanoseconds that each batch
+//! took.
 //!
-//! A step function from keys to versions in one `BTreeMap`, as a user of the standard library would write it.
+//! A step function from keys to versions in one `BTreeMap`, as a user of the standard library would
+//! write it.
 #![forbid(unsafe_code)]
 
 use std::collections::BTreeMap;
@@ -134,7 +136,8 @@ fn decode(bytes: &mut &[u8]) -> Result<Batch, Fault> {
 }
 
 struct ConflictSet {
-    /// The version of a boundary is that of all keys up to the next one. The empty key is always a boundary.
+    /// The version of a boundary is that of all keys up to the next one. The empty key is always a
+    /// boundary.
     steps: BTreeMap<Vec<u8>, i64>,
     /// The key at which the sweep continues.
     resume: Vec<u8>,
@@ -147,7 +150,9 @@ impl ConflictSet {
 
     /// Whether the range has a version above the snapshot.
     fn above(&self, range: &Range, snapshot: i64) -> bool {
-        for (key, version) in self.steps.range::<[u8], _>((Unbounded, Excluded(&range.end[..]))).rev() {
+        for (key, version) in
+            self.steps.range::<[u8], _>((Unbounded, Excluded(&range.end[..]))).rev()
+        {
             if *version > snapshot {
                 return true;
             }
@@ -159,10 +164,14 @@ impl ConflictSet {
     }
 
     fn write(&mut self, begin: &[u8], end: &[u8], version: i64) {
-        let (last, after) = self.steps.range::<[u8], _>((Unbounded, Included(end))).next_back().unwrap();
+        let (last, after) =
+            self.steps.range::<[u8], _>((Unbounded, Included(end))).next_back().unwrap();
         let (closed, after) = (last == end, *after);
-        let inside: Vec<Vec<u8>> =
-            self.steps.range::<[u8], _>((Excluded(begin), Excluded(end))).map(|(key, _)| key.clone()).collect();
+        let inside: Vec<Vec<u8>> = self
+            .steps
+            .range::<[u8], _>((Excluded(begin), Excluded(end)))
+            .map(|(key, _)| key.clone())
+            .collect();
         for key in inside {
             self.steps.remove(&key);
         }
@@ -225,7 +234,9 @@ impl ConflictSet {
             verdicts.push(Verdict::Committed);
             for write in txn.writes.iter().filter(|write| write.begin < write.end) {
                 let (mut begin, mut end) = (&write.begin[..], &write.end[..]);
-                while let Some((&b, &e)) = fresh.range::<[u8], _>((Unbounded, Included(end))).next_back() {
+                while let Some((&b, &e)) =
+                    fresh.range::<[u8], _>((Unbounded, Included(end))).next_back()
+                {
                     if e < begin {
                         break;
                     }
@@ -265,8 +276,11 @@ fn write_verdicts(out: &mut impl Write, version: i64, verdicts: &[Verdict]) -> R
         };
         out.write_all(word).map_err(|_| "cannot write")?;
     }
-    out.write_all(b"
-").map_err(|_| "cannot write")
+    out.write_all(
+        b"
+",
+    )
+    .map_err(|_| "cannot write")
 }
 
 fn run(file: &[u8], latency: bool) -> Result<(), Fault> {

@@ -70,7 +70,9 @@ public:
         void next(int l, Node* n) { nexts()[l] = n; }
         Version greatest(int l) { return versions()[l]; }
         void greatest(int l, Version v) { versions()[l] = v; }
-        size_t bytes() const { return sizeof(Node) + levels * (sizeof(Node*) + sizeof(Version)) + size; }
+        size_t bytes() const {
+            return sizeof(Node) + levels * (sizeof(Node*) + sizeof(Version)) + size;
+        }
         bool below(Bytes k) {
             int c = memcmp(key(), k.at, size < k.size ? size : k.size);
             return c ? c < 0 : size < k.size;
@@ -351,7 +353,8 @@ private:
     void remove(const Finger& begin, const Finger& end) {
         if (begin.at[0] == end.at[0]) return;
         Node* x = begin.at[0]->next(0);
-        for (int l = 0; l < Top && begin.at[l] != end.at[l]; l++) begin.at[l]->next(l, end.at[l]->next(l));
+        for (int l = 0; l < Top && begin.at[l] != end.at[l]; l++)
+            begin.at[l]->next(l, end.at[l]->next(l));
         for (;;) {
             Node* n = x->next(0);
             bool last = x == end.at[0];

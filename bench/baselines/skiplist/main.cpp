@@ -1,5 +1,6 @@
 // SPDX-License-Identifier: Apache-2.0
-// skiplist [--latency] FILE: prints the verdicts of each batch, or the nanoseconds that each batch took.
+// skiplist [--latency] FILE: prints the verdicts of each batch, or the nanoseconds that each batch
+// took.
 #include "conflict.h"
 #include <chrono>
 #include <cstdio>
@@ -25,7 +26,8 @@ static int fail(const char* what) {
     return 1;
 }
 
-static void append_verdicts(std::string& out, int64_t version, const std::vector<uint8_t>& verdicts) {
+static void append_verdicts(std::string& out, int64_t version,
+                            const std::vector<uint8_t>& verdicts) {
     static const char* const words[] = {" conflict", " tooold", " committed"};
     static const size_t sizes[] = {9, 7, 10};
     out += "0 ";
@@ -62,7 +64,8 @@ int main(int argc, char** argv) {
         version = batch.version;
         set.resolve(batch, verdicts);
         if (latency) {
-            out += std::to_string(std::chrono::duration_cast<std::chrono::nanoseconds>(Clock::now() - start).count());
+            out += std::to_string(
+                std::chrono::duration_cast<std::chrono::nanoseconds>(Clock::now() - start).count());
             out += '\n';
         } else {
             append_verdicts(out, version, verdicts);
@@ -71,6 +74,7 @@ int main(int argc, char** argv) {
         if (fwrite(out.data(), 1, out.size(), stdout) != out.size()) return fail("cannot write");
         out.clear();
     }
-    if (fwrite(out.data(), 1, out.size(), stdout) != out.size() || fflush(stdout)) return fail("cannot write");
+    if (fwrite(out.data(), 1, out.size(), stdout) != out.size() || fflush(stdout))
+        return fail("cannot write");
     return fault ? fail(fault) : 0;
 }

@@ -1,5 +1,6 @@
 // SPDX-License-Identifier: Apache-2.0
-//! `archcaraway-latency FILE`: prints the nanoseconds that each batch of a file takes in one thread of the Cargo edition.
+//! `archcaraway-latency FILE`: prints the nanoseconds that each batch of a file takes in one thread
+//! of the Cargo edition.
 //!
 //! A batch is decoded, resolved and freed. Standard error gets the number of boundaries at the end.
 #![forbid(unsafe_code)]

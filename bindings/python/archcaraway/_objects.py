@@ -155,7 +155,7 @@ class _Judge(_FrameWriter):
 
     @property
     def bytes_held(self) -> int:
-        """About how many bytes of memory the set has used for boundaries and filter; 0 if closed."""
+        """About how many bytes of memory the set uses for boundaries and filter; 0 if closed."""
         return self._call("bytes_held")
 
 

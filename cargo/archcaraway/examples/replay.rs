@@ -46,10 +46,7 @@ fn take_answers(core: &mut Core, proxy: usize) -> Result<Vec<Answer>, CoreError>
 
 fn verdicts(reply: &Reply) -> String {
     let words = reply.verdicts().enumerate().map(|(index, verdict)| {
-        let places: Vec<String> = reply
-            .conflicts(index)
-            .map(|place| place.to_string())
-            .collect();
+        let places: Vec<String> = reply.conflicts(index).map(|place| place.to_string()).collect();
         let word = match verdict {
             Verdict::Conflict => "conflict",
             Verdict::TooOld => "tooold",
@@ -101,10 +98,7 @@ fn run(paths: &[String]) -> Result<ExitCode, Box<dyn Error>> {
     let mut core = Core::new(paths.len(), WINDOW, LIMIT)?;
     let mut inputs = Vec::new();
     for path in paths {
-        inputs.push(Input {
-            reader: BufReader::new(File::open(path)?),
-            end: None,
-        });
+        inputs.push(Input { reader: BufReader::new(File::open(path)?), end: None });
     }
     let admitted = admit_all(&mut core, &mut inputs);
     for proxy in 0..paths.len() {
@@ -115,10 +109,7 @@ fn run(paths: &[String]) -> Result<ExitCode, Box<dyn Error>> {
     let mut code = ExitCode::SUCCESS;
     for (proxy, input) in inputs.iter().enumerate() {
         if let Some(Err(fault)) = input.end {
-            eprintln!(
-                "replay: proxy {proxy}: wire {} {fault:?}",
-                fault_number(fault)
-            );
+            eprintln!("replay: proxy {proxy}: wire {} {fault:?}", fault_number(fault));
             code = ExitCode::FAILURE;
         }
     }

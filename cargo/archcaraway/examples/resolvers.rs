@@ -1,8 +1,8 @@
 //! Replays recorded files with a resolver per shard, and prints what `replay --resolvers` prints:
 //! `resolvers POINTS WINDOW LIMIT FILE..`.
 //!
-//! POINTS has the split points as hexadecimal digits, with commas between them. The file at index p,
-//! counted from 0, has the batches of proxy p.
+//! POINTS has the split points as hexadecimal digits, with commas between them. The file at index
+//! p, counted from 0, has the batches of proxy p.
 
 use archcaraway::{Answer, Batch, Core, CoreError, ReadIndices, Reply, Stop, Verdict};
 use archcaraway::{ShardReply, SplitPoints, combine};
@@ -24,9 +24,7 @@ type Answers = HashMap<(usize, i64), VecDeque<Answer>>;
 
 fn keys(text: &str) -> Result<Vec<Vec<u8>>, Box<dyn Error>> {
     let byte = |digits| Ok(u8::from_str_radix(std::str::from_utf8(digits)?, 16)?);
-    text.split(',')
-        .map(|key| key.as_bytes().chunks(2).map(byte).collect())
-        .collect()
+    text.split(',').map(|key| key.as_bytes().chunks(2).map(byte).collect()).collect()
 }
 
 /// Passes a stop over: the core keeps it, and takes nothing more.
@@ -52,11 +50,7 @@ fn send_file(
             unless_stopped(core.admit(proxy, clip.batch))?;
             reads.push(clip.reads);
         }
-        sent.push(Sent {
-            proxy,
-            batch,
-            reads,
-        });
+        sent.push(Sent { proxy, batch, reads });
     }
     Ok(sent)
 }
@@ -78,10 +72,7 @@ fn words(reply: &Reply) -> String {
         return "empty".into();
     }
     let words = reply.verdicts().enumerate().map(|(index, verdict)| {
-        let places: Vec<String> = reply
-            .conflicts(index)
-            .map(|place| place.to_string())
-            .collect();
+        let places: Vec<String> = reply.conflicts(index).map(|place| place.to_string()).collect();
         let word = match verdict {
             Verdict::Conflict => "conflict",
             Verdict::TooOld => "tooold",
@@ -103,13 +94,10 @@ fn line(sent: Sent, answers: Vec<Answer>) -> Result<String, Box<dyn Error>> {
     if is(|answer| matches!(answer, Answer::Held(_))) {
         return Ok(format!("{head} held"));
     }
-    let replies = answers
-        .into_iter()
-        .zip(sent.reads)
-        .filter_map(|(answer, reads)| match answer {
-            Answer::Reply(reply) => Some(ShardReply { reply, reads }),
-            Answer::Never(_) | Answer::Held(_) => None,
-        });
+    let replies = answers.into_iter().zip(sent.reads).filter_map(|(answer, reads)| match answer {
+        Answer::Reply(reply) => Some(ShardReply { reply, reads }),
+        Answer::Never(_) | Answer::Held(_) => None,
+    });
     Ok(format!("{head} {}", words(&combine(&sent.batch, replies)?)))
 }
 
@@ -140,9 +128,7 @@ fn run(points: &SplitPoints, cores: &mut [Core], paths: &[String]) -> Result<(),
     sent.sort_by_key(|sent| (sent.proxy, sent.batch.version()));
     for sent in sent {
         let of = (sent.proxy, sent.batch.version());
-        let each = shards
-            .iter_mut()
-            .map(|answers| answers.get_mut(&of)?.pop_front());
+        let each = shards.iter_mut().map(|answers| answers.get_mut(&of)?.pop_front());
         if let Some(answers) = each.collect() {
             println!("{}", line(sent, answers)?);
         }
@@ -159,9 +145,7 @@ fn main() -> Result<ExitCode, Box<dyn Error>> {
     let points = SplitPoints::new(keys(points)?)?;
     let (window, limit) = (window.parse()?, limit.parse()?);
     let core = |_| Core::new(paths.len(), window, limit);
-    let mut cores = (0..points.shards())
-        .map(core)
-        .collect::<Result<Vec<_>, _>>()?;
+    let mut cores = (0..points.shards()).map(core).collect::<Result<Vec<_>, _>>()?;
     run(&points, &mut cores, paths)?;
     Ok(print_stop(&cores))
 }

@@ -1,13 +1,19 @@
 //! Batches, and the transactions in them.
 
-// Conditions of the proved functions that are called here:
+// Conditions of the proved functions that are called here, and after `=>` how each is met:
 //
-// | function | condition | how it is met |
-// |---|---|---|
-// | `keyspace::Txns::txn` | `within`: the index is that of a transaction | `txn` and `txns` ask for fewer than `len` |
-// | `keyspace::RangesRef::get` | `within`: the index is that of a range | `ranges_of` counts up to `len` |
-// | `keyspace::RangesRef::slice` | `ordered`, `within` | from 0 to `len` |
-// | `wire::decode_batch`, `encode_batch`, `encode_batch_1`, `read_frames`, `Frames::next` | none beside that of their reader | `wire_error` |
+// - `keyspace::Txns::txn`
+//   - `within`: the index is that of a transaction
+//     => `txn` and `txns` ask for fewer than `len`
+// - `keyspace::RangesRef::get`
+//   - `within`: the index is that of a range
+//     => `ranges_of` counts up to `len`
+// - `keyspace::RangesRef::slice`
+//   - `ordered`, `within`
+//     => from 0 to `len`
+// - `wire::decode_batch`, `encode_batch`, `encode_batch_1`, `read_frames`, `Frames::next`
+//   - none beside that of their reader
+//     => `wire_error`
 
 use crate::build_error::BuildError;
 use crate::range::Range;
@@ -121,8 +127,7 @@ impl Batch {
 impl Clone for Batch {
     fn clone(&self) -> Self {
         // The batch is within all limits, so the only error is that of memory.
-        self.try_clone()
-            .unwrap_or_else(|_| handle_alloc_error(Layout::new::<Self>()))
+        self.try_clone().unwrap_or_else(|_| handle_alloc_error(Layout::new::<Self>()))
     }
 }
 

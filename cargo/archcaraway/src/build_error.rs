@@ -70,10 +70,7 @@ impl fmt::Display for BuildError {
                 write!(f, "previous version {previous} is below -1")
             }
             BuildError::Version { previous, version } => {
-                write!(
-                    f,
-                    "version {version} is not above previous version {previous}"
-                )
+                write!(f, "version {version} is not above previous version {previous}")
             }
             BuildError::Received { received, version } => write!(
                 f,
@@ -85,16 +82,10 @@ impl fmt::Display for BuildError {
             }
             BuildError::Range { txn, error } => write!(f, "transaction {txn}: {error}"),
             BuildError::ReadCount { txn, count } => {
-                write!(
-                    f,
-                    "transaction {txn}: {count} read ranges, more than {MAX_RANGES}"
-                )
+                write!(f, "transaction {txn}: {count} read ranges, more than {MAX_RANGES}")
             }
             BuildError::WriteCount { txn, count } => {
-                write!(
-                    f,
-                    "transaction {txn}: {count} write ranges, more than {MAX_RANGES}"
-                )
+                write!(f, "transaction {txn}: {count} write ranges, more than {MAX_RANGES}")
             }
             BuildError::KeyBytes => f.write_str("keys have more than 4 GiB together"),
             BuildError::Memory => f.write_str("allocation failed"),

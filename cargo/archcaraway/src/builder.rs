@@ -1,10 +1,11 @@
 //! Batches from transactions.
 
-// Conditions of the proved functions that are called by way of `Tables`:
+// Conditions of the proved functions that are called by way of `Tables`, and after `=>` how each is
+// met:
 //
-// | function | condition | how it is met |
-// |---|---|---|
-// | `keyspace::Batch::new` | `previous_from`, `rises`, `received_from`, `received_before` | `check_versions` |
+// - `keyspace::Batch::new`
+//   - `previous_from`, `rises`, `received_from`, `received_before`
+//     => `check_versions`
 
 use crate::MAX_TXNS;
 use crate::batch::Batch;
@@ -16,8 +17,8 @@ use crate::txn::Txn;
 ///
 /// The first limit that [`txn`](BatchBuilder::txn) exceeds is kept, and
 /// [`build`](BatchBuilder::build) reports it. [`add`](BatchBuilder::add) and
-/// [`append`](BatchBuilder::append) report theirs at once and leave the builder as it was, so that a
-/// bad transaction spoils nothing.
+/// [`append`](BatchBuilder::append) report theirs at once and leave the builder as it was, so that
+/// a bad transaction spoils nothing.
 ///
 /// ```
 /// use archcaraway::{BatchBuilder, BuildError, Txn};
@@ -47,13 +48,7 @@ impl BatchBuilder {
     ///
     /// The first batch of a chain has `previous` -1.
     pub fn new(previous: i64, version: i64) -> Self {
-        BatchBuilder {
-            previous,
-            version,
-            received: -1,
-            tables: Tables::default(),
-            error: None,
-        }
+        BatchBuilder { previous, version, received: -1, tables: Tables::default(), error: None }
     }
 
     /// Sets the last version whose reply the proxy has received, which is -1 at first.
@@ -136,19 +131,12 @@ impl BatchBuilder {
         self.check_versions()?;
         match self.error {
             Some(error) => Err(error),
-            None => self
-                .tables
-                .batch(self.previous, self.version, self.received),
+            None => self.tables.batch(self.previous, self.version, self.received),
         }
     }
 
     fn check_versions(&self) -> Result<(), BuildError> {
-        let Self {
-            previous,
-            version,
-            received,
-            ..
-        } = *self;
+        let Self { previous, version, received, .. } = *self;
         if previous < -1 {
             return Err(BuildError::Previous { previous });
         }

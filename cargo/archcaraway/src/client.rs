@@ -2,9 +2,7 @@
 
 // Conditions of the proved functions that are called here:
 //
-// | function | condition | how it is met |
-// |---|---|---|
-// | `lane::Port::send`, `close`, `sent`, `lane::Intake::take`, `taken` | none | |
+// - `lane::Port::send`, `close`, `sent`, `lane::Intake::take`, `taken`: none
 
 use crate::batch::Batch;
 use crate::reply::Answer;
@@ -38,11 +36,7 @@ pub(crate) struct Link {
 
 impl Client {
     pub(crate) fn new(proxy: usize, ends: resolver::Client, link: Arc<Link>) -> Self {
-        Client {
-            proxy,
-            ends: Some(ends),
-            link,
-        }
+        Client { proxy, ends: Some(ends), link }
     }
 
     /// Returns the number of the proxy, from 0.
@@ -51,10 +45,7 @@ impl Client {
     }
 
     /// Sends a batch, without waiting. An error returns the batch.
-    #[allow(
-        clippy::result_large_err,
-        reason = "the batch is returned without an allocation"
-    )]
+    #[allow(clippy::result_large_err, reason = "the batch is returned without an allocation")]
     pub fn try_send(&mut self, batch: Batch) -> Result<(), TrySendError> {
         let Some(ends) = &mut self.ends else {
             return Err(TrySendError::Closed(batch));
@@ -69,10 +60,7 @@ impl Client {
     ///
     /// The resolver ends the wait when it takes a batch, stops or is dropped, so call this on
     /// another thread than the resolver's. It never returns [`TrySendError::Full`].
-    #[allow(
-        clippy::result_large_err,
-        reason = "the batch is returned without an allocation"
-    )]
+    #[allow(clippy::result_large_err, reason = "the batch is returned without an allocation")]
     pub fn send(&mut self, batch: Batch) -> Result<(), TrySendError> {
         let mut waiting = Waiting::default();
         let mut next = batch;
@@ -181,10 +169,7 @@ impl Link {
     }
 
     fn leave(&self, replies: Intake<keyspace::Answer>) {
-        self.left
-            .lock()
-            .unwrap_or_else(PoisonError::into_inner)
-            .push(replies);
+        self.left.lock().unwrap_or_else(PoisonError::into_inner).push(replies);
     }
 
     /// Discards the answers to clients that are dropped, so that their lanes have room.
@@ -283,11 +268,7 @@ mod tests {
         let inner = || batch.clone().into_inner();
         for (refused, expected, text) in [
             (Refused::Full(inner()), TrySendError::Full(batch.clone()), "lane is full"),
-            (
-                Refused::Closed(inner()),
-                TrySendError::Closed(batch.clone()),
-                "requests are closed",
-            ),
+            (Refused::Closed(inner()), TrySendError::Closed(batch.clone()), "requests are closed"),
             (
                 Refused::Worn(inner()),
                 TrySendError::Worn(batch.clone()),

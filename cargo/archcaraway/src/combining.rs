@@ -1,10 +1,10 @@
 //! The replies of all shards as one.
 
-// Conditions of the proved functions that are called here:
+// Conditions of the proved functions that are called here, and after `=>` how each is met:
 //
-// | function | condition | how it is met |
-// |---|---|---|
-// | `shards::combine` | none; but each shard must have its reply, and it can't tell if one is missing | the caller's, as the docs of `combine` say |
+// - `shards::combine`
+//   - none; but each shard must have its reply, and it can't tell if one is missing
+//     => the caller's, as the docs of `combine` say
 
 use crate::batch::Batch;
 use crate::reply::Reply;
@@ -35,10 +35,8 @@ pub fn combine(
 ) -> Result<Reply, CombineError> {
     let mut each = vec::Vec::new(Global);
     for shard in replies {
-        let shard = shards::ShardReply {
-            reply: shard.reply.into_inner(),
-            reads: shard.reads.into_inner(),
-        };
+        let shard =
+            shards::ShardReply { reply: shard.reply.into_inner(), reads: shard.reads.into_inner() };
         each.push(shard).map_err(|_| CombineError::Memory)?;
     }
     match shards::combine(Global, batch.inner(), &each) {

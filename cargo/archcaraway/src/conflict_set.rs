@@ -1,14 +1,20 @@
 //! The conflict set, for whoever has a chain of versions already.
 
-// Conditions of the proved functions that are called here:
+// Conditions of the proved functions that are called here, and after `=>` how each is met:
 //
-// | function | condition | how it is met |
-// |---|---|---|
-// | `conflict::ConflictSet::new` | `least_window`, `most_window`, `least_limit`, `most_limit` | `check_set`: `NewError::Window`, `NewError::Limit` |
-// | `conflict::ConflictSet::new_at` | the same, and `least_version` | `check_set`, `check_version`: `NewError::Version` |
-// | `conflict::ConflictSet::resolve` | `rising`: the version is above that of the batch resolved last | `ResolveError::Version`, by the field `version` |
-// | `conflict::ConflictSet::try_resolve` | the same | the same |
-// | `conflict::ConflictSet::boundaries`, `bytes_held`, `limit`, `edge`, `trim` | none | |
+// - `conflict::ConflictSet::new`
+//   - `least_window`, `most_window`, `least_limit`, `most_limit`
+//     => `check_set`: `NewError::Window`, `NewError::Limit`
+// - `conflict::ConflictSet::new_at`
+//   - the same, and `least_version`
+//     => `check_set`, `check_version`: `NewError::Version`
+// - `conflict::ConflictSet::resolve`
+//   - `rising`: the version is above that of the batch resolved last
+//     => `ResolveError::Version`, by the field `version`
+// - `conflict::ConflictSet::try_resolve`
+//   - the same
+//     => the same
+// - `conflict::ConflictSet::boundaries`, `bytes_held`, `limit`, `edge`, `trim`: none
 
 use crate::batch::Batch;
 use crate::reply::Reply;
@@ -49,14 +55,11 @@ impl ConflictSet {
     pub fn new(window: i64, limit: usize) -> Result<Self, NewError> {
         check_set(window, limit)?;
         let set = conflict::ConflictSet::new(Global, window, limit);
-        Ok(ConflictSet {
-            set: set.map_err(|_| NewError::Memory)?,
-            version: -1,
-            stop: None,
-        })
+        Ok(ConflictSet { set: set.map_err(|_| NewError::Memory)?, version: -1, stop: None })
     }
 
-    /// Creates a set that starts at a version, from -1 on, for a store that has been written before.
+    /// Creates a set that starts at a version, from -1 on, for a store that has been written
+    /// before.
     ///
     /// What was written up to the version is not known: each read range with a snapshot below it
     /// conflicts, unless the range is empty. The first batch has a greater version. At -1 this is
@@ -78,11 +81,7 @@ impl ConflictSet {
         check_set(window, limit)?;
         check_version(version)?;
         match conflict::ConflictSet::new_at(Global, window, limit, version) {
-            Ok(set) => Ok(ConflictSet {
-                set,
-                version,
-                stop: None,
-            }),
+            Ok(set) => Ok(ConflictSet { set, version, stop: None }),
             Err(SetStop::Memory) => Err(NewError::Memory),
             Err(SetStop::ArenaFull) => Err(NewError::LimitAtVersion(limit)),
         }
@@ -233,8 +232,8 @@ pub enum ResolveError {
         /// The version of the batch resolved last.
         last: i64,
     },
-    /// The batch does not fit the limit, and [`ConflictSet::try_resolve`] has refused it: the set is
-    /// unchanged.
+    /// The batch does not fit the limit, and [`ConflictSet::try_resolve`] has refused it: the set
+    /// is unchanged.
     Full,
     /// The set has stopped.
     Stop(Stop),
@@ -244,10 +243,7 @@ impl fmt::Display for ResolveError {
     fn fmt(&self, f: &mut fmt::Formatter<'_>) -> fmt::Result {
         match self {
             ResolveError::Version { version, last } => {
-                write!(
-                    f,
-                    "version {version} is not above {last}, which was resolved last"
-                )
+                write!(f, "version {version} is not above {last}, which was resolved last")
             }
             ResolveError::Full => f.write_str("the batch needs more boundaries than the limit"),
             ResolveError::Stop(stop) => stop.fmt(f),

@@ -1,12 +1,14 @@
 //! Why a transaction conflicts.
 
-// Conditions of the proved functions that are called here:
+// Conditions of the proved functions that are called here, and after `=>` how each is met:
 //
-// | function | condition | how it is met |
-// |---|---|---|
-// | `explanations::History::new` | `least_window`: the window is 1 or more | `check_window`: `NewError::Window` |
-// | `explanations::ProcessedBatch::new` | `entries`: the reply has one entry per transaction | `PushError::Reply` |
-// | `explanations::History::push`, `explain` | none | |
+// - `explanations::History::new`
+//   - `least_window`: the window is 1 or more
+//     => `check_window`: `NewError::Window`
+// - `explanations::ProcessedBatch::new`
+//   - `entries`: the reply has one entry per transaction
+//     => `PushError::Reply`
+// - `explanations::History::push`, `explain`: none
 
 use crate::batch::Batch;
 use crate::range::Range;
@@ -57,10 +59,7 @@ impl History {
     /// [`MAX_WINDOW`](crate::MAX_WINDOW), that of the set.
     pub fn new(window: i64) -> Result<Self, NewError> {
         check_window(window)?;
-        Ok(History {
-            history: explanations::History::new(Global, window),
-            version: -1,
-        })
+        Ok(History { history: explanations::History::new(Global, window), version: -1 })
     }
 
     /// Adds the batch that was resolved last, with the number of its proxy and its reply, and drops
@@ -76,11 +75,9 @@ impl History {
             return Err(PushError::Reply);
         }
         let (batch, reply) = (batch.into_inner(), reply.into_inner());
-        let processed = ProcessedBatch::new(Global, proxy, batch, reply)
-            .map_err(|_| PushError::Memory)?;
-        self.history
-            .push(processed)
-            .map_err(|_| PushError::Memory)?;
+        let processed =
+            ProcessedBatch::new(Global, proxy, batch, reply).map_err(|_| PushError::Memory)?;
+        self.history.push(processed).map_err(|_| PushError::Memory)?;
         self.version = version;
         Ok(())
     }
@@ -112,9 +109,7 @@ impl History {
 
 impl fmt::Debug for History {
     fn fmt(&self, f: &mut fmt::Formatter<'_>) -> fmt::Result {
-        f.debug_struct("History")
-            .field("version", &self.version)
-            .finish_non_exhaustive()
+        f.debug_struct("History").field("version", &self.version).finish_non_exhaustive()
     }
 }
 

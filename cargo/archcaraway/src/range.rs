@@ -125,9 +125,7 @@ fn between<'a>(begin: Cow<'a, [u8]>, end: Cow<'a, [u8]>) -> Result<Range<'a>, Ra
 
 fn single(key: Cow<'_, [u8]>) -> Result<Range<'_>, RangeError> {
     check_length(&key, MAX_SINGLE_KEY_LENGTH)?;
-    Ok(Range {
-        keys: Keys::Single(key),
-    })
+    Ok(Range { keys: Keys::Single(key) })
 }
 
 fn check_length(key: &[u8], limit: usize) -> Result<(), RangeError> {
@@ -190,12 +188,7 @@ impl<'a> TryFrom<&'a [u8]> for Range<'a> {
 impl fmt::Debug for Range<'_> {
     fn fmt(&self, f: &mut fmt::Formatter<'_>) -> fmt::Result {
         let (begin, end) = (self.begin(), self.end());
-        write!(
-            f,
-            "[\"{}\", \"{}\")",
-            begin.escape_ascii(),
-            end.escape_ascii()
-        )
+        write!(f, "[\"{}\", \"{}\")", begin.escape_ascii(), end.escape_ascii())
     }
 }
 

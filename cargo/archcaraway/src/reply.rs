@@ -1,11 +1,11 @@
 //! Replies: the verdicts on a batch, with the read ranges in conflict.
 
-// Conditions of the proved functions that are called here:
+// Conditions of the proved functions that are called here, and after `=>` how each is met:
 //
-// | function | condition | how it is met |
-// |---|---|---|
-// | `wire::decode_reply`, `encode_reply`, `read_reply` | none beside that of their reader | `wire_error` |
-// | `keyspace::Reply::copy`, `Places::as_slice`, `Sequence::as_slice` | none | |
+// - `wire::decode_reply`, `encode_reply`, `read_reply`
+//   - none beside that of their reader
+//     => `wire_error`
+// - `keyspace::Reply::copy`, `Places::as_slice`, `Sequence::as_slice`: none
 
 use crate::wire_error::{Noting, WireError, into_std, wire_error};
 use keyspace::Entry;
@@ -139,11 +139,7 @@ impl PartialEq for Reply {
             (entry.verdict, entry.places.as_slice())
         }
         self.version() == other.version()
-            && self
-                .entries()
-                .iter()
-                .map(parts)
-                .eq(other.entries().iter().map(parts))
+            && self.entries().iter().map(parts).eq(other.entries().iter().map(parts))
     }
 }
 

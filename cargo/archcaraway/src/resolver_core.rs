@@ -1,16 +1,25 @@
 //! The resolver over values: many proxies, one thread.
 
-// Conditions of the proved functions that are called here:
+// Conditions of the proved functions that are called here, and after `=>` how each is met:
 //
-// | function | condition | how it is met |
-// |---|---|---|
-// | `resolver::Core::new` | `least_proxies`, `most_proxies` | `check_proxies`: `NewError::Proxies` |
-// | | `least_window`, `most_window`, `least_limit`, `most_limit` | `check_set`: `NewError::Window`, `NewError::Limit` |
-// | `resolver::Core::new_at` | the same, and `least_version` | the same, and `check_version`: `NewError::Version` |
-// | `resolver::Core::admit` | `known`: there is such a proxy | `check_proxy`: `CoreError::Proxy` |
-// | `resolver::Core::give` | `known`: there is such a proxy | `check_proxy`: `CoreError::Proxy` |
-// | `resolver::Core::owes` | `known`: there is such a proxy | `next` asks only of those that there are |
-// | `resolver::Core::finish`, `owed`, `held`, `version`, `set`, `proxies`, `stop` | none | |
+// - `resolver::Core::new`
+//   - `least_proxies`, `most_proxies`
+//     => `check_proxies`: `NewError::Proxies`
+//   - `least_window`, `most_window`, `least_limit`, `most_limit`
+//     => `check_set`: `NewError::Window`, `NewError::Limit`
+// - `resolver::Core::new_at`
+//   - the same, and `least_version`
+//     => the same, and `check_version`: `NewError::Version`
+// - `resolver::Core::admit`
+//   - `known`: there is such a proxy
+//     => `check_proxy`: `CoreError::Proxy`
+// - `resolver::Core::give`
+//   - `known`: there is such a proxy
+//     => `check_proxy`: `CoreError::Proxy`
+// - `resolver::Core::owes`
+//   - `known`: there is such a proxy
+//     => `next` asks only of those that there are
+// - `resolver::Core::finish`, `owed`, `held`, `version`, `set`, `proxies`, `stop`: none
 
 use crate::batch::Batch;
 use crate::reply::Answer;
@@ -54,8 +63,8 @@ impl Core {
     /// before.
     ///
     /// The first batch follows that version. A batch with a lower previous version is answered
-    /// with [`Answer::Never`], and one with a higher one is held. What was written up to the version
-    /// is not known, as in [`ConflictSet::new_at`](crate::ConflictSet::new_at).
+    /// with [`Answer::Never`], and one with a higher one is held. What was written up to the
+    /// version is not known, as in [`ConflictSet::new_at`](crate::ConflictSet::new_at).
     ///
     /// ```
     /// use archcaraway::{Answer, BatchBuilder, Core, MAX_LIMIT, WINDOW};
@@ -160,11 +169,7 @@ impl Core {
 
     fn check_proxy(&self, proxy: usize) -> Result<(), CoreError> {
         let proxies = self.proxies();
-        if proxy < proxies {
-            Ok(())
-        } else {
-            Err(CoreError::Proxy { proxy, proxies })
-        }
+        if proxy < proxies { Ok(()) } else { Err(CoreError::Proxy { proxy, proxies }) }
     }
 }
 

@@ -1,16 +1,24 @@
 //! The resolver over lanes: many proxies, each in its thread.
 
-// Conditions of the proved functions that are called here:
+// Conditions of the proved functions that are called here, and after `=>` how each is met:
 //
-// | function | condition | how it is met |
-// |---|---|---|
-// | `resolver::open` | `least_proxies`, `most_proxies` | `check_proxies`: `NewError::Proxies` |
-// | | `least_capacity`, `most_capacity` | `check_capacity`: `NewError::Capacity` |
-// | | `least_window`, `most_window`, `least_limit`, `most_limit` | `check_set`: `NewError::Window`, `NewError::Limit` |
-// | `resolver::open_at` | the same, and `least_version` | the same, and `check_version`: `NewError::Version` |
-// | `resolver::Resolver::settle` | `clients`: all clients of the resolver, each at its number | `check_clients`: `SettleError::Count`, `SettleError::Client` |
-// | `resolver::share` | `some`: at least one proxy | `open` has checked it |
-// | `resolver::Resolver::turn`, `owed`, `sent` | none | |
+// - `resolver::open`
+//   - `least_proxies`, `most_proxies`
+//     => `check_proxies`: `NewError::Proxies`
+//   - `least_capacity`, `most_capacity`
+//     => `check_capacity`: `NewError::Capacity`
+//   - `least_window`, `most_window`, `least_limit`, `most_limit`
+//     => `check_set`: `NewError::Window`, `NewError::Limit`
+// - `resolver::open_at`
+//   - the same, and `least_version`
+//     => the same, and `check_version`: `NewError::Version`
+// - `resolver::Resolver::settle`
+//   - `clients`: all clients of the resolver, each at its number
+//     => `check_clients`: `SettleError::Count`, `SettleError::Client`
+// - `resolver::share`
+//   - `some`: at least one proxy
+//     => `open` has checked it
+// - `resolver::Resolver::turn`, `owed`, `sent`: none
 
 use crate::client::{Client, Link};
 use crate::stop::{
@@ -94,15 +102,7 @@ fn linked(
     let clients = clients.map(|(proxy, ends)| Client::new(proxy, ends, Arc::clone(&link)));
     let clients = clients.collect();
     let ends = Vec::with_capacity(proxies);
-    (
-        Resolver {
-            resolver,
-            proxies,
-            link,
-            ends,
-        },
-        clients,
-    )
+    (Resolver { resolver, proxies, link, ends }, clients)
 }
 
 /// A resolver for many proxies, each of which has a [`Client`]. [`open`] and [`open_at`] make it.
@@ -160,19 +160,12 @@ impl Resolver {
     /// their numbers.
     pub fn settle(&mut self, clients: &mut [Client]) -> Result<Account, SettleError> {
         self.check_clients(clients)?;
-        self.ends.extend(
-            clients
-                .iter_mut()
-                .filter_map(|client| client.ends_mut().take()),
-        );
+        self.ends.extend(clients.iter_mut().filter_map(|client| client.ends_mut().take()));
         let account = self.resolver.settle(&mut self.ends);
         for (client, ends) in clients.iter_mut().zip(self.ends.drain(..)) {
             *client.ends_mut() = Some(ends);
         }
-        Ok(Account {
-            complete: account.complete,
-            stop: account.stop.map(stop_of),
-        })
+        Ok(Account { complete: account.complete, stop: account.stop.map(stop_of) })
     }
 
     /// Returns the number of answers that are made and not yet sent.
@@ -204,11 +197,7 @@ impl Resolver {
         let is_own = |(index, client): (usize, &Client)| {
             client.proxy() == index && client.belongs_to(&self.link)
         };
-        match clients
-            .iter()
-            .enumerate()
-            .position(|numbered| !is_own(numbered))
-        {
+        match clients.iter().enumerate().position(|numbered| !is_own(numbered)) {
             Some(index) => Err(SettleError::Client { index }),
             None => Ok(()),
         }
@@ -274,10 +263,7 @@ impl fmt::Display for SettleError {
                 write!(f, "{given} clients are given, of {proxies} proxies")
             }
             SettleError::Client { index } => {
-                write!(
-                    f,
-                    "client at index {index} is not the resolver's client of that number"
-                )
+                write!(f, "client at index {index} is not the resolver's client of that number")
             }
         }
     }

@@ -1,12 +1,15 @@
 //! Several resolvers by key range: split points, and what each shard gets of a batch.
 
-// Conditions of the proved functions that are called here:
+// Conditions of the proved functions that are called here, and after `=>` how each is met:
 //
-// | function | condition | how it is met |
-// |---|---|---|
-// | `keyspace::Key::copied` | `short`: at most `MAX_KEY_LENGTH` bytes | `SplitPointsError::KeyLength` |
-// | `shards::ReadIndices::txn` | `within`: the index is that of a transaction | `ReadIndices::of` asks for fewer than `len` |
-// | `shards::SplitPoints::checked`, `shard_count`, `shard_of`, `points`, `shards::balanced`, `shards::clip_all` | none | |
+// - `keyspace::Key::copied`
+//   - `short`: at most `MAX_KEY_LENGTH` bytes
+//     => `SplitPointsError::KeyLength`
+// - `shards::ReadIndices::txn`
+//   - `within`: the index is that of a transaction
+//     => `ReadIndices::of` asks for fewer than `len`
+// - `shards::SplitPoints::checked`, `shard_count`, `shard_of`, `points`, `shards::balanced`,
+//   `shards::clip_all`: none
 
 use crate::MAX_KEY_LENGTH;
 use crate::batch::Batch;
@@ -83,9 +86,7 @@ impl SplitPoints {
     ) -> Result<Self, BalanceError> {
         let mut batches = vec::Vec::new(Global);
         for batch in sample {
-            batches
-                .push(batch.inner())
-                .map_err(|_| BalanceError::Memory)?;
+            batches.push(batch.inner()).map_err(|_| BalanceError::Memory)?;
         }
         match shards::balanced(Global, &batches, shards) {
             Ok(points) => Ok(SplitPoints(points)),
@@ -140,10 +141,7 @@ pub struct Clip {
 
 impl Clip {
     fn over(clipped: shards::Clipped) -> Self {
-        Clip {
-            batch: Batch::over(clipped.batch),
-            reads: ReadIndices(clipped.reads),
-        }
+        Clip { batch: Batch::over(clipped.batch), reads: ReadIndices(clipped.reads) }
     }
 }
 
@@ -196,10 +194,7 @@ impl fmt::Display for SplitPointsError {
                 write!(f, "split point {index} is not after the one before")
             }
             SplitPointsError::KeyLength { index } => {
-                write!(
-                    f,
-                    "split point {index} is longer than {MAX_KEY_LENGTH} bytes"
-                )
+                write!(f, "split point {index} is longer than {MAX_KEY_LENGTH} bytes")
             }
             SplitPointsError::Memory => f.write_str("allocation failed"),
         }

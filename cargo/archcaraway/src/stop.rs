@@ -71,10 +71,7 @@ impl fmt::Display for NewError {
             NewError::Window(found) => write!(f, "window {found} is not 1 to {MAX_WINDOW}"),
             NewError::Limit(found) => write!(f, "limit {found} is not 1 to {MAX_LIMIT}"),
             NewError::LimitAtVersion(found) => {
-                write!(
-                    f,
-                    "limit {found} is below 3, too small for a start at a version"
-                )
+                write!(f, "limit {found} is below 3, too small for a start at a version")
             }
             NewError::Version(found) => write!(f, "version {found} is below -1"),
             NewError::Memory => f.write_str("allocation failed"),
@@ -85,17 +82,11 @@ impl fmt::Display for NewError {
 impl Error for NewError {}
 
 pub(crate) fn check_proxies(proxies: usize) -> Result<(), NewError> {
-    check(
-        (1..=MAX_PROXIES).contains(&proxies),
-        NewError::Proxies(proxies),
-    )
+    check((1..=MAX_PROXIES).contains(&proxies), NewError::Proxies(proxies))
 }
 
 pub(crate) fn check_capacity(capacity: usize) -> Result<(), NewError> {
-    check(
-        (1..=MAX_CAPACITY).contains(&capacity),
-        NewError::Capacity(capacity),
-    )
+    check((1..=MAX_CAPACITY).contains(&capacity), NewError::Capacity(capacity))
 }
 
 /// Checks the window, and then the limit.

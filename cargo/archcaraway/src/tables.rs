@@ -1,16 +1,23 @@
-//! The tables in which a batch keeps its transactions. Their keys lie in one buffer, into which each
-//! is copied once.
+//! The tables in which a batch keeps its transactions. Their keys lie in one buffer, into which
+//! each is copied once.
 
-// Conditions of the proved functions that are called here:
+// Conditions of the proved functions that are called here, and after `=>` how each is met:
 //
-// | function | condition | how it is met |
-// |---|---|---|
-// | `keyspace::Batch::new` | versions | the caller has checked them |
-// | | `few`: at most 4,096 transactions | `BuildError::TxnCount` of `add` and `append` |
-// | `keyspace::Txns::from_tables` | `tables`: each span lies in the buffer, each row has its spans | `put_range` and `put_row` append a key before its span, and spans before their row; `append` moves all of them; `cut` keeps the spans of the rows that stay |
-// | | `tables`: limits of keys and ranges | each `Range` has them |
-// | | `tables`: snapshots and counts of ranges | `check_txn` |
-// | | `few`: at most 4,096 rows | `BuildError::TxnCount` of `add` and `append` |
+// - `keyspace::Batch::new`
+//   - versions
+//     => the caller has checked them
+//   - `few`: at most 4,096 transactions
+//     => `BuildError::TxnCount` of `add` and `append`
+// - `keyspace::Txns::from_tables`
+//   - `tables`: each span lies in the buffer, each row has its spans
+//     => `put_range` and `put_row` append a key before its span, and spans before their row;
+//     `append` moves all of them; `cut` keeps the spans of the rows that stay
+//   - `tables`: limits of keys and ranges
+//     => each `Range` has them
+//   - `tables`: snapshots and counts of ranges
+//     => `check_txn`
+//   - `few`: at most 4,096 rows
+//     => `BuildError::TxnCount` of `add` and `append`
 
 use crate::batch::Batch;
 use crate::build_error::BuildError;
@@ -60,8 +67,7 @@ impl Tables {
     /// Keeps the first transactions alone. The bytes of the others' keys stay.
     pub(crate) fn cut(&mut self, count: usize) {
         self.rows.truncate(count);
-        self.spans
-            .truncate(self.rows.last().map_or(0, |row| row.end as usize));
+        self.spans.truncate(self.rows.last().map_or(0, |row| row.end as usize));
     }
 
     /// Appends the transactions of other tables, or reports the limit that is exceeded. Then the
@@ -72,9 +78,7 @@ impl Tables {
         }
         let bytes = self.buffer.len() + other.buffer.len();
         u32::try_from(bytes).map_err(|_| BuildError::KeyBytes)?;
-        self.buffer
-            .try_reserve(other.buffer.len())
-            .map_err(memory)?;
+        self.buffer.try_reserve(other.buffer.len()).map_err(memory)?;
         self.spans.try_reserve(other.spans.len()).map_err(memory)?;
         self.rows.try_reserve(other.rows.len()).map_err(memory)?;
         let (byte, span) = (self.buffer.len() as u32, self.spans.len() as u32);
@@ -84,10 +88,7 @@ impl Tables {
             end: byte + each.end,
             ..*each
         }));
-        self.rows.extend(other.rows.iter().map(|each| Row {
-            end: span + each.end,
-            ..*each
-        }));
+        self.rows.extend(other.rows.iter().map(|each| Row { end: span + each.end, ..*each }));
         Ok(())
     }
 
@@ -117,12 +118,7 @@ impl Tables {
     ) -> Result<(), BuildError> {
         self.rows.try_reserve(1).map_err(memory)?;
         let end = self.spans.len() as u32;
-        self.rows.push(Row {
-            snapshot,
-            end,
-            writes: writes as u16,
-            marked,
-        });
+        self.rows.push(Row { snapshot, end, writes: writes as u16, marked });
         Ok(())
     }
 
@@ -144,16 +140,10 @@ impl Tables {
         version: i64,
         received: i64,
     ) -> Result<Batch, BuildError> {
-        let Self {
-            buffer,
-            spans,
-            rows,
-        } = self;
+        let Self { buffer, spans, rows } = self;
         let txns =
             Txns::from_tables(Global, buffer.into(), spans.into(), rows.into()).map_err(memory)?;
-        Ok(Batch::over(keyspace::Batch::new(
-            previous, version, received, txns,
-        )))
+        Ok(Batch::over(keyspace::Batch::new(previous, version, received, txns)))
     }
 }
 
@@ -163,35 +153,21 @@ fn memory<E>(_refused: E) -> BuildError {
 
 // The lengths are those of keys of a range, which fit.
 fn span_of((begin, begin_length): (u32, usize), (end, end_length): (u32, usize)) -> Span {
-    Span {
-        begin,
-        begin_length: begin_length as u16,
-        end,
-        end_length: end_length as u16,
-    }
+    Span { begin, begin_length: begin_length as u16, end, end_length: end_length as u16 }
 }
 
 fn check_txn(index: usize, txn: &Txn<'_>) -> Result<(), BuildError> {
     if txn.snapshot < 0 {
-        return Err(BuildError::Snapshot {
-            txn: index,
-            snapshot: txn.snapshot,
-        });
+        return Err(BuildError::Snapshot { txn: index, snapshot: txn.snapshot });
     }
     if let Some(error) = txn.error {
         return Err(BuildError::Range { txn: index, error });
     }
     if txn.reads.len() > MAX_RANGES {
-        return Err(BuildError::ReadCount {
-            txn: index,
-            count: txn.reads.len(),
-        });
+        return Err(BuildError::ReadCount { txn: index, count: txn.reads.len() });
     }
     if txn.writes.len() > MAX_RANGES {
-        return Err(BuildError::WriteCount {
-            txn: index,
-            count: txn.writes.len(),
-        });
+        return Err(BuildError::WriteCount { txn: index, count: txn.writes.len() });
     }
     Ok(())
 }
@@ -204,33 +180,18 @@ mod tests {
     fn tables_with_keys_of(length: usize) -> Tables {
         let mut buffer = vec![0; length + 2];
         buffer.truncate(length);
-        Tables {
-            buffer,
-            ..Tables::default()
-        }
+        Tables { buffer, ..Tables::default() }
     }
 
     #[test]
     fn keys_begin_below_4_gib() {
         let last = usize::try_from(u32::MAX).expect("addresses have 64 bits");
         let mut tables = tables_with_keys_of(last);
-        assert_eq!(
-            (tables.add(&Txn::at(0).write_key("k")), tables.spans.len()),
-            (Ok(()), 1)
-        );
+        assert_eq!((tables.add(&Txn::at(0).write_key("k")), tables.spans.len()), (Ok(()), 1));
         let mut tables = tables_with_keys_of(last + 1);
-        assert_eq!(
-            tables.add(&Txn::at(0).write_key("k")),
-            Err(BuildError::KeyBytes)
-        );
-        assert_eq!(
-            (tables.len(), tables.spans.len(), tables.buffer.len()),
-            (0, 0, last + 1)
-        );
-        assert_eq!(
-            BuildError::KeyBytes.to_string(),
-            "keys have more than 4 GiB together"
-        );
+        assert_eq!(tables.add(&Txn::at(0).write_key("k")), Err(BuildError::KeyBytes));
+        assert_eq!((tables.len(), tables.spans.len(), tables.buffer.len()), (0, 0, last + 1));
+        assert_eq!(BuildError::KeyBytes.to_string(), "keys have more than 4 GiB together");
     }
 
     #[test]
@@ -239,10 +200,7 @@ mod tests {
         let mut tables = tables_with_keys_of(last);
         let refused = tables.add(&Txn::at(0).read_key("k").write_key("l"));
         assert_eq!(refused, Err(BuildError::KeyBytes));
-        assert_eq!(
-            (tables.len(), tables.spans.len(), tables.buffer.len()),
-            (0, 0, last)
-        );
+        assert_eq!((tables.len(), tables.spans.len(), tables.buffer.len()), (0, 0, last));
     }
 
     #[test]
@@ -253,15 +211,8 @@ mod tests {
         for (length, expected) in [(last - 2, Ok(())), (last - 1, Err(BuildError::KeyBytes))] {
             let mut tables = tables_with_keys_of(length);
             assert_eq!(tables.append(&other), expected);
-            let counts = if expected.is_ok() {
-                (1, 1, last)
-            } else {
-                (0, 0, length)
-            };
-            assert_eq!(
-                (tables.len(), tables.spans.len(), tables.buffer.len()),
-                counts
-            );
+            let counts = if expected.is_ok() { (1, 1, last) } else { (0, 0, length) };
+            assert_eq!((tables.len(), tables.spans.len(), tables.buffer.len()), counts);
         }
     }
 }

@@ -31,13 +31,7 @@ pub struct Txn<'a> {
 impl<'a> Txn<'a> {
     /// Creates a transaction that has read at this version, without ranges.
     pub fn at(snapshot: i64) -> Self {
-        Txn {
-            snapshot,
-            report: false,
-            reads: Vec::new(),
-            writes: Vec::new(),
-            error: None,
-        }
+        Txn { snapshot, report: false, reads: Vec::new(), writes: Vec::new(), error: None }
     }
 
     /// Adds a read range.

@@ -1,10 +1,10 @@
 //! Why bytes are no frame, or a value has none.
 
-// Conditions of the proved functions that are called here:
+// Conditions of the proved functions that are called here, and after `=>` how each is met:
 //
-// | function | condition | how it is met |
-// |---|---|---|
-// | `wire::StdSource` of a reader | a read returns at most the length of its buffer | `Noting::read` refuses a greater number |
+// - `wire::StdSource` of a reader
+//   - a read returns at most the length of its buffer
+//     => `Noting::read` refuses a greater number
 
 use rattle_std::vec;
 use std::error::Error;
@@ -109,10 +109,7 @@ pub(crate) struct Noting<R> {
 
 impl<R> Noting<R> {
     pub(crate) fn new(reader: R) -> Self {
-        Noting {
-            reader,
-            kind: io::ErrorKind::Other,
-        }
+        Noting { reader, kind: io::ErrorKind::Other }
     }
 
     /// Returns the error of a function that has read from this.

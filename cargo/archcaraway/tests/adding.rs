@@ -27,32 +27,18 @@ fn with_ranges(reads: usize, writes: usize) -> Txn<'static> {
 #[test]
 fn a_refused_transaction_spoils_nothing() {
     let long = vec![b'k'; MAX_SINGLE_KEY_LENGTH + 1];
-    let length = RangeError::KeyLength {
-        length: MAX_SINGLE_KEY_LENGTH + 1,
-        limit: MAX_SINGLE_KEY_LENGTH,
-    };
-    let snapshot = BuildError::Snapshot {
-        txn: 2,
-        snapshot: -1,
-    };
+    let length =
+        RangeError::KeyLength { length: MAX_SINGLE_KEY_LENGTH + 1, limit: MAX_SINGLE_KEY_LENGTH };
+    let snapshot = BuildError::Snapshot { txn: 2, snapshot: -1 };
     let count = MAX_RANGES + 1;
     let range = |error| BuildError::Range { txn: 2, error };
     let mut builder = filled(&["a", "b"]);
     for (txn, expected) in [
         (Txn::at(-1), snapshot),
-        (
-            with_ranges(count, 0),
-            BuildError::ReadCount { txn: 2, count },
-        ),
-        (
-            with_ranges(0, count),
-            BuildError::WriteCount { txn: 2, count },
-        ),
+        (with_ranges(count, 0), BuildError::ReadCount { txn: 2, count }),
+        (with_ranges(0, count), BuildError::WriteCount { txn: 2, count }),
         (Txn::at(0).read_key("k").write_key(&long), range(length)),
-        (
-            Txn::at(0).read_key("k").read(("b", "a")),
-            range(RangeError::Inverted),
-        ),
+        (Txn::at(0).read_key("k").read(("b", "a")), range(RangeError::Inverted)),
     ] {
         assert_eq!(builder.add(&txn), Err(expected));
         assert_eq!(built(&builder), built(&filled(&["a", "b"])));
@@ -66,10 +52,7 @@ fn a_refused_transaction_spoils_nothing() {
 fn what_txn_refused_is_kept() {
     let mut builder = BatchBuilder::new(-1, 100).txn(Txn::at(-1));
     assert_eq!(builder.add(&Txn::at(0)), Ok(()));
-    let refused = BuildError::Snapshot {
-        txn: 0,
-        snapshot: -1,
-    };
+    let refused = BuildError::Snapshot { txn: 0, snapshot: -1 };
     let mut other = filled(&["a"]);
     assert_eq!(other.append(&builder), Err(refused));
     assert_eq!(built(&other), built(&filled(&["a"])));
@@ -128,25 +111,19 @@ fn threads_fill_what_one_appends() {
                     let mut part = BatchBuilder::new(-1, 0);
                     for number in 0..100 {
                         let key = format!("{worker}/{number}");
-                        part.add(&Txn::at(0).write_key(&key))
-                            .expect("it is within the limits");
+                        part.add(&Txn::at(0).write_key(&key)).expect("it is within the limits");
                     }
                     part
                 })
             })
             .collect();
-        workers
-            .into_iter()
-            .map(|worker| worker.join().expect("it doesn't panic"))
-            .collect()
+        workers.into_iter().map(|worker| worker.join().expect("it doesn't panic")).collect()
     });
     let mut builder = BatchBuilder::new(-1, 100);
     for part in &parts {
         builder.append(part).expect("it is within the limits");
     }
-    builder
-        .add(&Txn::at(0).read_key("7/99"))
-        .expect("it is within the limits");
+    builder.add(&Txn::at(0).read_key("7/99")).expect("it is within the limits");
     let mut set = ConflictSet::new(WINDOW, MAX_LIMIT).expect("there is memory");
     let reply = set.resolve(&built(&builder)).expect("it fits");
     assert_eq!(reply.len(), 801);

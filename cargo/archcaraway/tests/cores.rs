@@ -9,9 +9,7 @@ fn core(proxies: usize) -> Core {
 }
 
 fn empty(previous: i64, version: i64) -> Batch {
-    BatchBuilder::new(previous, version)
-        .build()
-        .expect("it is within the limits")
+    BatchBuilder::new(previous, version).build().expect("it is within the limits")
 }
 
 /// Returns the versions of the answers that a proxy is given, with their kind.
@@ -42,13 +40,7 @@ fn numbers_of_a_core() {
 #[test]
 fn batches_that_come_too_early_are_held() {
     let mut core = core(1);
-    for batch in [
-        empty(-1, 0),
-        empty(0, 100),
-        empty(100, 200),
-        empty(150, 300),
-        empty(900, 1000),
-    ] {
+    for batch in [empty(-1, 0), empty(0, 100), empty(100, 200), empty(150, 300), empty(900, 1000)] {
         assert_eq!(core.admit(0, batch), Ok(()));
     }
     assert_eq!(core.finish(), Ok(()));
@@ -72,16 +64,10 @@ fn a_repeat_is_answered_by_the_kept_reply() {
 #[test]
 fn there_is_no_such_proxy() {
     let mut core = core(2);
-    let error = CoreError::Proxy {
-        proxy: 2,
-        proxies: 2,
-    };
+    let error = CoreError::Proxy { proxy: 2, proxies: 2 };
     assert_eq!(core.admit(2, empty(-1, 0)), Err(error));
     assert_eq!(core.give(2), Err(error));
-    let error = CoreError::Proxy {
-        proxy: usize::MAX,
-        proxies: 2,
-    };
+    let error = CoreError::Proxy { proxy: usize::MAX, proxies: 2 };
     assert_eq!(core.give(usize::MAX), Err(error));
     assert_eq!(core.admit(1, empty(-1, 0)), Ok(()));
     assert_eq!(given(&mut core, 1), [('r', 0)]);

@@ -14,26 +14,17 @@ const COMMITTED_AND_CONFLICT: &str = "00000013 02 0000000000000064 0002 02 0000 
 
 fn bytes(hex: &str) -> Vec<u8> {
     let digits: Vec<u8> = hex.bytes().filter(u8::is_ascii_hexdigit).collect();
-    let pairs = digits
-        .chunks(2)
-        .map(|pair| std::str::from_utf8(pair).expect("they are digits"));
-    pairs
-        .map(|pair| u8::from_str_radix(pair, 16).expect("it is a byte"))
-        .collect()
+    let pairs = digits.chunks(2).map(|pair| std::str::from_utf8(pair).expect("they are digits"));
+    pairs.map(|pair| u8::from_str_radix(pair, 16).expect("it is a byte")).collect()
 }
 
 fn one_write(txn: Txn<'_>) -> Batch {
-    BatchBuilder::new(0, 100)
-        .txn(txn)
-        .build()
-        .expect("it is within the limits")
+    BatchBuilder::new(0, 100).txn(txn).build().expect("it is within the limits")
 }
 
 #[test]
 fn batches_as_frames() {
-    let empty = BatchBuilder::new(-1, 0)
-        .build()
-        .expect("it is within the limits");
+    let empty = BatchBuilder::new(-1, 0).build().expect("it is within the limits");
     let empty_2 = EMPTY_BATCH.replacen(" 01 ", " 03 ", 1);
     let write = one_write(Txn::at(0).write(("a", "b")));
     let single = one_write(Txn::at(0).write_key("k"));
@@ -43,10 +34,7 @@ fn batches_as_frames() {
         (&single, None, SINGLE_KEY_2),
     ] {
         assert_eq!(batch.encode(), Ok(bytes(second)));
-        assert_eq!(
-            Batch::decode(&bytes(second)),
-            Ok((batch.clone(), bytes(second).len()))
-        );
+        assert_eq!(Batch::decode(&bytes(second)), Ok((batch.clone(), bytes(second).len())));
         let frame = batch.encode_version_1().expect("it is short");
         assert!(first.is_none_or(|hex| frame == bytes(hex)));
         assert_eq!(Batch::decode(&frame), Ok((batch.clone(), frame.len())));
@@ -68,10 +56,7 @@ fn replies_as_frames() {
     let (reply, length) = Reply::decode(&frame).expect("it is a frame");
     assert_eq!((reply.version(), reply.len(), length), (100, 2, 23));
     assert!(reply.verdicts().eq([Verdict::Committed, Verdict::Conflict]));
-    assert_eq!(
-        (reply.verdict(1), reply.verdict(2)),
-        (Some(Verdict::Conflict), None)
-    );
+    assert_eq!((reply.verdict(1), reply.verdict(2)), (Some(Verdict::Conflict), None));
     assert_eq!(reply.conflicts(0).len(), 0);
     assert!(reply.conflicts(1).eq([0]));
     assert_eq!(reply.conflicts(2).len(), 0);
@@ -91,19 +76,13 @@ fn faults_of_batches() {
         ("00000001 02".into(), WireError::Kind),
         (COMMITTED_AND_CONFLICT.into(), WireError::Kind),
         (empty("0000001b", "0000001c") + "00", WireError::Trailing),
-        (
-            empty("ffffffffffffffff", "fffffffffffffffe"),
-            WireError::Version,
-        ),
+        (empty("ffffffffffffffff", "fffffffffffffffe"), WireError::Version),
         (write("00 0000 0001", "02 0000 0001"), WireError::Marks),
         (write("0000 0001 0001", "0401 0001 0001"), WireError::Count),
         (write("0001 61", "2712 61"), WireError::KeyLength),
         (write("61 0001 62", "62 0001 61"), WireError::Inverted),
         (write_2("00 0001 61", "02 0001 61"), WireError::Form),
-        (
-            "00000030".to_owned() + &write_2("61 0001 62", "6b 0002 6b00")[8..],
-            WireError::Spelling,
-        ),
+        ("00000030".to_owned() + &write_2("61 0001 62", "6b 0002 6b00")[8..], WireError::Spelling),
     ] {
         assert_eq!(Batch::decode(&bytes(&hex)), Err(fault), "{hex}");
     }
@@ -114,10 +93,7 @@ fn faults_of_replies() {
     let reply = |from: &str, to: &str| COMMITTED_AND_CONFLICT.replacen(from, to, 1);
     for (hex, fault) in [
         (EMPTY_BATCH.into(), WireError::Kind),
-        (
-            reply("0000000000000064", "ffffffffffffffff"),
-            WireError::Version,
-        ),
+        (reply("0000000000000064", "ffffffffffffffff"), WireError::Version),
         (reply("02 0000 00", "03 0000 00"), WireError::Kind),
         (reply("0001 0000", "0001 0400"), WireError::Marks),
         (reply("00000013", "00000014") + "00", WireError::Trailing),
@@ -163,14 +139,8 @@ fn frames_of_a_reader() {
     assert_eq!(Batch::read(&b""[..]), Ok(None));
 
     let mut slow = Slow(&input[..81], false, io::ErrorKind::ConnectionReset);
-    assert_eq!(
-        Batch::read(&mut slow).map(|batch| batch.is_some()),
-        Ok(true)
-    );
-    assert_eq!(
-        Batch::read(&mut slow),
-        Err(WireError::Read(io::ErrorKind::ConnectionReset))
-    );
+    assert_eq!(Batch::read(&mut slow).map(|batch| batch.is_some()), Ok(true));
+    assert_eq!(Batch::read(&mut slow), Err(WireError::Read(io::ErrorKind::ConnectionReset)));
 }
 
 /// Returns that it has read more bytes than the buffer has.
@@ -184,14 +154,8 @@ impl Read for Lying {
 
 #[test]
 fn a_reader_that_lies() {
-    assert_eq!(
-        Batch::read(Lying),
-        Err(WireError::Read(io::ErrorKind::InvalidData))
-    );
-    assert_eq!(
-        Reply::read(Lying),
-        Err(WireError::Read(io::ErrorKind::InvalidData))
-    );
+    assert_eq!(Batch::read(Lying), Err(WireError::Read(io::ErrorKind::InvalidData)));
+    assert_eq!(Reply::read(Lying), Err(WireError::Read(io::ErrorKind::InvalidData)));
 }
 
 #[test]
@@ -202,8 +166,5 @@ fn replies_of_a_reader() {
     assert_eq!(read, Reply::decode(&input).ok().map(|(reply, _)| reply));
     assert_eq!(Reply::read(&mut reader), Ok(None));
     let mut slow = Slow(&input[..5], false, io::ErrorKind::TimedOut);
-    assert_eq!(
-        Reply::read(&mut slow),
-        Err(WireError::Read(io::ErrorKind::TimedOut))
-    );
+    assert_eq!(Reply::read(&mut slow), Err(WireError::Read(io::ErrorKind::TimedOut)));
 }

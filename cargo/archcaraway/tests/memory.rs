@@ -28,7 +28,8 @@ fn is_refused() -> bool {
     })
 }
 
-// SAFETY: each call is passed to the system's allocator, or returns null, which means that it failed.
+// SAFETY: each call is passed to the system's allocator, or returns null, which means that it
+// failed.
 unsafe impl GlobalAlloc for Refusing {
     unsafe fn alloc(&self, layout: Layout) -> *mut u8 {
         if is_refused() {
@@ -79,9 +80,7 @@ fn txn() -> Txn<'static> {
 }
 
 fn batch() -> Batch {
-    let batch = BatchBuilder::new(-1, 100)
-        .txn(txn())
-        .txn(Txn::at(0).read_key("k").report());
+    let batch = BatchBuilder::new(-1, 100).txn(txn()).txn(Txn::at(0).read_key("k").report());
     batch.build().expect("it is within the limits")
 }
 
@@ -134,11 +133,7 @@ fn cores() {
         Some(batch) => given.0.admit(1, batch),
         None => Ok(()),
     };
-    each_refusal(
-        || (core(), Some(batch())),
-        admit,
-        CoreError::Stop(Stop::Memory),
-    );
+    each_refusal(|| (core(), Some(batch())), admit, CoreError::Stop(Stop::Memory));
 }
 
 #[test]
@@ -154,12 +149,7 @@ fn shards() {
     let replies = || {
         let clips = points.clip(&batch()).expect("there is memory").into_iter();
         let reply = |batch: &Batch| set().resolve(batch).expect("there is memory");
-        clips
-            .map(|clip| ShardReply {
-                reply: reply(&clip.batch),
-                reads: clip.reads,
-            })
-            .collect()
+        clips.map(|clip| ShardReply { reply: reply(&clip.batch), reads: clip.reads }).collect()
     };
     let sent = batch();
     let combined = |replies: &mut Vec<ShardReply>| combine(&sent, replies.drain(..));

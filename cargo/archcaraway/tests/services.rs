@@ -11,9 +11,7 @@ fn opened(proxies: usize, capacity: usize) -> (Resolver, Vec<Client>) {
 }
 
 fn empty(previous: i64, version: i64) -> Batch {
-    BatchBuilder::new(previous, version)
-        .build()
-        .expect("it is within the limits")
+    BatchBuilder::new(previous, version).build().expect("it is within the limits")
 }
 
 #[test]
@@ -39,34 +37,17 @@ fn turns_in_one_thread() {
     assert_eq!(resolver.turn(), Ok(Turn::Idle));
     assert_eq!(clients[0].try_receive(), Err(TryReceiveError::Empty));
     assert_eq!(clients[0].try_send(empty(-1, 0)), Ok(()));
-    assert_eq!(
-        clients[0].try_send(empty(0, 1)),
-        Err(TrySendError::Full(empty(0, 1)))
-    );
+    assert_eq!(clients[0].try_send(empty(0, 1)), Err(TrySendError::Full(empty(0, 1))));
     assert_eq!(resolver.turn(), Ok(Turn::Took(0)));
-    assert_eq!(
-        (resolver.sent(0), resolver.sent(1), resolver.sent(2)),
-        (1, 0, 0)
-    );
+    assert_eq!((resolver.sent(0), resolver.sent(1), resolver.sent(2)), (1, 0, 0));
     for client in &mut clients {
         client.close();
-        assert_eq!(
-            client.try_send(empty(0, 1)),
-            Err(TrySendError::Closed(empty(0, 1)))
-        );
+        assert_eq!(client.try_send(empty(0, 1)), Err(TrySendError::Closed(empty(0, 1))));
     }
     assert_eq!(resolver.turn(), Ok(Turn::Done));
-    let account = |complete| {
-        Ok(Account {
-            complete,
-            stop: None,
-        })
-    };
+    let account = |complete| Ok(Account { complete, stop: None });
     assert_eq!(resolver.settle(&mut clients), account(false));
-    assert_eq!(
-        clients[0].try_receive().map(|answer| answer.version()),
-        Ok(0)
-    );
+    assert_eq!(clients[0].try_receive().map(|answer| answer.version()), Ok(0));
     assert_eq!(clients[0].try_receive(), Err(TryReceiveError::End));
     assert_eq!((clients[0].sent(), clients[0].received()), (1, 1));
     assert_eq!(resolver.settle(&mut clients), account(true));
@@ -79,26 +60,14 @@ fn clients_that_are_not_the_resolvers() {
     let count = |given| Err(SettleError::Count { given, proxies: 2 });
     assert_eq!(resolver.settle(&mut []), count(0));
     assert_eq!(resolver.settle(&mut clients[..1]), count(1));
-    assert_eq!(
-        resolver.settle(&mut others),
-        Err(SettleError::Client { index: 0 })
-    );
+    assert_eq!(resolver.settle(&mut others), Err(SettleError::Client { index: 0 }));
     std::mem::swap(&mut clients[1], &mut others[1]);
-    assert_eq!(
-        resolver.settle(&mut clients),
-        Err(SettleError::Client { index: 1 })
-    );
+    assert_eq!(resolver.settle(&mut clients), Err(SettleError::Client { index: 1 }));
     std::mem::swap(&mut clients[1], &mut others[1]);
     clients.swap(0, 1);
-    assert_eq!(
-        resolver.settle(&mut clients),
-        Err(SettleError::Client { index: 0 })
-    );
+    assert_eq!(resolver.settle(&mut clients), Err(SettleError::Client { index: 0 }));
     clients.swap(0, 1);
-    assert_eq!(
-        resolver.settle(&mut clients).map(|account| account.stop),
-        Ok(None)
-    );
+    assert_eq!(resolver.settle(&mut clients).map(|account| account.stop), Ok(None));
 }
 
 #[test]
@@ -112,9 +81,7 @@ fn threads_that_send_before_they_receive() {
             let versions = (0..EACH).map(|turn| PROXIES * turn + client.proxy() as i64);
             let versions: Vec<i64> = versions.collect();
             for version in &versions {
-                client
-                    .send(empty(version - 1, *version))
-                    .expect("the resolver runs");
+                client.send(empty(version - 1, *version)).expect("the resolver runs");
             }
             client.close();
             let answers = std::iter::from_fn(|| client.receive());
@@ -123,16 +90,11 @@ fn threads_that_send_before_they_receive() {
         })
     });
     let sending: Vec<_> = sending.collect();
-    let clients = sending
-        .into_iter()
-        .map(|thread| thread.join().expect("it ends"));
+    let clients = sending.into_iter().map(|thread| thread.join().expect("it ends"));
     let mut clients: Vec<_> = clients.collect();
     let (ran, mut resolver) = turning.join().expect("it ends");
     assert_eq!(ran, Ok(()));
-    let account = Account {
-        complete: true,
-        stop: None,
-    };
+    let account = Account { complete: true, stop: None };
     assert_eq!(resolver.settle(&mut clients), Ok(account));
 }
 
@@ -143,17 +105,12 @@ fn a_client_that_is_dropped_keeps_nobody_waiting() {
         let turning = scope.spawn(move || resolver.run());
         let mut dropped = clients.remove(0);
         for version in 0..10 {
-            dropped
-                .send(empty(version - 1, version))
-                .expect("the resolver runs");
+            dropped.send(empty(version - 1, version)).expect("the resolver runs");
         }
         drop(dropped);
         clients[0].send(empty(9, 10)).expect("the resolver runs");
         clients[0].close();
-        assert_eq!(
-            clients[0].receive().map(|answer| answer.version()),
-            Some(10)
-        );
+        assert_eq!(clients[0].receive().map(|answer| answer.version()), Some(10));
         assert_eq!(clients[0].receive(), None);
         assert_eq!(turning.join().expect("it ends"), Ok(()));
     });
@@ -166,14 +123,8 @@ fn a_resolver_that_is_dropped_keeps_nobody_waiting() {
     assert_eq!(resolver.turn(), Ok(Turn::Took(0)));
     clients[0].send(empty(0, 1)).expect("there is room");
     drop(resolver);
-    assert_eq!(
-        clients[0].send(empty(1, 2)),
-        Err(TrySendError::Disconnected(empty(1, 2)))
-    );
-    assert_eq!(
-        clients[0].try_receive().map(|answer| answer.version()),
-        Ok(0)
-    );
+    assert_eq!(clients[0].send(empty(1, 2)), Err(TrySendError::Disconnected(empty(1, 2))));
+    assert_eq!(clients[0].try_receive().map(|answer| answer.version()), Ok(0));
     assert_eq!(clients[0].try_receive(), Err(TryReceiveError::Disconnected));
     assert_eq!(clients[0].receive(), None);
 }
@@ -193,9 +144,6 @@ fn a_stop_keeps_nobody_waiting() {
         assert_eq!(clients[0].receive(), None);
         assert_eq!(turning.join().expect("it ends"), Err(Stop::ArenaFull));
     });
-    let account = Account {
-        complete: false,
-        stop: Some(Stop::ArenaFull),
-    };
+    let account = Account { complete: false, stop: Some(Stop::ArenaFull) };
     assert_eq!(resolver.settle(&mut clients), Ok(account));
 }

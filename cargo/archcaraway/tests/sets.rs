@@ -16,22 +16,14 @@ fn numbers_of_a_set() {
         (1, 0, Err(NewError::Limit(0))),
         (1, MAX_LIMIT + 1, Err(NewError::Limit(16_777_217))),
     ] {
-        assert_eq!(
-            ConflictSet::new(window, limit).map(|_| ()),
-            expected,
-            "{window} {limit}"
-        );
+        assert_eq!(ConflictSet::new(window, limit).map(|_| ()), expected, "{window} {limit}");
     }
 }
 
 #[test]
 fn a_version_that_is_not_above_the_last() {
     let mut set = ConflictSet::new(WINDOW, MAX_LIMIT).expect("the numbers are right");
-    let batch = |version| {
-        BatchBuilder::new(-1, version)
-            .build()
-            .expect("it is within the limits")
-    };
+    let batch = |version| BatchBuilder::new(-1, version).build().expect("it is within the limits");
     assert_eq!(set.version(), -1);
     assert!(set.resolve(&batch(100)).is_ok());
     for version in [100, 99, 0] {
@@ -39,10 +31,7 @@ fn a_version_that_is_not_above_the_last() {
         assert_eq!(set.resolve(&batch(version)), Err(error));
     }
     assert!(set.resolve(&batch(101)).is_ok());
-    assert_eq!(
-        (set.version(), set.boundaries(), set.stop()),
-        (101, 1, None)
-    );
+    assert_eq!((set.version(), set.boundaries(), set.stop()), (101, 1, None));
 }
 
 #[test]
@@ -57,10 +46,7 @@ fn a_stop_is_final() {
     assert_eq!(set.resolve(&write(200, "m")), stopped);
     assert_eq!(set.resolve(&write(300, "k")), stopped);
     assert_eq!(set.resolve(&write(1, "k")), stopped);
-    assert_eq!(
-        (set.version(), set.boundaries(), set.stop()),
-        (100, 3, Some(Stop::ArenaFull))
-    );
+    assert_eq!((set.version(), set.boundaries(), set.stop()), (100, 3, Some(Stop::ArenaFull)));
 }
 
 #[test]
@@ -73,18 +59,12 @@ fn a_batch_that_does_not_fit_is_refused() {
     assert!(set.try_resolve(&write(100, "k")).is_ok());
     for _ in 0..2 {
         assert_eq!(set.try_resolve(&write(200, "m")), Err(ResolveError::Full));
-        assert_eq!(
-            (set.version(), set.edge(), set.boundaries(), set.stop()),
-            (100, 0, 3, None)
-        );
+        assert_eq!((set.version(), set.edge(), set.boundaries(), set.stop()), (100, 0, 3, None));
     }
     // The set still remembers the write at 100, and takes a batch that needs no boundary.
     let read = BatchBuilder::new(-1, 200).txn(Txn::at(99).read_key("k"));
     let reply = set.try_resolve(&read.build().expect("it is within the limits"));
-    assert_eq!(
-        reply.expect("it fits").verdict(0),
-        Some(Verdict::Conflict)
-    );
+    assert_eq!(reply.expect("it fits").verdict(0), Some(Verdict::Conflict));
     // Later the window has moved, and the write at 100 makes room.
     assert!(set.try_resolve(&write(101 + WINDOW, "m")).is_ok());
     assert_eq!(set.boundaries(), 3);
@@ -120,8 +100,7 @@ impl Scan {
             judged
         });
         let verdicts = verdicts.collect();
-        self.writes
-            .extend(committed.into_iter().map(|keys| (keys, version)));
+        self.writes.extend(committed.into_iter().map(|keys| (keys, version)));
         verdicts
     }
 
@@ -130,14 +109,10 @@ impl Scan {
             return (Verdict::TooOld, Vec::new());
         }
         let hits = |read: &Keys| {
-            self.writes
-                .iter()
-                .any(|(write, at)| *at > txn.snapshot && overlap(read, write))
+            self.writes.iter().any(|(write, at)| *at > txn.snapshot && overlap(read, write))
         };
         let meets = |read: &Keys| committed.iter().any(|write| overlap(read, write));
-        let mut places: Vec<_> = (0..txn.reads.len())
-            .filter(|at| hits(&txn.reads[*at]))
-            .collect();
+        let mut places: Vec<_> = (0..txn.reads.len()).filter(|at| hits(&txn.reads[*at])).collect();
         if places.is_empty() {
             places.extend(txn.reads.iter().position(meets));
         }
@@ -165,9 +140,7 @@ impl Random {
     }
 
     fn key(&mut self) -> Vec<u8> {
-        (0..self.below(4))
-            .map(|_| [0, b'a', b'b', 255][self.below(4) as usize])
-            .collect()
+        (0..self.below(4)).map(|_| [0, b'a', b'b', 255][self.below(4) as usize]).collect()
     }
 
     fn range(&mut self) -> Keys {
@@ -194,19 +167,13 @@ fn random_batches_beside_a_plain_scan() {
     for seed in 1..=8 {
         let mut random = Random(0x9e37_79b9_7f4a_7c15 + seed);
         let mut set = ConflictSet::new(200, 1_000).expect("the numbers are right");
-        let mut scan = Scan {
-            window: 200,
-            writes: Vec::new(),
-        };
+        let mut scan = Scan { window: 200, writes: Vec::new() };
         let (mut previous, mut version) = (-1, 0);
         for _ in 0..150 {
             let txns: Vec<_> = (0..random.below(8)).map(|_| random.txn(version)).collect();
             let batch = BatchBuilder::new(previous, version).txns(txns.iter().map(|judged| {
                 let txn = Txn::at(judged.snapshot);
-                let txn = judged
-                    .reads
-                    .iter()
-                    .fold(txn, |txn, (begin, end)| txn.read((begin, end)));
+                let txn = judged.reads.iter().fold(txn, |txn, (begin, end)| txn.read((begin, end)));
                 let writes = judged.writes.iter();
                 let txn = writes.fold(txn, |txn, (begin, end)| txn.write((begin, end)));
                 if judged.report { txn.report() } else { txn }
@@ -215,15 +182,8 @@ fn random_batches_beside_a_plain_scan() {
             let reply = reply.expect("there is room");
             let expected = scan.resolve(version, &txns);
             let conflicts = |index| reply.conflicts(index).collect::<Vec<_>>();
-            let found = reply
-                .verdicts()
-                .enumerate()
-                .map(|(at, verdict)| (verdict, conflicts(at)));
-            assert_eq!(
-                found.collect::<Vec<_>>(),
-                expected,
-                "seed {seed}, version {version}"
-            );
+            let found = reply.verdicts().enumerate().map(|(at, verdict)| (verdict, conflicts(at)));
+            assert_eq!(found.collect::<Vec<_>>(), expected, "seed {seed}, version {version}");
             for (verdict, _) in expected {
                 seen[verdict as usize] += 1;
             }
@@ -231,8 +191,5 @@ fn random_batches_beside_a_plain_scan() {
             version += 1 + random.below(40) as i64;
         }
     }
-    assert!(
-        seen.iter().all(|count| *count > 100),
-        "each verdict is common: {seen:?}"
-    );
+    assert!(seen.iter().all(|count| *count > 100), "each verdict is common: {seen:?}");
 }

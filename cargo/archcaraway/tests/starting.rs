@@ -8,9 +8,7 @@ use archcaraway::{
 const START: i64 = 1_000_000_000;
 
 fn batch<'a>(previous: i64, version: i64, txns: impl IntoIterator<Item = Txn<'a>>) -> Batch {
-    let builder = txns
-        .into_iter()
-        .fold(BatchBuilder::new(previous, version), BatchBuilder::txn);
+    let builder = txns.into_iter().fold(BatchBuilder::new(previous, version), BatchBuilder::txn);
     builder.build().expect("it is within the limits")
 }
 
@@ -38,9 +36,7 @@ fn reads_below_the_first_version_conflict() {
         Txn::at(900).write_key("k"),
     ];
     use Verdict::{Committed, Conflict};
-    let expected = [
-        Conflict, Conflict, Conflict, Committed, Committed, Committed, Committed,
-    ];
+    let expected = [Conflict, Conflict, Conflict, Committed, Committed, Committed, Committed];
     assert_eq!(verdicts(&mut set, 1_001, txns), expected);
     let later = [Txn::at(1_000).read_key("k"), Txn::at(1_001).read_key("k")];
     assert_eq!(verdicts(&mut set, 1_002, later), [Conflict, Committed]);
@@ -50,19 +46,11 @@ fn reads_below_the_first_version_conflict() {
 fn the_history_leaves_with_the_window() {
     let mut set = ConflictSet::new_at(10, MAX_LIMIT, 1_000).expect("the numbers are right");
     assert_eq!(set.edge(), 990);
-    let old = verdicts(
-        &mut set,
-        1_009,
-        [Txn::at(998).read_key("k"), Txn::at(999).read_key("k")],
-    );
+    let old = verdicts(&mut set, 1_009, [Txn::at(998).read_key("k"), Txn::at(999).read_key("k")]);
     assert_eq!(old, [Verdict::TooOld, Verdict::Conflict]);
     for version in 1_011..1_020 {
         let fresh = verdicts(&mut set, version, [Txn::at(1_001).read_key("k")]);
-        let expected = if version < 1_012 {
-            Verdict::Committed
-        } else {
-            Verdict::TooOld
-        };
+        let expected = if version < 1_012 { Verdict::Committed } else { Verdict::TooOld };
         assert_eq!(fresh, [expected], "{version}");
     }
     assert_eq!(set.boundaries(), 1);
@@ -72,15 +60,9 @@ fn the_history_leaves_with_the_window() {
 fn minus_one_is_the_start_of_a_new_set() {
     let mut set = ConflictSet::new_at(WINDOW, 1, -1).expect("the numbers are right");
     assert_eq!((set.version(), set.boundaries(), set.limit()), (-1, 1, 1));
-    assert_eq!(
-        verdicts(&mut set, 0, [Txn::at(0).read_key("k")]),
-        [Verdict::Committed]
-    );
+    assert_eq!(verdicts(&mut set, 0, [Txn::at(0).read_key("k")]), [Verdict::Committed]);
     let mut set = ConflictSet::new_at(WINDOW, MAX_LIMIT, 0).expect("the numbers are right");
-    assert_eq!(
-        verdicts(&mut set, 1, [Txn::at(0).read_key("k")]),
-        [Verdict::Committed]
-    );
+    assert_eq!(verdicts(&mut set, 1, [Txn::at(0).read_key("k")]), [Verdict::Committed]);
 }
 
 #[test]
@@ -110,10 +92,7 @@ fn numbers_of_a_start() {
 #[test]
 fn a_core_takes_the_batch_after_its_first_version() {
     let mut core = Core::new_at(2, WINDOW, MAX_LIMIT, START).expect("the numbers are right");
-    assert_eq!(
-        (core.version(), core.held(), core.owed(), core.next()),
-        (START, 0, 0, None)
-    );
+    assert_eq!((core.version(), core.held(), core.owed(), core.next()), (START, 0, 0, None));
     let read = |snapshot| Txn::at(snapshot).read_key("k");
     for (proxy, batch) in [
         (0, batch(-1, START, [])),
@@ -124,10 +103,7 @@ fn a_core_takes_the_batch_after_its_first_version() {
     ] {
         assert_eq!(core.admit(proxy, batch), Ok(()));
     }
-    assert_eq!(
-        (core.version(), core.held(), core.owed(), core.next()),
-        (START + 2, 1, 4, Some(0))
-    );
+    assert_eq!((core.version(), core.held(), core.owed(), core.next()), (START + 2, 1, 4, Some(0)));
     let given = |core: &mut Core, proxy| core.give(proxy).expect("there is such a proxy");
     assert_eq!(given(&mut core, 0), Some(Answer::Never(START)));
     assert_eq!(given(&mut core, 0), Some(Answer::Never(START + 5)));
@@ -195,9 +171,8 @@ fn minus_one_is_the_start_of_a_new_resolver() {
 fn a_start_commits_nothing_that_the_history_would_not() {
     let mut state = 7_u64;
     let mut below = |limit: u64| {
-        state = state
-            .wrapping_mul(6_364_136_223_846_793_005)
-            .wrapping_add(1_442_695_040_888_963_407);
+        state =
+            state.wrapping_mul(6_364_136_223_846_793_005).wrapping_add(1_442_695_040_888_963_407);
         (state >> 33) % limit
     };
     for _ in 0..200 {
@@ -215,11 +190,7 @@ fn a_start_commits_nothing_that_the_history_would_not() {
             let txn = || Txn::at(snapshot).read_key(&read);
             let by_start = verdicts(&mut started, version, [txn()])[0];
             let by_history = verdicts(&mut known, version, [txn()])[0];
-            let expected = if snapshot < 99 {
-                Verdict::Conflict
-            } else {
-                by_history
-            };
+            let expected = if snapshot < 99 { Verdict::Conflict } else { by_history };
             assert_eq!(by_start, expected, "{snapshot}");
             assert!(by_start != Verdict::Committed || by_history == Verdict::Committed);
         }

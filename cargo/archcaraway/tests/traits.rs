@@ -69,52 +69,26 @@ const _: () = {
 fn texts_of_errors() {
     let errors: [(Box<dyn Error>, &str); 11] = [
         (
-            BuildError::Range {
-                txn: 3,
-                error: RangeError::Inverted,
-            }
-            .into(),
+            BuildError::Range { txn: 3, error: RangeError::Inverted }.into(),
             "transaction 3: begin key is after end key",
         ),
         (
-            BuildError::Version {
-                previous: 5,
-                version: 4,
-            }
-            .into(),
+            BuildError::Version { previous: 5, version: 4 }.into(),
             "version 4 is not above previous version 5",
         ),
         (
-            RangeError::KeyLength {
-                length: 10_002,
-                limit: 10_001,
-            }
-            .into(),
+            RangeError::KeyLength { length: 10_002, limit: 10_001 }.into(),
             "key of 10002 bytes is longer than 10001 bytes",
         ),
+        (NewError::Window(0).into(), "window 0 is not 1 to 1099511627776"),
         (
-            NewError::Window(0).into(),
-            "window 0 is not 1 to 1099511627776",
-        ),
-        (
-            ResolveError::Version {
-                version: 7,
-                last: 8,
-            }
-            .into(),
+            ResolveError::Version { version: 7, last: 8 }.into(),
             "version 7 is not above 8, which was resolved last",
         ),
         (ResolveError::from(Stop::Memory).into(), "allocation failed"),
+        (ResolveError::Full.into(), "the batch needs more boundaries than the limit"),
         (
-            ResolveError::Full.into(),
-            "the batch needs more boundaries than the limit",
-        ),
-        (
-            CoreError::Proxy {
-                proxy: 2,
-                proxies: 2,
-            }
-            .into(),
+            CoreError::Proxy { proxy: 2, proxies: 2 }.into(),
             "proxy 2 is not one of 2, numbered from 0",
         ),
         (
@@ -122,10 +96,7 @@ fn texts_of_errors() {
             "client at index 1 is not the resolver's client of that number",
         ),
         (TryReceiveError::Empty.into(), "no answer is there"),
-        (
-            WireError::Read(ErrorKind::ConnectionReset).into(),
-            "reader failed: connection reset",
-        ),
+        (WireError::Read(ErrorKind::ConnectionReset).into(), "reader failed: connection reset"),
     ];
     for (error, text) in errors {
         assert_eq!(error.to_string(), text);

@@ -1,5 +1,5 @@
-//! How many bytes a set frees when it is trimmed and how many it reports, beside those of the allocator,
-//! and that a refused allocation changes nothing.
+//! How many bytes a set frees when it is trimmed and how many it reports, beside those of the
+//! allocator, and that a refused allocation changes nothing.
 
 use archcaraway::{Batch, BatchBuilder, ConflictSet, Core, MAX_LIMIT, TrimError, Txn, Verdict};
 use std::alloc::{GlobalAlloc, Layout, System};
@@ -21,7 +21,8 @@ fn is_refused() -> bool {
     left == 0
 }
 
-// SAFETY: each call is passed to the system's allocator, or returns null, which means that it failed.
+// SAFETY: each call is passed to the system's allocator, or returns null, which means that it
+// failed.
 unsafe impl GlobalAlloc for Counting {
     unsafe fn alloc(&self, layout: Layout) -> *mut u8 {
         if is_refused() {
@@ -76,7 +77,8 @@ fn swept() -> ConflictSet {
     assert_eq!(set.boundaries(), 2 * BATCHES as usize * WRITES + 1);
     let mut version = 2 * WINDOW;
     while set.boundaries() > 9 {
-        set.resolve(&batch(version, [Txn::at(version - 1).write_key("k")])).expect("memory is ample");
+        set.resolve(&batch(version, [Txn::at(version - 1).write_key("k")]))
+            .expect("memory is ample");
         version += 1;
     }
     set

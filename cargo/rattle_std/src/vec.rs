@@ -59,10 +59,7 @@ impl<T, A> Vec<T, A> {
 
     /// Sorts the items. Equal items stay in order. Rust's own sort ends the process if memory is
     /// refused.
-    pub fn sort_by(
-        &mut self,
-        compare: impl FnMut(&T, &T) -> Ordering,
-    ) -> Result<(), AllocError> {
+    pub fn sort_by(&mut self, compare: impl FnMut(&T, &T) -> Ordering) -> Result<(), AllocError> {
         self.0.sort_by(compare);
         Ok(())
     }

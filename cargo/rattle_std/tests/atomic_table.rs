@@ -1,4 +1,5 @@
-//! Words and slots between threads, used as `lane` uses them: a word says which thread may use a slot.
+//! Words and slots between threads, used as `lane` uses them: a word says which thread may use a
+//! slot.
 
 use rattle_std::alloc::Global;
 use rattle_std::atomic_table::{Seat, Shared, Table};
@@ -31,10 +32,19 @@ fn table(words: usize, slots: usize) -> (Slots, Token) {
 }
 
 fn count(most: u64) -> u64 {
-    std::env::var("ARCHCARAWAY_COUNT").ok().and_then(|value| value.parse().ok()).unwrap_or(u64::MAX).min(most)
+    std::env::var("ARCHCARAWAY_COUNT")
+        .ok()
+        .and_then(|value| value.parse().ok())
+        .unwrap_or(u64::MAX)
+        .min(most)
 }
 
-fn wait_for(shared: &Shared<Option<Counted>, ()>, seat: &mut Token, word: usize, is_there: impl Fn(u64) -> bool) {
+fn wait_for(
+    shared: &Shared<Option<Counted>, ()>,
+    seat: &mut Token,
+    word: usize,
+    is_there: impl Fn(u64) -> bool,
+) {
     let mut tries = 0;
     while !is_there(shared.load::<()>(seat, word)) {
         tries += 1;
@@ -62,7 +72,10 @@ fn in_one_hand() {
         assert_eq!(shared.load::<()>(&mut seat, word), 7);
         shared.store::<()>(&mut seat, word, u64::MAX - word as u64);
     }
-    assert_eq!((0..3).map(|word| shared.load::<()>(&mut seat, word)).collect::<Vec<_>>(), [u64::MAX, u64::MAX - 1, u64::MAX - 2]);
+    assert_eq!(
+        (0..3).map(|word| shared.load::<()>(&mut seat, word)).collect::<Vec<_>>(),
+        [u64::MAX, u64::MAX - 1, u64::MAX - 2]
+    );
     let mut other = shared.split_seat::<()>(&mut seat);
     for slot in 0..4 {
         assert!(shared.exchange(&mut seat, slot, Some(Counted::new(slot as u64))).is_none());
@@ -87,7 +100,11 @@ fn ring_between_threads(slots: u64, items: u64) {
         let sender = scope.spawn(move || {
             for number in 0..items {
                 wait_for(shared, &mut sends, 0, |taken| number - taken < slots);
-                let before = shared.exchange(&mut sends, (number % slots) as usize, Some(Counted::new(number)));
+                let before = shared.exchange(
+                    &mut sends,
+                    (number % slots) as usize,
+                    Some(Counted::new(number)),
+                );
                 assert!(before.is_none());
                 shared.store::<()>(&mut sends, 1, number + 1);
             }

@@ -1,4 +1,5 @@
-//! Command lines of the shapes that the programs have: options and files, subcommands, and arguments that are all wanted.
+//! Command lines of the shapes that the programs have: options and files, subcommands, and
+//! arguments that are all wanted.
 
 use rattle_std::alloc::Global;
 use rattle_std::clap::builder::ValueParser;
@@ -7,11 +8,19 @@ use rattle_std::clap::{Arg, ArgAction, ArgMatches, Command};
 use rattle_std::string::String as Word;
 
 fn words(given: &str) -> Vec<Word> {
-    std::iter::once("program").chain(given.split_whitespace()).map(|word| Word::from(word.to_owned())).collect()
+    std::iter::once("program")
+        .chain(given.split_whitespace())
+        .map(|word| Word::from(word.to_owned()))
+        .collect()
 }
 
 fn number<'a>(name: &'a str, default: &'a str, parser: ValueParser<'a>) -> Arg<'a> {
-    Arg::new(Global, name).long(name).value_name("N").default_value(default).value_parser(parser).help("A number")
+    Arg::new(Global, name)
+        .long(name)
+        .value_name("N")
+        .default_value(default)
+        .value_parser(parser)
+        .help("A number")
 }
 
 fn flag<'a>(name: &'a str) -> Arg<'a> {
@@ -20,7 +29,8 @@ fn flag<'a>(name: &'a str) -> Arg<'a> {
 
 /// As `replay` has it.
 fn replay() -> Command<'static> {
-    let check = Arg::new(Global, "check").long("check").value_name("REPLIES").action(ArgAction::Append);
+    let check =
+        Arg::new(Global, "check").long("check").value_name("REPLIES").action(ArgAction::Append);
     let file = Arg::new(Global, "FILE").action(ArgAction::Append).required(true);
     let arguments = [
         number("capacity", "16", ValueParser::unsigned(1, 1_024)),
@@ -31,16 +41,35 @@ fn replay() -> Command<'static> {
         check,
         file,
     ];
-    let command = Command::new(Global, "replay").version("1.2.3").about("Replays").after_long_help("Example: replay f");
+    let command = Command::new(Global, "replay")
+        .version("1.2.3")
+        .about("Replays")
+        .after_long_help("Example: replay f");
     arguments.into_iter().fold(command, |command, argument| command.arg(argument).unwrap())
 }
 
 /// As `batches` has it.
 fn batches() -> Command<'static> {
     let file = || Arg::new(Global, "FILE").help("The file to read");
-    let encode = Command::new(Global, "encode").about("Encodes").arg(flag("replies")).unwrap().arg(file()).unwrap();
-    let show = Command::new(Global, "show").about("Shows").arg(flag("replies")).unwrap().arg(flag("full")).unwrap().arg(file()).unwrap();
-    let command = Command::new(Global, "batches").version("1.2.3").about("Converts").subcommand_required(true).arg_required_else_help(true);
+    let encode = Command::new(Global, "encode")
+        .about("Encodes")
+        .arg(flag("replies"))
+        .unwrap()
+        .arg(file())
+        .unwrap();
+    let show = Command::new(Global, "show")
+        .about("Shows")
+        .arg(flag("replies"))
+        .unwrap()
+        .arg(flag("full"))
+        .unwrap()
+        .arg(file())
+        .unwrap();
+    let command = Command::new(Global, "batches")
+        .version("1.2.3")
+        .about("Converts")
+        .subcommand_required(true)
+        .arg_required_else_help(true);
     command.subcommand(encode).unwrap().subcommand(show).unwrap()
 }
 
@@ -48,17 +77,26 @@ fn batches() -> Command<'static> {
 fn workload() -> Command<'static> {
     let word = |name| Arg::new(Global, name).required(true);
     let command = Command::new(Global, "workload").version("1.2.3");
-    ["SHAPE", "BATCHES", "TRANSACTIONS"].into_iter().fold(command, |command, name| command.arg(word(name)).unwrap())
+    ["SHAPE", "BATCHES", "TRANSACTIONS"]
+        .into_iter()
+        .fold(command, |command, name| command.arg(word(name)).unwrap())
 }
 
 /// Writes the matches of `replay`.
 fn shown(matches: &ArgMatches<'_>) -> String {
     let number = |name| matches.get_one::<u64>(name).expect("it has a default");
-    let strings = |name| matches.get_strs(name).map_or("none".to_owned(), |strings| strings.join("+"));
+    let strings =
+        |name| matches.get_strs(name).map_or("none".to_owned(), |strings| strings.join("+"));
     let window: i64 = matches.get_one("window").expect("it has a default");
     assert_eq!(matches.get_one("frames"), Some(matches.get_flag("frames")));
     let flags = (matches.get_flag("frames"), matches.get_flag("json"));
-    format!("{} {window} {} {flags:?} {} {}", number("capacity"), number("limit"), strings("check"), strings("FILE"))
+    format!(
+        "{} {window} {} {flags:?} {} {}",
+        number("capacity"),
+        number("limit"),
+        strings("check"),
+        strings("FILE")
+    )
 }
 
 fn kind_of(command: &Command<'_>, given: &str) -> ErrorKind {
@@ -75,7 +113,13 @@ fn kind_of(command: &Command<'_>, given: &str) -> ErrorKind {
 
 fn text_of(command: &Command<'_>, given: &str) -> String {
     let words = words(given);
-    command.try_get_matches_from(&words).expect_err("it is no run").to_string(Global).unwrap().as_str().to_owned()
+    command
+        .try_get_matches_from(&words)
+        .expect_err("it is no run")
+        .to_string(Global)
+        .unwrap()
+        .as_str()
+        .to_owned()
 }
 
 #[test]
@@ -84,7 +128,10 @@ fn options_and_files() {
         ("a", "16 5000000 1000000 (false, false) none a"),
         ("b a b", "16 5000000 1000000 (false, false) none b+a+b"),
         ("--capacity 1 --window=1 a --frames b --limit 1", "1 1 1 (true, false) none a+b"),
-        ("--capacity=1024 --window 1099511627776 --limit 16777216 a", "1024 1099511627776 16777216 (false, false) none a"),
+        (
+            "--capacity=1024 --window 1099511627776 --limit 16777216 a",
+            "1024 1099511627776 16777216 (false, false) none a",
+        ),
         ("--json --frames a", "16 5000000 1000000 (true, true) none a"),
         ("--check r a b --check=s", "16 5000000 1000000 (false, false) r+s a+b"),
         ("--check=a=b c=d", "16 5000000 1000000 (false, false) a=b c=d"),
@@ -93,22 +140,34 @@ fn options_and_files() {
         ("--check - -", "16 5000000 1000000 (false, false) - -"),
         // Nothing after two hyphens is an option.
         ("-- --frames", "16 5000000 1000000 (false, false) none --frames"),
-        ("a -- -- -x -h --capacity=0", "16 5000000 1000000 (false, false) none a+--+-x+-h+--capacity=0"),
+        (
+            "a -- -- -x -h --capacity=0",
+            "16 5000000 1000000 (false, false) none a+--+-x+-h+--capacity=0",
+        ),
         ("--capacity 007 a", "7 5000000 1000000 (false, false) none a"),
     ] {
         let words = words(given);
-        assert_eq!(shown(&replay().try_get_matches_from(&words).expect(given)), expected, "{given}");
+        assert_eq!(
+            shown(&replay().try_get_matches_from(&words).expect(given)),
+            expected,
+            "{given}"
+        );
     }
 }
 
 #[test]
 fn options_of_one_letter() {
     let page = Arg::new(Global, "output").short('o').long("output").value_name("PAGE");
-    let command = Command::new(Global, "report").arg(page).unwrap().arg(Arg::new(Global, "FILE")).unwrap();
+    let command =
+        Command::new(Global, "report").arg(page).unwrap().arg(Arg::new(Global, "FILE")).unwrap();
     for given in ["-o page f", "-opage f", "f -o=page", "--output page f", "f --output=page"] {
         let words = words(given);
         let matches = command.try_get_matches_from(&words).expect(given);
-        assert_eq!((matches.get_str("output"), matches.get_str("FILE")), (Some("page"), Some("f")), "{given}");
+        assert_eq!(
+            (matches.get_str("output"), matches.get_str("FILE")),
+            (Some("page"), Some("f")),
+            "{given}"
+        );
     }
     for (given, kind) in [
         ("f -o", ErrorKind::WrongNumberOfValues),
@@ -137,7 +196,10 @@ fn refused_options() {
         ("--capacity 1.0 f", ErrorKind::ValueValidation),
         ("--capacity 0x10 f", ErrorKind::ValueValidation),
         ("--capacity 1_0 f", ErrorKind::ValueValidation),
-        ("--capacity 99999999999999999999999999999999999999999999999999 f", ErrorKind::ValueValidation),
+        (
+            "--capacity 99999999999999999999999999999999999999999999999999 f",
+            ErrorKind::ValueValidation,
+        ),
         ("--window 0 f", ErrorKind::ValueValidation),
         ("--window 1099511627777 f", ErrorKind::ValueValidation),
         ("--limit 16777217 f", ErrorKind::ValueValidation),
@@ -186,7 +248,11 @@ fn subcommands() {
         let (words, command) = (words(given), batches());
         let matches = command.try_get_matches_from(&words).expect(given);
         let (found, inner) = matches.subcommand().expect(given);
-        assert_eq!((found, inner.get_flag("replies"), inner.get_str("FILE")), (name, replies, file), "{given}");
+        assert_eq!(
+            (found, inner.get_flag("replies"), inner.get_str("FILE")),
+            (name, replies, file),
+            "{given}"
+        );
         assert!(!inner.get_flag("full") && inner.subcommand().is_none());
     }
     let (words, command) = (words("show --full"), batches());
@@ -226,13 +292,22 @@ fn wanted_arguments() {
     let given = words("points 3 -- -4");
     let matches = workload();
     let matches = matches.try_get_matches_from(&given).unwrap();
-    let values: Vec<_> = ["SHAPE", "BATCHES", "TRANSACTIONS"].iter().map(|name| matches.get_str(name)).collect();
+    let values: Vec<_> =
+        ["SHAPE", "BATCHES", "TRANSACTIONS"].iter().map(|name| matches.get_str(name)).collect();
     assert_eq!(values, [Some("points"), Some("3"), Some("-4")]);
     assert_eq!(
-        (matches.get_one::<u64>("BATCHES"), matches.get_one::<u64>("SHAPE"), matches.get_one::<i64>("TRANSACTIONS")),
+        (
+            matches.get_one::<u64>("BATCHES"),
+            matches.get_one::<u64>("SHAPE"),
+            matches.get_one::<i64>("TRANSACTIONS")
+        ),
         (Some(3), None, Some(-4))
     );
-    assert!(matches.get_str("OTHER").is_none() && matches.get_strs("OTHER").is_none() && !matches.get_flag("OTHER"));
+    assert!(
+        matches.get_str("OTHER").is_none()
+            && matches.get_strs("OTHER").is_none()
+            && !matches.get_flag("OTHER")
+    );
     for (given, kind) in [
         ("", ErrorKind::MissingRequiredArgument),
         ("points 3", ErrorKind::MissingRequiredArgument),

@@ -69,7 +69,16 @@ fn lines_of_readers() {
         (vec![gives(b"a\nb")], "a\n|b|"),
         (vec![gives(b"\n\n")], "\n|\n|"),
         (vec![gives(b"a"), gives(b"b"), gives(b"\nc")], "ab\n|c|"),
-        (vec![gives(b"a"), Step::Fails(ErrorKind::Interrupted), gives(b"\n"), Step::Fails(ErrorKind::Interrupted), gives(b"b")], "a\n|b|"),
+        (
+            vec![
+                gives(b"a"),
+                Step::Fails(ErrorKind::Interrupted),
+                gives(b"\n"),
+                Step::Fails(ErrorKind::Interrupted),
+                gives(b"b"),
+            ],
+            "a\n|b|",
+        ),
         (vec![Step::Fails(ErrorKind::Interrupted)], ""),
         // What came before an error stays in the line, and what comes after it may still be read.
         (vec![gives(b"a\nbc"), Step::Fails(ErrorKind::Other), gives(b"d\n")], "a\n|bc!Other|d\n|"),
@@ -83,7 +92,10 @@ fn lines_of_readers() {
 #[test]
 fn long_line_in_pieces() {
     let line = [vec![b'x'; 100_000], vec![b'\n']].concat();
-    let steps: std::vec::Vec<_> = line.chunks(977).flat_map(|piece| [Step::Fails(ErrorKind::Interrupted), gives(piece)]).collect();
+    let steps: std::vec::Vec<_> = line
+        .chunks(977)
+        .flat_map(|piece| [Step::Fails(ErrorKind::Interrupted), gives(piece)])
+        .collect();
     let mut out = Vec::new(Global);
     let mut reader = reader(&steps);
     out.extend_from_slice(b"before").unwrap();
@@ -154,7 +166,8 @@ impl Write for Few {
     }
 }
 
-/// Whatever fails, an error is returned by a write or by the flush, and a prefix of the bytes is written.
+/// Whatever fails, an error is returned by a write or by the flush, and a prefix of the bytes is
+/// written.
 #[test]
 fn buffered_writer_that_fails() {
     let bytes: std::vec::Vec<u8> = (0..20_000_u32).map(|number| (number * 7) as u8).collect();
@@ -162,7 +175,10 @@ fn buffered_writer_that_fails() {
         for piece in [1, 100, 5_000, 20_000] {
             let few = Few::new(most);
             let mut writer = BufWriter::new(Global, few.clone()).unwrap();
-            let written = bytes.chunks(piece).try_for_each(|piece| writer.write_all(piece)).and_then(|()| writer.flush());
+            let written = bytes
+                .chunks(piece)
+                .try_for_each(|piece| writer.write_all(piece))
+                .and_then(|()| writer.flush());
             assert_eq!(written.is_ok(), most >= bytes.len(), "{most} {piece}");
             let count = bytes.len().min(most);
             assert!(*few.written.borrow() == bytes[..count], "{most} {piece}");

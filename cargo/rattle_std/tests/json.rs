@@ -19,9 +19,12 @@ fn shown(value: &Value<'_>) -> String {
         Value::Bool(truth) => truth.to_string(),
         Value::Number(text) => format!("#{text}"),
         Value::String(text) => format!("{text:?}"),
-        Value::Array(items) => format!("[{}]", items.iter().map(shown).collect::<Vec<_>>().join(",")),
+        Value::Array(items) => {
+            format!("[{}]", items.iter().map(shown).collect::<Vec<_>>().join(","))
+        }
         Value::Object(members) => {
-            let member = |member: &(&str, Value<'_>)| format!("{:?}:{}", member.0, shown(&member.1));
+            let member =
+                |member: &(&str, Value<'_>)| format!("{:?}:{}", member.0, shown(&member.1));
             format!("{{{}}}", members.iter().map(member).collect::<Vec<_>>().join(","))
         }
     }
@@ -187,9 +190,16 @@ fn refused_texts() {
 
 #[test]
 fn bytes_that_are_no_text_are_refused() {
-    for text in
-        [&b"\"\xff\""[..], b"\"\xc0\x80\"", b"\"\xed\xa0\x80\"", b"\"\xf4\x90\x80\x80\"", b"\"\xe2\x82\"", b"\x80", b"1\xff", b"\"\\\xe9\""]
-    {
+    for text in [
+        &b"\"\xff\""[..],
+        b"\"\xc0\x80\"",
+        b"\"\xed\xa0\x80\"",
+        b"\"\xf4\x90\x80\x80\"",
+        b"\"\xe2\x82\"",
+        b"\x80",
+        b"1\xff",
+        b"\"\\\xe9\"",
+    ] {
         assert!(is_refused(text), "{text:?}");
     }
 }
@@ -208,8 +218,13 @@ fn cut_texts_are_refused() {
 fn depth_of_128_is_accepted_and_129_refused() {
     let arrays = |depth: usize| "[".repeat(depth) + &"]".repeat(depth);
     let objects = |depth: usize| "{\"a\":".repeat(depth) + "1" + &"}".repeat(depth);
-    let mixed =
-        |depth: usize| "[{\"a\":".repeat(depth / 2) + &"[".repeat(depth % 2) + "1" + &"]".repeat(depth % 2) + &"}]".repeat(depth / 2);
+    let mixed = |depth: usize| {
+        "[{\"a\":".repeat(depth / 2)
+            + &"[".repeat(depth % 2)
+            + "1"
+            + &"]".repeat(depth % 2)
+            + &"}]".repeat(depth / 2)
+    };
     for nested in [&arrays as &dyn Fn(usize) -> String, &objects, &mixed] {
         assert!(!is_refused(nested(1)));
         assert!(!is_refused(nested(127)));
@@ -221,7 +236,9 @@ fn depth_of_128_is_accepted_and_129_refused() {
 }
 
 fn number_of(text: &str) -> Option<i64> {
-    Value::from_slice(Global, text.as_bytes(), &mut Scratch::new(Global)).expect("it is a number").as_i64()
+    Value::from_slice(Global, text.as_bytes(), &mut Scratch::new(Global))
+        .expect("it is a number")
+        .as_i64()
 }
 
 #[test]
@@ -263,7 +280,12 @@ fn values_as_their_kinds() {
     assert_eq!(value.get("a").and_then(Value::as_number), Some("2"));
     assert!(value.get("z").is_none() && value.get("a").unwrap().get("a").is_none());
     let none = value.get("d").unwrap();
-    assert!(none.as_bool().is_none() && none.as_str().is_none() && none.as_number().is_none() && none.as_i64().is_none());
+    assert!(
+        none.as_bool().is_none()
+            && none.as_str().is_none()
+            && none.as_number().is_none()
+            && none.as_i64().is_none()
+    );
     assert!(value.as_str().is_none() && value.as_bool().is_none());
 }
 
@@ -279,8 +301,14 @@ fn scratch_serves_text_after_text() {
         let Value::Array(items) = &value else {
             panic!("it is an array");
         };
-        assert_eq!(items.iter().map(Value::as_str).collect::<Vec<_>>(), [Some(expected.as_str()), Some("a"), Some(expected.as_str())]);
-        assert_eq!(Value::from_slice(Global, b"[\"\\n\",\"\\q\"]", &mut scratch).err(), Some(Error::Invalid));
+        assert_eq!(
+            items.iter().map(Value::as_str).collect::<Vec<_>>(),
+            [Some(expected.as_str()), Some("a"), Some(expected.as_str())]
+        );
+        assert_eq!(
+            Value::from_slice(Global, b"[\"\\n\",\"\\q\"]", &mut scratch).err(),
+            Some(Error::Invalid)
+        );
     }
 }
 
@@ -303,7 +331,8 @@ fn written_tokens() {
     writer.key("").unwrap();
     writer.string("").unwrap();
     writer.end_object().unwrap();
-    let expected = r#"{"a":[-9223372036854775808,18446744073709551615,[],{},true],"b\"":false,"":""}"#;
+    let expected =
+        r#"{"a":[-9223372036854775808,18446744073709551615,[],{},true],"b\"":false,"":""}"#;
     assert_eq!(str_of(&writer.into_inner()), expected);
 }
 
@@ -320,7 +349,10 @@ fn written(text: &str) -> String {
 #[test]
 fn written_escapes() {
     assert_eq!(written("\"\\/\u{8}\u{c}\n\r\t"), r#""\"\\/\b\f\n\r\t""#);
-    assert_eq!(written("\0\u{1}\u{b}\u{e}\u{1f}\u{7f}"), "\"\\u0000\\u0001\\u000b\\u000e\\u001f\u{7f}\"");
+    assert_eq!(
+        written("\0\u{1}\u{b}\u{e}\u{1f}\u{7f}"),
+        "\"\\u0000\\u0001\\u000b\\u000e\\u001f\u{7f}\""
+    );
     assert_eq!(written("é€\u{1f600}"), "\"é€\u{1f600}\"");
 }
 
@@ -333,7 +365,9 @@ fn written_strings_are_read_back() {
         let value = Value::from_slice(Global, written.as_bytes(), &mut scratch).unwrap();
         assert_eq!(value.as_str(), Some(text));
     };
-    (0..=0x10_ffff).filter_map(char::from_u32).for_each(|character| reads_back(character.encode_utf8(&mut [0; 4])));
+    (0..=0x10_ffff)
+        .filter_map(char::from_u32)
+        .for_each(|character| reads_back(character.encode_utf8(&mut [0; 4])));
     let some = || ["\\", "\"", "u", "n", "\n", "\0", "0", "d83d", "é", "\u{1f600}"];
     for one in some() {
         some().into_iter().for_each(|other| reads_back(&[one, other, one].concat()));
@@ -345,7 +379,8 @@ fn written_strings_are_read_back() {
 fn escapes_of_each_code_unit() {
     for unit in 0..=0xffff_u32 {
         let found = read(format!("\"\\u{unit:04x}\"").as_bytes());
-        let expected = char::from_u32(unit).map_or("Invalid".to_owned(), |character| format!("{:?}", character.to_string()));
+        let expected = char::from_u32(unit)
+            .map_or("Invalid".to_owned(), |character| format!("{:?}", character.to_string()));
         assert_eq!(found, expected, "{unit:04x}");
     }
 }

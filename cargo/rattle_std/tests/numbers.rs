@@ -8,7 +8,11 @@ use rattle_std::itoa::Buffer;
 // Each power of two and of ten, its neighbours, and their negatives.
 fn numbers() -> impl Iterator<Item = u64> {
     let powers = (0..64).map(|power| 1 << power).chain((0..20).map(|power| 10_u64.pow(power)));
-    powers.flat_map(|power: u64| [power.wrapping_sub(1), power, power + 1, power.wrapping_neg(), 3 * (power / 2)]).chain([u64::MAX])
+    powers
+        .flat_map(|power: u64| {
+            [power.wrapping_sub(1), power, power + 1, power.wrapping_neg(), 3 * (power / 2)]
+        })
+        .chain([u64::MAX])
 }
 
 #[test]
@@ -28,7 +32,10 @@ fn big_endian_there_and_back() {
     let mut bytes = [0xee; 9];
     for number in numbers() {
         BigEndian::write_i64(&mut bytes, number as i64);
-        assert_eq!((BigEndian::read_i64(&bytes), &bytes[..8], bytes[8]), (number as i64, &number.to_be_bytes()[..], 0xee));
+        assert_eq!(
+            (BigEndian::read_i64(&bytes), &bytes[..8], bytes[8]),
+            (number as i64, &number.to_be_bytes()[..], 0xee)
+        );
         let before = bytes;
         BigEndian::write_u32(&mut bytes, number as u32);
         assert_eq!(
@@ -36,7 +43,10 @@ fn big_endian_there_and_back() {
             (number as u32, &(number as u32).to_be_bytes()[..], &before[4..])
         );
         BigEndian::write_u16(&mut bytes, number as u16);
-        assert_eq!((BigEndian::read_u16(&bytes), &bytes[..2]), (number as u16, &(number as u16).to_be_bytes()[..]));
+        assert_eq!(
+            (BigEndian::read_u16(&bytes), &bytes[..2]),
+            (number as u16, &(number as u16).to_be_bytes()[..])
+        );
     }
 }
 

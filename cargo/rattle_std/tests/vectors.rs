@@ -106,7 +106,10 @@ fn vectors_are_made_of_items() {
 fn memory_beyond_the_machine_is_refused() {
     let much = usize::MAX / 2;
     let mut numbers: Vec<u64> = vec![1].into();
-    assert_eq!((numbers.reserve(much), numbers.reserve_exact(much)), (Err(AllocError), Err(AllocError)));
+    assert_eq!(
+        (numbers.reserve(much), numbers.reserve_exact(much)),
+        (Err(AllocError), Err(AllocError))
+    );
     assert_eq!(numbers.resize(much, 0), Err(AllocError));
     assert_eq!(numbers.as_slice(), [1]);
     assert_eq!(Vec::<u64>::with_capacity(Global, much).err(), Some(AllocError));
@@ -115,15 +118,20 @@ fn memory_beyond_the_machine_is_refused() {
     assert_eq!(VecDeque::<u64>::new(Global).reserve(much), Err(AllocError));
     assert_eq!(AllocError::from(AllocFailed { value: 1 }), AllocError);
     assert_eq!(std::io::Error::from(AllocError).kind(), std::io::ErrorKind::OutOfMemory);
-    assert_eq!(std::io::Error::from(AllocFailed { value: 1 }).kind(), std::io::ErrorKind::OutOfMemory);
+    assert_eq!(
+        std::io::Error::from(AllocFailed { value: 1 }).kind(),
+        std::io::ErrorKind::OutOfMemory
+    );
 }
 
 #[test]
 fn sorting_keeps_the_order_of_equal_keys() {
     let random = &mut Random(2);
     for count in [0, 1, 2, 20, 21, 50, 1_000] {
-        let mut items: Vec<(usize, usize)> =
-            (0..count).map(|place| (random.below(1 + count / 4), place)).collect::<std::vec::Vec<_>>().into();
+        let mut items: Vec<(usize, usize)> = (0..count)
+            .map(|place| (random.below(1 + count / 4), place))
+            .collect::<std::vec::Vec<_>>()
+            .into();
         let mut expected = items.to_vec();
         expected.sort();
         assert_eq!(items.sort_by_key_with(Global, |item| item.0), Ok(()));
@@ -140,9 +148,18 @@ fn text_is_rusts_own() {
     for character in ['a', 'é', '€', '\u{1f600}', '\0'] {
         assert!(text.push(character).is_ok());
     }
-    assert!(text.push_str("end").is_ok() && text.write_fmt(format_args!("{:>4}|{}", 7, -1)).is_ok());
+    assert!(
+        text.push_str("end").is_ok() && text.write_fmt(format_args!("{:>4}|{}", 7, -1)).is_ok()
+    );
     assert_eq!(text.as_str(), "aé€\u{1f600}\0end   7|-1");
-    assert_eq!(format!("{:>3}|{:<3}|", String::from("a".to_owned()) as String, String::from("b".to_owned()) as String), "  a|b  |");
+    assert_eq!(
+        format!(
+            "{:>3}|{:<3}|",
+            String::from("a".to_owned()) as String,
+            String::from("b".to_owned()) as String
+        ),
+        "  a|b  |"
+    );
     assert_eq!(format_in!(in Global; "{}-{}", 1, 2).unwrap().as_str(), "1-2");
     assert_eq!((text.len(), text.starts_with("aé")), (text.as_str().len(), true));
 }
@@ -204,7 +221,10 @@ fn deque_is_rusts_own() {
                 theirs.push_back(item);
             }
         }
-        assert_eq!((ours.len(), ours.front(), ours.back()), (theirs.len(), theirs.front(), theirs.back()));
+        assert_eq!(
+            (ours.len(), ours.front(), ours.back()),
+            (theirs.len(), theirs.front(), theirs.back())
+        );
     }
     assert_eq!(*ours, theirs);
 }
@@ -273,7 +293,10 @@ fn vector_in_place_is_a_vector_of_few() {
                 }
                 1 => {
                     let fits = theirs.len() + count <= 8;
-                    assert_eq!(ours.try_extend_from_slice(more), if fits { Ok(()) } else { Err(CapacityError) });
+                    assert_eq!(
+                        ours.try_extend_from_slice(more),
+                        if fits { Ok(()) } else { Err(CapacityError) }
+                    );
                     theirs.extend_from_slice(if fits { more } else { &[] });
                 }
                 2 if random.below(4) == 0 => {
@@ -285,8 +308,14 @@ fn vector_in_place_is_a_vector_of_few() {
                     *other += 1;
                 }),
             }
-            assert_eq!((ours.as_slice(), ours.len(), ours.is_full()), (theirs.as_slice(), theirs.len(), theirs.len() == 8));
-            assert!(ours.iter().eq(&theirs) && ours.iter_mut().map(|item| *item).eq(theirs.iter().copied()));
+            assert_eq!(
+                (ours.as_slice(), ours.len(), ours.is_full()),
+                (theirs.as_slice(), theirs.len(), theirs.len() == 8)
+            );
+            assert!(
+                ours.iter().eq(&theirs)
+                    && ours.iter_mut().map(|item| *item).eq(theirs.iter().copied())
+            );
         }
         let mut copy = ours;
         copy.clear();

@@ -11,13 +11,16 @@ pub fn is_long() -> bool {
     env::var("ARCHCARAWAY_LONG").is_ok_and(|value| value == "1")
 }
 
-/// Returns the first count if the long ones are wanted, else the second. `ARCHCARAWAY_COUNT` is the most of both.
+/// Returns the first count if the long ones are wanted, else the second. `ARCHCARAWAY_COUNT` is the
+/// most of both.
 pub fn count(long: u64, short: u64) -> u64 {
-    let most = env::var("ARCHCARAWAY_COUNT").ok().and_then(|value| value.parse().ok()).unwrap_or(u64::MAX);
+    let most =
+        env::var("ARCHCARAWAY_COUNT").ok().and_then(|value| value.parse().ok()).unwrap_or(u64::MAX);
     if is_long() { long } else { short }.min(most)
 }
 
-/// Runs cases of the seeds 0, 1, 2 and so on until what they return adds up to the total. Several threads take the seeds.
+/// Runs cases of the seeds 0, 1, 2 and so on until what they return adds up to the total. Several
+/// threads take the seeds.
 ///
 /// The seed of a case that panics is printed. `ARCHCARAWAY_SEED` is the only seed to run.
 pub fn run(name: &str, total: u64, case: impl Fn(&mut Random) -> u64 + Sync) {
@@ -43,6 +46,8 @@ pub fn run(name: &str, total: u64, case: impl Fn(&mut Random) -> u64 + Sync) {
         };
         let threads = thread::available_parallelism().map_or(1, usize::from);
         let handles: Vec<_> = (0..threads).map(|_| scope.spawn(work)).collect();
-        handles.into_iter().for_each(|handle| handle.join().unwrap_or_else(|panic| resume_unwind(panic)));
+        handles
+            .into_iter()
+            .for_each(|handle| handle.join().unwrap_or_else(|panic| resume_unwind(panic)));
     });
 }

@@ -21,8 +21,8 @@ pub struct KeySpace {
 const LETTERS: [&[u8]; 4] = [b"ab", b"\0a\xff", b"abcdefgh", b"\0\x01\x7f\x80\xfe\xff"];
 
 impl KeySpace {
-    /// Draws one. Keys are short, or long with shared prefixes; some end in zero bytes. Single keys, empty ranges or wide ranges
-    /// may be frequent.
+    /// Draws one. Keys are short, or long with shared prefixes; some end in zero bytes. Single
+    /// keys, empty ranges or wide ranges may be frequent.
     pub fn drawn(random: &mut Random) -> Self {
         let mut space = KeySpace {
             prefixes: vec![Vec::new()],
@@ -72,7 +72,8 @@ impl KeySpace {
         (0..random.index(most + 1)).map(|_| self.range(random)).collect()
     }
 
-    /// Draws a transaction with at most `ranges_most` read ranges and write ranges, and a snapshot from the first to the second.
+    /// Draws a transaction with at most `ranges_most` read ranges and write ranges, and a snapshot
+    /// from the first to the second.
     pub fn txn(&self, random: &mut Random, ranges_most: usize, snapshots: (i64, i64)) -> PlainTxn {
         PlainTxn {
             snapshot: random.between(snapshots.0.max(0), snapshots.1.max(0)),
@@ -99,9 +100,13 @@ pub fn any_batch(random: &mut Random, txns_most: usize, ranges_most: usize) -> P
         1 => i64::MAX - random.between(0, 3),
         _ => (random.number() >> 1 >> random.below(62)) as i64,
     };
-    let below = |random: &mut Random| if random.one_in(3) { version - 1 } else { random.between(-1, (version - 1).min(1_000)) };
+    let below = |random: &mut Random| {
+        if random.one_in(3) { version - 1 } else { random.between(-1, (version - 1).min(1_000)) }
+    };
     let (previous, received) = (below(random), below(random));
     let snapshots = (0, version.min(1 << 40));
-    let txns = (0..random.index(txns_most + 1)).map(|_| space.txn(random, ranges_most, snapshots)).collect();
+    let txns = (0..random.index(txns_most + 1))
+        .map(|_| space.txn(random, ranges_most, snapshots))
+        .collect();
     PlainBatch { previous, version, received, txns }
 }

@@ -1,4 +1,5 @@
-//! What the tests share: random cases, and simple models that know nothing of the crates' structures.
+//! What the tests share: random cases, and simple models that know nothing of the crates'
+//! structures.
 //!
 //! - [`plain`]: batches and replies as plain vectors.
 //! - [`scan`]: the verdicts of `docs/FOUNDATIONDB.md`, by a scan over all committed writes.

@@ -5,13 +5,19 @@ use keyspace::Verdict;
 
 /// Reads a batch: `100>200 received 100: W[a,b) @0; m R[a,b) R[k] @50`.
 ///
-/// Received is -1 and a snapshot 0 if they aren't given. `R[k]` is the range of one key. Keys have no blanks and none of `,;:])`.
+/// Received is -1 and a snapshot 0 if they aren't given. `R[k]` is the range of one key. Keys have
+/// no blanks and none of `,;:])`.
 pub fn batch(text: &str) -> PlainBatch {
     let (head, body) = text.split_once(": ").unwrap_or((text, ""));
     let (versions, received) = head.split_once(" received ").unwrap_or((head, "-1"));
     let (previous, version) = versions.split_once('>').expect("versions have a sign between them");
     let txns = body.split(';').filter(|_| !body.is_empty()).map(txn).collect();
-    PlainBatch { previous: number(previous), version: number(version), received: number(received), txns }
+    PlainBatch {
+        previous: number(previous),
+        version: number(version),
+        received: number(received),
+        txns,
+    }
 }
 
 fn number(text: &str) -> i64 {
@@ -37,7 +43,8 @@ fn range(text: &str) -> PlainRange {
     if let Some(key) = keys.strip_suffix(']') {
         return PlainRange::single(key);
     }
-    let (begin, end) = keys.strip_suffix(')').and_then(|keys| keys.split_once(',')).expect("a range has two keys");
+    let (begin, end) =
+        keys.strip_suffix(')').and_then(|keys| keys.split_once(',')).expect("a range has two keys");
     PlainRange::new(begin, end)
 }
 
@@ -57,7 +64,10 @@ fn entry(word: &str) -> PlainEntry {
         _ => panic!("no verdict: {word}"),
     };
     let places = places.split(',').filter(|place| !place.is_empty());
-    PlainEntry { verdict, places: places.map(|place| place.parse().expect("it is an index")).collect() }
+    PlainEntry {
+        verdict,
+        places: places.map(|place| place.parse().expect("it is an index")).collect(),
+    }
 }
 
 /// Reads an answer: a reply, `100 never`, or `100 held`.

@@ -1,6 +1,8 @@
 //! Batches and replies as plain vectors, and how the crates' own are made of them and read.
 
-use keyspace::{Answer, Batch, Entry, Key, Places, Range, RangesRef, Reply, Sequence, Txn, Verdict};
+use keyspace::{
+    Answer, Batch, Entry, Key, Places, Range, RangesRef, Reply, Sequence, Txn, Verdict,
+};
 use rattle_std::alloc::Global;
 
 /// A range from a begin key up to an end key that isn't in it.
@@ -68,7 +70,8 @@ impl PlainRange {
         *self == PlainRange::single(self.begin.clone())
     }
 
-    /// Returns whether some string of bytes is in both: the later of the begins is, if it is before both ends.
+    /// Returns whether some string of bytes is in both: the later of the begins is, if it is before
+    /// both ends.
     pub fn meets(&self, other: &PlainRange) -> bool {
         let begin = (&self.begin).max(&other.begin);
         begin < &self.end && begin < &other.end
@@ -90,7 +93,10 @@ fn ranges_of(ranges: &[PlainRange]) -> Sequence<Range> {
 }
 
 fn plain_ranges(ranges: &RangesRef<'_>) -> Vec<PlainRange> {
-    (0..ranges.len()).map(|index| ranges.get(index)).map(|range| PlainRange::new(range.begin(), range.end())).collect()
+    (0..ranges.len())
+        .map(|index| ranges.get(index))
+        .map(|range| PlainRange::new(range.begin(), range.end()))
+        .collect()
 }
 
 impl PlainTxn {
@@ -109,7 +115,8 @@ impl PlainBatch {
     /// Returns the same batch as the crates have it.
     pub fn batch(&self) -> Batch {
         let txns: Vec<_> = self.txns.iter().map(PlainTxn::txn).collect();
-        Batch::checked(Global, self.previous, self.version, self.received, txns.into()).expect("the batch is within the limits")
+        Batch::checked(Global, self.previous, self.version, self.received, txns.into())
+            .expect("the batch is within the limits")
     }
 
     /// Reads a batch of the crates.
@@ -120,21 +127,37 @@ impl PlainBatch {
             reads: plain_ranges(&txn.reads),
             writes: plain_ranges(&txn.writes),
         });
-        PlainBatch { previous: batch.previous, version: batch.version, received: batch.received, txns: txns.collect() }
+        PlainBatch {
+            previous: batch.previous,
+            version: batch.version,
+            received: batch.received,
+            txns: txns.collect(),
+        }
     }
 }
 
 impl PlainReply {
     /// Returns the same reply as the crates have it.
     pub fn reply(&self) -> Reply {
-        let entry = |entry: &PlainEntry| Entry::new(entry.verdict, Places::new(entry.places.clone().into()));
-        Reply::new(self.version, Sequence::new(self.entries.iter().map(entry).collect::<Vec<_>>().into()))
+        let entry = |entry: &PlainEntry| {
+            Entry::new(entry.verdict, Places::new(entry.places.clone().into()))
+        };
+        Reply::new(
+            self.version,
+            Sequence::new(self.entries.iter().map(entry).collect::<Vec<_>>().into()),
+        )
     }
 
     /// Reads a reply of the crates.
     pub fn of(reply: &Reply) -> Self {
-        let entry = |entry: &Entry| PlainEntry { verdict: entry.verdict, places: entry.places.as_slice().to_vec() };
-        PlainReply { version: reply.version, entries: reply.entries.as_slice().iter().map(entry).collect() }
+        let entry = |entry: &Entry| PlainEntry {
+            verdict: entry.verdict,
+            places: entry.places.as_slice().to_vec(),
+        };
+        PlainReply {
+            version: reply.version,
+            entries: reply.entries.as_slice().iter().map(entry).collect(),
+        }
     }
 }
 

@@ -27,16 +27,28 @@ pub fn file_of(batches: &[&str], rest: &[u8]) -> Vec<u8> {
 
 /// Makes the file of the empty batches of these versions, whose previous version is one less.
 pub fn file_of_versions(versions: impl IntoIterator<Item = i64>) -> Vec<u8> {
-    versions.into_iter().flat_map(|version| batch_frame(&PlainBatch::empty(version - 1, version), 1)).collect()
+    versions
+        .into_iter()
+        .flat_map(|version| batch_frame(&PlainBatch::empty(version - 1, version), 1))
+        .collect()
 }
 
-/// Replays as the program does by default, from these readers, and puts what comes of it into words.
+/// Replays as the program does by default, from these readers, and puts what comes of it into
+/// words.
 pub fn replayed<S, G>(readers: Vec<S>, gatekeeper: &Arc<G>) -> String
 where
     S: Source + Send + 'static,
     G: Gatekeeper + ShareKeeper + Send + Sync + 'static,
 {
     let (mut out, mut error) = (StdSink::new(Vec::new()), StdSink::new(Vec::new()));
-    let run = replay_over(&HostRuntime::new(), Global, readers.into(), Options::default(), gatekeeper, &mut out, &mut error);
+    let run = replay_over(
+        &HostRuntime::new(),
+        Global,
+        readers.into(),
+        Options::default(),
+        gatekeeper,
+        &mut out,
+        &mut error,
+    );
     ended(run.status, &out.into_inner(), &error.into_inner())
 }

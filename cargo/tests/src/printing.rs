@@ -12,7 +12,11 @@ pub fn line(style: Style, proxy: usize, text: &str) -> Line {
 
 /// Makes the lines, in words, of the answers to a proxy, between semicolons.
 pub fn lines(proxy: usize, texts: &str) -> KitVec<Line> {
-    texts.split("; ").map(|text| line(Style::all(Form::Words), proxy, text)).collect::<Vec<_>>().into()
+    texts
+        .split("; ")
+        .map(|text| line(Style::all(Form::Words), proxy, text))
+        .collect::<Vec<_>>()
+        .into()
 }
 
 /// Makes the lines of the answers to each proxy, at its number.
@@ -20,7 +24,8 @@ pub fn received(answers: &[&str]) -> KitVec<KitVec<Line>> {
     answers.iter().enumerate().map(|(proxy, texts)| lines(proxy, texts)).collect::<Vec<_>>().into()
 }
 
-/// Puts how a run has ended into words, after what it wrote to standard output and before what it wrote to standard error.
+/// Puts how a run has ended into words, after what it wrote to standard output and before what it
+/// wrote to standard error.
 pub fn ended(status: Status, out: &[u8], error: &[u8]) -> String {
     let word = match status {
         Status::Done => "done: ",

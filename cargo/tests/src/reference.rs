@@ -21,10 +21,17 @@ pub struct Reference {
 
 impl Reference {
     pub fn new(proxies: usize, window: i64) -> Self {
-        Reference { scan: Scan::new(window), version: -1, held: Vec::new(), kept: BTreeMap::new(), answers: vec![Vec::new(); proxies] }
+        Reference {
+            scan: Scan::new(window),
+            version: -1,
+            held: Vec::new(),
+            kept: BTreeMap::new(),
+            answers: vec![Vec::new(); proxies],
+        }
     }
 
-    /// Takes a batch of a proxy. Returns false if it has to be held and the gate is full; then it is lost.
+    /// Takes a batch of a proxy. Returns false if it has to be held and the gate is full; then it
+    /// is lost.
     pub fn take(&mut self, proxy: usize, batch: &PlainBatch) -> bool {
         if batch.previous > self.version {
             self.held.push((proxy, batch.clone()));
@@ -56,7 +63,9 @@ impl Reference {
 
     // The least previous version leaves first, among equals the earliest arrival.
     fn next_due(&self) -> Option<usize> {
-        (0..self.held.len()).filter(|index| self.held[*index].1.previous <= self.version).min_by_key(|index| self.held[*index].1.previous)
+        (0..self.held.len())
+            .filter(|index| self.held[*index].1.previous <= self.version)
+            .min_by_key(|index| self.held[*index].1.previous)
     }
 
     fn answer(&mut self, proxy: usize, batch: &PlainBatch) {

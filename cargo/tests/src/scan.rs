@@ -1,4 +1,5 @@
-//! Verdicts by a scan over all committed writes: the rules "edge" to "report" of `docs/FOUNDATIONDB.md`, word for word.
+//! Verdicts by a scan over all committed writes: the rules "edge" to "report" of
+//! `docs/FOUNDATIONDB.md`, word for word.
 
 use crate::plain::{PlainBatch, PlainEntry, PlainRange, PlainReply, PlainTxn};
 use keyspace::Verdict;
@@ -37,7 +38,13 @@ impl Scan {
 
     /// Returns the write ranges committed at this version.
     pub fn written_at(&self, version: i64) -> Vec<&PlainRange> {
-        self.writes.iter().rev().take_while(|write| write.0 >= version).filter(|write| write.0 == version).map(|write| &write.1).collect()
+        self.writes
+            .iter()
+            .rev()
+            .take_while(|write| write.0 >= version)
+            .filter(|write| write.0 == version)
+            .map(|write| &write.1)
+            .collect()
     }
 
     fn judge(&self, edge: i64, earlier: &[PlainRange], txn: &PlainTxn) -> PlainEntry {
@@ -50,11 +57,18 @@ impl Scan {
             return PlainEntry { verdict: Verdict::Committed, places: Vec::new() };
         }
         let report = if hits.is_empty() { batch[..1].to_vec() } else { hits };
-        PlainEntry { verdict: Verdict::Conflict, places: if txn.marked { report } else { Vec::new() } }
+        PlainEntry {
+            verdict: Verdict::Conflict,
+            places: if txn.marked { report } else { Vec::new() },
+        }
     }
 
     fn is_hit(&self, read: &PlainRange, snapshot: i64) -> bool {
-        self.writes.iter().rev().take_while(|write| write.0 > snapshot).any(|write| write.1.meets(read))
+        self.writes
+            .iter()
+            .rev()
+            .take_while(|write| write.0 > snapshot)
+            .any(|write| write.1.meets(read))
     }
 }
 

@@ -19,7 +19,8 @@ const BATCHES: [(&str, &[&str], &[u8]); 4] = [
 ];
 
 /// The files of replies that the rows name.
-const REPLIES: [(&str, &[&str]); 2] = [("same", &["100 committed", "0 empty"]), ("others", &["50 empty", "0 tooold", "100 tooold"])];
+const REPLIES: [(&str, &[&str]); 2] =
+    [("same", &["100 committed", "0 empty"]), ("others", &["50 empty", "0 tooold", "100 tooold"])];
 
 /// A file of split points.
 const POINTS: (&str, &[u8]) = ("point", b"b\n");
@@ -39,7 +40,9 @@ impl Files for Shelf {
             return Ok(reader(POINTS.1.to_vec()));
         }
         match REPLIES.iter().find(|(known, _)| *known == name) {
-            Some((_, replies)) => Ok(reader(replies.iter().flat_map(|text| reply_frame(&reply(text))).collect())),
+            Some((_, replies)) => {
+                Ok(reader(replies.iter().flat_map(|text| reply_frame(&reply(text))).collect()))
+            }
             None => Err(FileError::CannotOpen),
         }
     }
@@ -66,7 +69,11 @@ impl Env for Words {
 }
 
 /// Runs the program on these words and streams.
-pub fn shell_into<W>(words: &[W], out: &mut impl Sink, error: &mut impl Sink) -> RunReport<StdSink<Vec<u8>>>
+pub fn shell_into<W>(
+    words: &[W],
+    out: &mut impl Sink,
+    error: &mut impl Sink,
+) -> RunReport<StdSink<Vec<u8>>>
 where
     W: Clone + Into<OsString>,
 {
@@ -74,7 +81,12 @@ where
 }
 
 /// The same, over these files.
-pub fn shell_over<F, W>(files: &F, words: &[W], out: &mut impl Sink, error: &mut impl Sink) -> RunReport<F::Writer>
+pub fn shell_over<F, W>(
+    files: &F,
+    words: &[W],
+    out: &mut impl Sink,
+    error: &mut impl Sink,
+) -> RunReport<F::Writer>
 where
     F: Files,
     W: Clone + Into<OsString>,

@@ -1,4 +1,5 @@
-//! Frames by the tables of `docs/WIRE.md`, written and read field by field, in the reading order of that page.
+//! Frames by the tables of `docs/WIRE.md`, written and read field by field, in the reading order of
+//! that page.
 
 use crate::plain::{PlainBatch, PlainEntry, PlainRange, PlainReply, PlainTxn};
 use keyspace::Verdict;
@@ -63,7 +64,8 @@ fn put_key(body: &mut Vec<u8>, key: &[u8]) {
     body.extend(key);
 }
 
-/// Reads the frame of a batch at the front of the bytes. Returns the batch, the version of its form and the bytes used.
+/// Reads the frame of a batch at the front of the bytes. Returns the batch, the version of its form
+/// and the bytes used.
 pub fn read_batch(bytes: &[u8]) -> Result<(PlainBatch, u8, usize), WireError> {
     let mut body = body_of(bytes)?;
     let version = match body.u8()? {

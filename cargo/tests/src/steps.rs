@@ -21,7 +21,12 @@ impl Steps {
 
     /// Returns the version at a key: that of the last boundary at or before it.
     pub fn at(&self, key: &[u8]) -> i64 {
-        *self.boundaries.range::<[u8], _>((Bound::Unbounded, Bound::Included(key))).next_back().expect("the empty key is a boundary").1
+        *self
+            .boundaries
+            .range::<[u8], _>((Bound::Unbounded, Bound::Included(key)))
+            .next_back()
+            .expect("the empty key is a boundary")
+            .1
     }
 
     /// Returns the greatest version at a key of the range, or -1 if the range is empty.
@@ -29,7 +34,9 @@ impl Steps {
         if range.is_empty() {
             return -1;
         }
-        let inside = self.boundaries.range::<[u8], _>((Bound::Excluded(&range.begin[..]), Bound::Excluded(&range.end[..])));
+        let inside = self
+            .boundaries
+            .range::<[u8], _>((Bound::Excluded(&range.begin[..]), Bound::Excluded(&range.end[..])));
         inside.map(|boundary| *boundary.1).fold(self.at(&range.begin), i64::max)
     }
 
@@ -41,8 +48,8 @@ impl Steps {
         self.boundaries.entry(range.end.clone()).or_insert(at_end);
     }
 
-    /// Returns whether that many ranges may be written, with two boundaries each. Sweeps a complete round from the front first if
-    /// they exceed the limit.
+    /// Returns whether that many ranges may be written, with two boundaries each. Sweeps a complete
+    /// round from the front first if they exceed the limit.
     pub fn prepare(&mut self, ranges: usize) -> bool {
         if self.boundaries.len() + 2 * ranges > self.limit {
             self.cursor.clear();
@@ -53,7 +60,11 @@ impl Steps {
 
     /// Looks at the next `count` boundaries, or at all that are left. Returns whether none is left.
     pub fn sweep(&mut self, count: usize) -> bool {
-        let first = if self.cursor.is_empty() { Bound::Excluded(Vec::new()) } else { Bound::Included(self.cursor.clone()) };
+        let first = if self.cursor.is_empty() {
+            Bound::Excluded(Vec::new())
+        } else {
+            Bound::Included(self.cursor.clone())
+        };
         let next: Vec<_> = self
             .boundaries
             .range((first, Bound::Unbounded))
@@ -64,7 +75,12 @@ impl Steps {
             self.cursor.clear();
             return true;
         };
-        let mut before = *self.boundaries.range::<Vec<u8>, _>(..key).next_back().expect("the empty key comes before").1;
+        let mut before = *self
+            .boundaries
+            .range::<Vec<u8>, _>(..key)
+            .next_back()
+            .expect("the empty key comes before")
+            .1;
         for (key, version) in next.iter().take(count) {
             if before < self.edge && *version < self.edge {
                 self.boundaries.remove(key);
@@ -76,7 +92,8 @@ impl Steps {
     }
 }
 
-/// Unites ranges that overlap or touch. Returns them in key order, each end strictly below the next begin.
+/// Unites ranges that overlap or touch. Returns them in key order, each end strictly below the next
+/// begin.
 pub fn united(ranges: impl IntoIterator<Item = PlainRange>) -> Vec<PlainRange> {
     let mut sorted: Vec<_> = ranges.into_iter().filter(|range| !range.is_empty()).collect();
     sorted.sort_by(|one, other| one.begin.cmp(&other.begin));

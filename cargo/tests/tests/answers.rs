@@ -1,7 +1,7 @@
 //! The lines of answers by hand: one, many in order, and those that a filter shows.
 
 use rattle_std::alloc::Global;
-use replay_program::{LineFilter, Form, Line, Style, print_answers, read_words};
+use replay_program::{Form, Line, LineFilter, Style, print_answers, read_words};
 use tests::printing::{line, received};
 use wire::StdSink;
 
@@ -69,9 +69,18 @@ fn replies_as_frames() {
 fn answers_as_json() {
     for (answer, text) in [
         ("0 empty", r#"{"proxy":7,"version":0,"verdicts":[]}"#),
-        ("100 committed tooold conflict", r#"{"proxy":7,"version":100,"verdicts":["committed","tooold","conflict"]}"#),
-        ("100 conflict conflict tooold committed", r#"{"proxy":7,"version":100,"verdicts":["conflict","conflict","tooold","committed"]}"#),
-        ("200 conflict:0,2 conflict:0", r#"{"proxy":7,"version":200,"verdicts":[{"conflict":[0,2]},{"conflict":[0]}]}"#),
+        (
+            "100 committed tooold conflict",
+            r#"{"proxy":7,"version":100,"verdicts":["committed","tooold","conflict"]}"#,
+        ),
+        (
+            "100 conflict conflict tooold committed",
+            r#"{"proxy":7,"version":100,"verdicts":["conflict","conflict","tooold","committed"]}"#,
+        ),
+        (
+            "200 conflict:0,2 conflict:0",
+            r#"{"proxy":7,"version":200,"verdicts":[{"conflict":[0,2]},{"conflict":[0]}]}"#,
+        ),
         ("300 never", r#"{"proxy":7,"version":300,"answer":"never"}"#),
         ("1000 held", r#"{"proxy":7,"version":1000,"answer":"held"}"#),
     ] {
@@ -117,7 +126,11 @@ fn filtered_lines() {
         ("--versions .. f", "5 empty", ""),
         ("--quiet f", "", "5 committed"),
     ] {
-        let words: Vec<_> = ["replay"].into_iter().chain(given.split(' ')).map(|word| word.to_owned().into()).collect();
+        let words: Vec<_> = ["replay"]
+            .into_iter()
+            .chain(given.split(' '))
+            .map(|word| word.to_owned().into())
+            .collect();
         let style = read_words(Global, &words).expect("the arguments are right").options.style;
         if !shown.is_empty() {
             assert_eq!(styled(style, 0, shown), printed(Form::Words, 0, shown), "{given}");
@@ -138,7 +151,10 @@ fn all_printed(answers: &[&str]) -> String {
 #[test]
 fn by_proxy_then_version_then_order_received() {
     let text = "0 100 empty\n0 100 never\n0 200 empty\n0 300 empty\n1 9 empty\n1 10 held\n";
-    assert_eq!(all_printed(&["300 empty; 100 empty; 200 empty; 100 never", "10 held; 9 empty"]), text);
+    assert_eq!(
+        all_printed(&["300 empty; 100 empty; 200 empty; 100 never", "10 held; 9 empty"]),
+        text
+    );
 }
 
 /// Forty answers out of order. Beyond 20 the sort takes memory.

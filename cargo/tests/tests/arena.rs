@@ -8,7 +8,8 @@ use tests::random::Random;
 
 /// Lengths at each size of slots, its neighbours, and beyond the limit.
 const LENGTHS: [usize; 24] = [
-    0, 1, 31, 32, 33, 64, 65, 128, 129, 256, 257, 512, 513, 1_024, 1_025, 2_048, 2_049, 4_096, 4_097, 8_192, 8_193, 16_383, 16_384, 16_385,
+    0, 1, 31, 32, 33, 64, 65, 128, 129, 256, 257, 512, 513, 1_024, 1_025, 2_048, 2_049, 4_096,
+    4_097, 8_192, 8_193, 16_383, 16_384, 16_385,
 ];
 
 struct Beside {
@@ -21,7 +22,8 @@ struct Beside {
 
 impl Beside {
     fn key(&self, random: &mut Random) -> Vec<u8> {
-        let length = if random.one_in(20) { random.pick(&LENGTHS) } else { random.index(self.longest + 1) };
+        let length =
+            if random.one_in(20) { random.pick(&LENGTHS) } else { random.index(self.longest + 1) };
         let byte = random.number() as u8;
         let mut key = vec![byte; length];
         if let Some(last) = key.last_mut() {
@@ -78,9 +80,16 @@ impl Beside {
 
     fn reserve(&mut self, random: &mut Random) {
         let lengths: Vec<_> = (0..random.index(8)).map(|_| random.pick(&LENGTHS)).collect();
-        let expected = if lengths.iter().any(|length| *length > MAX_LENGTH) { Err(ArenaError::TooLong) } else { Ok(()) };
+        let expected = if lengths.iter().any(|length| *length > MAX_LENGTH) {
+            Err(ArenaError::TooLong)
+        } else {
+            Ok(())
+        };
         assert_eq!(self.arena.reserve(&lengths), expected);
-        assert_eq!(self.arena.reserve_slots(random.index(self.longest + 1), random.index(40)), Ok(()));
+        assert_eq!(
+            self.arena.reserve_slots(random.index(self.longest + 1), random.index(40)),
+            Ok(())
+        );
     }
 }
 
@@ -88,7 +97,12 @@ impl Beside {
 fn arena_is_a_map_of_records() {
     run("arena_is_a_map_of_records", count(10_000_000, 300_000), |random| {
         let longest = random.pick(&[0, 10, 32, 40, 300, 3_000, 16_384]);
-        let mut beside = Beside { arena: Arena::new(Global), records: HashMap::new(), slots: Vec::new(), longest };
+        let mut beside = Beside {
+            arena: Arena::new(Global),
+            records: HashMap::new(),
+            slots: Vec::new(),
+            longest,
+        };
         let calls = 100 + random.below(20_000);
         let mut places = 5;
         for call in 0..calls {
@@ -115,7 +129,9 @@ fn more_chunks_than_slots_of_a_chunk() {
     let mut arena = Arena::new(Global);
     let places = count(20_000, 1_200);
     let key = |number: u64| [&[number as u8; MAX_LENGTH - 8][..], &number.to_be_bytes()].concat();
-    let slots: Vec<_> = (0..places).map(|number| arena.place(number, &key(number)).expect("memory is ample")).collect();
+    let slots: Vec<_> = (0..places)
+        .map(|number| arena.place(number, &key(number)).expect("memory is ample"))
+        .collect();
     assert_eq!(arena.live() as u64, places);
     for (number, slot) in (0..).zip(&slots) {
         assert_eq!(arena.header(*slot), number);
@@ -135,7 +151,9 @@ fn released_slots_are_given_again() {
         let length: usize = random.pick(&[1, 32, 33, 64, 500, 512, 5_000, 16_384]);
         let slots_of_chunk = 16_384 / length.max(32).next_power_of_two();
         let key = vec![7; length];
-        let mut slots: Vec<_> = (0..3 * slots_of_chunk).map(|_| arena.place(0, &key).expect("memory is ample")).collect();
+        let mut slots: Vec<_> = (0..3 * slots_of_chunk)
+            .map(|_| arena.place(0, &key).expect("memory is ample"))
+            .collect();
         let all: HashSet<_> = slots.iter().copied().collect();
         for _ in 0..20 {
             random.shuffle(&mut slots);

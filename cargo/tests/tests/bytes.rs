@@ -1,5 +1,5 @@
-//! The bytes that a filter, a tree and an arena report, beside those of the allocator. A program of its own,
-//! since the allocator is one per program.
+//! The bytes that a filter, a tree and an arena report, beside those of the allocator. A program of
+//! its own, since the allocator is one per program.
 
 use arena::{Arena, Slot};
 use filter::Filter;
@@ -9,7 +9,8 @@ use std::cell::Cell;
 use tree::{NodeEntry, Tree};
 
 thread_local! {
-    // How many bytes this thread has allocated and not freed, and the most in one allocation. It also frees what another has allocated.
+    // How many bytes this thread has allocated and not freed, and the most in one allocation. It
+    // also frees what another has allocated.
     static HELD: Cell<isize> = const { Cell::new(0) };
     static LARGEST: Cell<usize> = const { Cell::new(0) };
 }
@@ -57,7 +58,8 @@ fn a_filter_reports_the_bytes_of_its_cells() {
     }
 }
 
-/// Returns what a tree with one item reports, without the slot of its node. All nodes of a chunk are one allocation.
+/// Returns what a tree with one item reports, without the slot of its node. All nodes of a chunk
+/// are one allocation.
 fn node_bytes<const N: usize>() -> usize {
     let mut keys = Arena::new(Global);
     let key = keys.place((), &[]).expect("memory is ample");

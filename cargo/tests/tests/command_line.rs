@@ -3,21 +3,29 @@
 use keyspace::Verdict;
 use rattle_std::alloc::Global;
 use rattle_std::string::String as KitString;
-use replay_program::{CommandLine, LineFilter, Form, Options, ArgumentsRefusal, Reports, Style, Task, read_words};
+use replay_program::{
+    ArgumentsRefusal, CommandLine, Form, LineFilter, Options, Reports, Style, Task, read_words,
+};
 use tests::failing::Failing;
 use tests::printing::ended;
 use wire::StdSink;
 
 /// The arguments between blanks, after the program's name.
 fn words_of(given: &str) -> Vec<KitString> {
-    ["replay"].into_iter().chain(given.split_whitespace()).map(|word| word.to_owned().into()).collect()
+    ["replay"]
+        .into_iter()
+        .chain(given.split_whitespace())
+        .map(|word| word.to_owned().into())
+        .collect()
 }
 
 /// Reads arguments, and writes the files and the options.
 fn read(given: &str) -> String {
     let words = words_of(given);
     let line = read_words(Global, &words).expect("the arguments are right");
-    line.files.iter().map(|file| format!("{file} ")).collect::<String>() + "|" + &options_text(&line)
+    line.files.iter().map(|file| format!("{file} ")).collect::<String>()
+        + "|"
+        + &options_text(&line)
 }
 
 fn options_text(line: &CommandLine) -> String {
@@ -33,7 +41,10 @@ fn options_text(line: &CommandLine) -> String {
         Reports::All => " report-all",
     };
     let (task, details) = (task_text(&line.task), details_text(line));
-    format!(" {capacity} {window} {limit}{reports}{form}{}{task}{details}", filter_text(&style.filter))
+    format!(
+        " {capacity} {window} {limit}{reports}{form}{}{task}{details}",
+        filter_text(&style.filter)
+    )
 }
 
 fn task_text(task: &Task) -> String {
@@ -208,30 +219,54 @@ fn reasons_of_refusals() {
         ("--check r f g", "error: --check REPLIES is wanted once a file\n"),
         ("--stream --check r f", "error: --stream is wanted without --check\n"),
         ("--only never f", "error: --only is committed, conflict or tooold\n"),
-        ("--versions 5 f", "error: --versions is A..B with integers of 64 bits, of which each can be omitted\n"),
-        ("--quiet --check r f", "error: --quiet, --only and --versions are wanted without --check\n"),
+        (
+            "--versions 5 f",
+            "error: --versions is A..B with integers of 64 bits, of which each can be omitted\n",
+        ),
+        (
+            "--quiet --check r f",
+            "error: --quiet, --only and --versions are wanted without --check\n",
+        ),
         (
             "--summary --quiet f",
-            "error: --summary is wanted without --check, --stream, --frames, --quiet, --only and --versions\n",
+            "error: --summary is wanted without --check, --stream, --frames, --quiet, --only and \
+             --versions\n",
         ),
         (
             "--summary-to r --stream f",
-            "error: --summary-to is wanted without --check, --stream, --summary, --explain and --frames\n",
+            "error: --summary-to is wanted without --check, --stream, --summary, --explain and \
+             --frames\n",
         ),
         (
             "--summary-to r --explain f",
-            "error: --summary-to is wanted without --check, --stream, --summary, --explain and --frames\n",
+            "error: --summary-to is wanted without --check, --stream, --summary, --explain and \
+             --frames\n",
         ),
         ("--top 5 f", "error: --top is wanted with --summary\n"),
         ("--top 5 --summary-to r f", "error: --top is wanted with --summary\n"),
         ("--replies r f", "error: --replies OUT is wanted with --stream\n"),
-        ("--resolvers 2 --stream f", "error: --resolvers above 1 is wanted without --stream, --explain, --top and --report-all\n"),
-        ("--resolvers 2 --explain f", "error: --resolvers above 1 is wanted without --stream, --explain, --top and --report-all\n"),
-        ("--resolvers 2 f -", "error: --resolvers above 1 is wanted without standard input (-) as a FILE\n"),
+        (
+            "--resolvers 2 --stream f",
+            "error: --resolvers above 1 is wanted without --stream, --explain, --top and \
+             --report-all\n",
+        ),
+        (
+            "--resolvers 2 --explain f",
+            "error: --resolvers above 1 is wanted without --stream, --explain, --top and \
+             --report-all\n",
+        ),
+        (
+            "--resolvers 2 f -",
+            "error: --resolvers above 1 is wanted without standard input (-) as a FILE\n",
+        ),
         ("--split-points p f", "error: --split-points POINTS is wanted with --resolvers above 1\n"),
         ("--stream --replies r f g", "error: --replies OUT is wanted once a file\n"),
         ("- f -", "error: standard input (-) can be given only once\n"),
-        ("--resolvers 2 --report-all f", "error: --resolvers above 1 is wanted without --stream, --explain, --top and --report-all\n"),
+        (
+            "--resolvers 2 --report-all f",
+            "error: --resolvers above 1 is wanted without --stream, --explain, --top and \
+             --report-all\n",
+        ),
         ("f g -o g", WRITTEN_INPUT),
         ("--resolvers 2 --split-points p f -o p", WRITTEN_INPUT),
         ("--resolvers 2 --split-points p f --summary-to p", WRITTEN_INPUT),
@@ -261,15 +296,27 @@ fn words_and_options() {
         ("a --stream b", "a b | 16 5000000 1000000 stream"),
         ("--quiet a", "a | 16 5000000 1000000 quiet"),
         ("--only committed a --stream", "a | 16 5000000 1000000 only Committed stream"),
-        ("--only conflict --versions +5..07 --json a", "a | 16 5000000 1000000 json only Conflict from 5 below 7"),
-        ("--only=tooold --versions=-9223372036854775807.. a", "a | 16 5000000 1000000 only TooOld from -9223372036854775807"),
-        ("--versions ..9223372036854775807 --frames a", "a | 16 5000000 1000000 frames below 9223372036854775807"),
+        (
+            "--only conflict --versions +5..07 --json a",
+            "a | 16 5000000 1000000 json only Conflict from 5 below 7",
+        ),
+        (
+            "--only=tooold --versions=-9223372036854775807.. a",
+            "a | 16 5000000 1000000 only TooOld from -9223372036854775807",
+        ),
+        (
+            "--versions ..9223372036854775807 --frames a",
+            "a | 16 5000000 1000000 frames below 9223372036854775807",
+        ),
         ("--versions .. a", "a | 16 5000000 1000000"),
         ("--summary a", "a | 16 5000000 1000000 summary Words"),
         ("a --json --summary b", "a b | 16 5000000 1000000 json summary Json"),
         ("--replies r a --stream --json", "a | 16 5000000 1000000 json stream r"),
         ("--stream --replies - a --replies=s b", "a b | 16 5000000 1000000 stream - s"),
-        ("--capacity=1024 --window 1099511627776 --limit 16777216 a", "a | 1024 1099511627776 16777216"),
+        (
+            "--capacity=1024 --window 1099511627776 --limit 16777216 a",
+            "a | 1024 1099511627776 16777216",
+        ),
         ("-o r a", "a | 16 5000000 1000000 to r"),
         ("-o - - a", "- a | 16 5000000 1000000 to -"),
         ("-o ./a a", "a | 16 5000000 1000000 to ./a"),
@@ -280,7 +327,10 @@ fn words_and_options() {
         ("--explain --output r a", "a | 16 5000000 1000000 explain to r"),
         ("--summary-to r a", "a | 16 5000000 1000000 summary Words to r"),
         ("a --json --summary-to=r", "a | 16 5000000 1000000 json summary Json to r"),
-        ("--summary-to r --quiet --only tooold a", "a | 16 5000000 1000000 quiet only TooOld summary Words to r"),
+        (
+            "--summary-to r --quiet --only tooold a",
+            "a | 16 5000000 1000000 quiet only TooOld summary Words to r",
+        ),
         ("--summary-to r -o s a", "a | 16 5000000 1000000 to s summary Words to r"),
         ("--explain a --json", "a | 16 5000000 1000000 json explain"),
         ("--explain --only conflict a", "a | 16 5000000 1000000 only Conflict explain"),
@@ -298,8 +348,14 @@ fn words_and_options() {
         ("a --explain --json --report-all", "a | 16 5000000 1000000 report-all json explain"),
         ("--report-all --check r a", "a | 16 5000000 1000000 report-all kept check r"),
         ("--stream --report-all --replies r a", "a | 16 5000000 1000000 report-all stream r"),
-        ("--report-all --summary --top 3 a", "a | 16 5000000 1000000 report-all summary Words top 3"),
-        ("--summary-to r --report-all --quiet a", "a | 16 5000000 1000000 report-all quiet summary Words to r"),
+        (
+            "--report-all --summary --top 3 a",
+            "a | 16 5000000 1000000 report-all summary Words top 3",
+        ),
+        (
+            "--summary-to r --report-all --quiet a",
+            "a | 16 5000000 1000000 report-all quiet summary Words to r",
+        ),
         ("-- --report-all", "--report-all | 16 5000000 1000000"),
         ("--resolvers 1 a", "a | 16 5000000 1000000"),
         ("--resolvers 1 -", "- | 16 5000000 1000000"),
@@ -327,7 +383,13 @@ fn sixty_four_files() {
 #[test]
 fn defaults() {
     let style = Style::all(Form::Words);
-    let wanted = Options { capacity: 16, window: 5_000_000, limit: 1_000_000, style, reports: Reports::Asked };
+    let wanted = Options {
+        capacity: 16,
+        window: 5_000_000,
+        limit: 1_000_000,
+        style,
+        reports: Reports::Asked,
+    };
     assert_eq!(Options::default(), wanted);
 }
 
@@ -339,7 +401,8 @@ fn version_and_help() {
     let help = end_of("--help");
     assert!(help.ends_with("done: "), "{help}");
     assert!(help.contains("Usage: replay [OPTIONS] <FILE>...\n"), "{help}");
-    let example = "Example:\n  replay --capacity 1 --frames examples/two_proxies examples/second_proxy\n";
+    let example =
+        "Example:\n  replay --capacity 1 --frames examples/two_proxies examples/second_proxy\n";
     assert!(help.contains(example), "{help}");
 }
 

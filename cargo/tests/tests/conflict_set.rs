@@ -32,11 +32,16 @@ impl Chain {
             window,
             txns_most: random.pick(&[1, 3, 8, 40]),
             ranges_most: random.pick(&[1, 2, 4, 12]),
-            steps_most: if random.one_in(3) { window } else { 1 + window / random.pick(&[1, 3, 20]) },
+            steps_most: if random.one_in(3) {
+                window
+            } else {
+                1 + window / random.pick(&[1, 3, 20])
+            },
         }
     }
 
-    /// Draws the next batch. Most snapshots are about as far back as the window, some anywhere or ahead.
+    /// Draws the next batch. Most snapshots are about as far back as the window, some anywhere or
+    /// ahead.
     fn next(&mut self, random: &mut Random) -> PlainBatch {
         let previous = self.version;
         self.version += random.between(1, self.steps_most.min(1 << 40));
@@ -48,7 +53,9 @@ impl Chain {
             3 => (previous, previous),
             _ => (self.version - back, self.version - 1),
         };
-        let txns = (0..random.index(self.txns_most + 1)).map(|_| self.space.txn(random, self.ranges_most, snapshots)).collect();
+        let txns = (0..random.index(self.txns_most + 1))
+            .map(|_| self.space.txn(random, self.ranges_most, snapshots))
+            .collect();
         PlainBatch { previous, version: self.version, received: -1, txns }
     }
 }
@@ -80,7 +87,8 @@ fn verdicts_and_reports_are_those_of_a_scan() {
     });
 }
 
-/// Many different keys, so that the tree of boundaries has several levels, and snapshots not far back.
+/// Many different keys, so that the tree of boundaries has several levels, and snapshots not far
+/// back.
 #[test]
 fn verdicts_over_many_boundaries() {
     run("verdicts_over_many_boundaries", count(1_000_000, 30_000), |random| {
@@ -105,7 +113,12 @@ fn verdicts_over_many_boundaries() {
                 reads: (0..random.index(3)).map(|_| range(random)).collect(),
                 writes: (0..random.index(3)).map(|_| range(random)).collect(),
             };
-            let batch = PlainBatch { previous: version - 1, version, received: -1, txns: (0..txns).map(|_| txn(random)).collect() };
+            let batch = PlainBatch {
+                previous: version - 1,
+                version,
+                received: -1,
+                txns: (0..txns).map(|_| txn(random)).collect(),
+            };
             let reply = set.resolve(&batch.batch()).expect("the limit is ample");
             assert_eq!(PlainReply::of(&reply), scan.resolve(&batch));
         }
@@ -120,7 +133,9 @@ fn check_within_a_batch_is_that_of_pairs() {
         let space = KeySpace::drawn(random);
         let ranges_most = random.pick(&[1, 2, 6]);
         let txns_most = random.pick(&[5, 70, 400, 1_500]);
-        let txns: Vec<_> = (0..1 + random.index(txns_most)).map(|_| space.txn(random, ranges_most, (0, 200))).collect();
+        let txns: Vec<_> = (0..1 + random.index(txns_most))
+            .map(|_| space.txn(random, ranges_most, (0, 200)))
+            .collect();
         let batch = PlainBatch { previous: -1, version: 100, received: -1, txns };
         let reply = set(5_000_000, MAX_LIMIT).resolve(&batch.batch()).expect("the limit is ample");
         assert_eq!(PlainReply::of(&reply), Scan::new(5_000_000).resolve(&batch));
@@ -128,37 +143,43 @@ fn check_within_a_batch_is_that_of_pairs() {
     });
 }
 
-/// With a small limit: the boundaries and the stop are those of the step function, and the stop is final.
+/// With a small limit: the boundaries and the stop are those of the step function, and the stop is
+/// final.
 #[test]
 fn boundaries_and_stops_are_those_of_the_step_function() {
-    run("boundaries_and_stops_are_those_of_the_step_function", count(2_000_000, 20_000), |random| {
-        let mut chain = Chain::drawn(random);
-        let limit = random.pick(&[1, 2, 3, 5, 9, 20, 60, 300, 2_000]);
-        let mut set = set(chain.window, limit);
-        let mut scan = Scan::new(chain.window);
-        let mut steps = Steps::new(limit);
-        let mut txns = 0;
-        for _ in 0..batches(random) {
-            let batch = chain.next(random);
-            txns += 1 + batch.txns.len() as u64;
-            let expected = scan.resolve(&batch);
-            let writes = united(scan.written_at(batch.version).into_iter().cloned());
-            steps.edge = scan.edge(batch.version);
-            if !steps.prepare(writes.len()) {
-                stays_stopped(&mut set, &mut chain, &batch, random);
-                break;
+    run(
+        "boundaries_and_stops_are_those_of_the_step_function",
+        count(2_000_000, 20_000),
+        |random| {
+            let mut chain = Chain::drawn(random);
+            let limit = random.pick(&[1, 2, 3, 5, 9, 20, 60, 300, 2_000]);
+            let mut set = set(chain.window, limit);
+            let mut scan = Scan::new(chain.window);
+            let mut steps = Steps::new(limit);
+            let mut txns = 0;
+            for _ in 0..batches(random) {
+                let batch = chain.next(random);
+                txns += 1 + batch.txns.len() as u64;
+                let expected = scan.resolve(&batch);
+                let writes = united(scan.written_at(batch.version).into_iter().cloned());
+                steps.edge = scan.edge(batch.version);
+                if !steps.prepare(writes.len()) {
+                    stays_stopped(&mut set, &mut chain, &batch, random);
+                    break;
+                }
+                writes.iter().for_each(|write| steps.write(write, batch.version));
+                steps.sweep(3 * writes.len() + 10);
+                let reply = set.resolve(&batch.batch()).expect("the limit isn't reached");
+                assert_eq!(PlainReply::of(&reply), expected, "{batch:?}");
+                assert_eq!(set.boundaries(), steps.boundaries.len());
             }
-            writes.iter().for_each(|write| steps.write(write, batch.version));
-            steps.sweep(3 * writes.len() + 10);
-            let reply = set.resolve(&batch.batch()).expect("the limit isn't reached");
-            assert_eq!(PlainReply::of(&reply), expected, "{batch:?}");
-            assert_eq!(set.boundaries(), steps.boundaries.len());
-        }
-        txns
-    });
+            txns
+        },
+    );
 }
 
-/// With a small limit: a batch is refused exactly where the step function has no room after a sweep, and leaves no trace.
+/// With a small limit: a batch is refused exactly where the step function has no room after a
+/// sweep, and leaves no trace.
 #[test]
 fn refused_batches_leave_no_trace() {
     run("refused_batches_leave_no_trace", count(1_000_000, 20_000), |random| {
@@ -197,14 +218,22 @@ fn refused_batches_leave_no_trace() {
     });
 }
 
-fn stays_stopped(set: &mut ConflictSet, chain: &mut Chain, batch: &PlainBatch, random: &mut Random) {
+fn stays_stopped(
+    set: &mut ConflictSet,
+    chain: &mut Chain,
+    batch: &PlainBatch,
+    random: &mut Random,
+) {
     assert_eq!(set.resolve(&batch.batch()).err(), Some(SetStop::ArenaFull), "{batch:?}");
     let boundaries = set.boundaries();
     for _ in 0..5 {
         chain.version += chain.window;
         let far = chain.next(random);
         assert_eq!(set.resolve(&far.batch()).err(), Some(SetStop::ArenaFull));
-        assert_eq!(set.resolve(&PlainBatch::empty(far.previous, far.version).batch()).err(), Some(SetStop::ArenaFull));
+        assert_eq!(
+            set.resolve(&PlainBatch::empty(far.previous, far.version).batch()).err(),
+            Some(SetStop::ArenaFull)
+        );
         assert_eq!(set.boundaries(), boundaries);
     }
 }
@@ -219,7 +248,8 @@ fn boundaries_stay_few_with_a_short_window() {
             let mut txn = space.txn(random, 3, (version, version));
             txn.reads.clear();
             let writes = united(txn.writes.clone()).len();
-            let batch = PlainBatch { previous: version - 10, version, received: -1, txns: vec![txn] };
+            let batch =
+                PlainBatch { previous: version - 10, version, received: -1, txns: vec![txn] };
             assert!(set.resolve(&batch.batch()).is_ok());
             // What one batch writes, and what the sweep hasn't looked at yet of the one before.
             assert!(set.boundaries() <= 1 + 2 * writes + 2 * 3);
@@ -243,7 +273,8 @@ fn empty_ranges_meet_nothing() {
         };
         let mut read = space.txn(random, 8, (0, 150));
         read.reads = (0..1 + random.index(8)).map(|_| empty(random)).collect();
-        let batch = PlainBatch { previous: -1, version: 50, received: -1, txns: vec![write, read.clone()] };
+        let batch =
+            PlainBatch { previous: -1, version: 50, received: -1, txns: vec![write, read.clone()] };
         let later = PlainBatch { previous: 50, version: 150, received: -1, txns: vec![read] };
         let mut scan = Scan::new(100);
         for batch in [batch, later] {

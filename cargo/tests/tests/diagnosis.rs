@@ -1,7 +1,10 @@
-//! What is found in a file after a failed run, against a plain walk over its bytes, and the lines about it by hand.
+//! What is found in a file after a failed run, against a plain walk over its bytes, and the lines
+//! about it by hand.
 
 use rattle_std::alloc::Global;
-use replay_diagnosis::{FileBatches, Finding, Position, RunFinding, examine, write_remedy, write_run_remedy};
+use replay_diagnosis::{
+    FileBatches, Finding, Position, RunFinding, examine, write_remedy, write_run_remedy,
+};
 use std::io::{Error, ErrorKind, Read, Result as IoResult};
 use std::sync::atomic::{AtomicU64, Ordering};
 use tests::cases::{count, run};
@@ -68,8 +71,10 @@ fn walked(bytes: &[u8], fails: bool) -> Result<FileBatches, Finding> {
         let rest = &bytes[position.offset as usize..];
         let fault = match read_batch(rest) {
             Ok((batch, _, length)) => {
-                least_previous = Some(least_previous.map_or(batch.previous, |least| least.min(batch.previous)));
-                position = Position { frame: position.frame + 1, offset: position.offset + length as u64 };
+                least_previous =
+                    Some(least_previous.map_or(batch.previous, |least| least.min(batch.previous)));
+                position =
+                    Position { frame: position.frame + 1, offset: position.offset + length as u64 };
                 continue;
             }
             Err(WireError::Short) if fails => return Err(Finding::Unreadable(position)),
@@ -80,7 +85,8 @@ fn walked(bytes: &[u8], fails: bool) -> Result<FileBatches, Finding> {
             return Err(Finding::Json);
         }
         if fault == WireError::Short {
-            let settled = rest.first_chunk().map_or(4, |length| 4 + u64::from(u32::from_be_bytes(*length)));
+            let settled =
+                rest.first_chunk().map_or(4, |length| 4 + u64::from(u32::from_be_bytes(*length)));
             return Err(Finding::Truncated { position, missing: settled - rest.len() as u64 });
         }
         if read_reply(rest).is_ok() {
@@ -185,7 +191,9 @@ fn findings_by_hand() {
 fn batches_of_several_files() {
     let mut batches = FileBatches::none();
     assert_eq!(batches.held_from(), None);
-    for (previous, held) in [(300, Some(300)), (70, Some(70)), (100, Some(70)), (-1, None), (5, None)] {
+    for (previous, held) in
+        [(300, Some(300)), (70, Some(70)), (100, Some(70)), (-1, None), (5, None)]
+    {
         let others = found(&following(previous, 1_000)).expect("it is a frame");
         batches.join(&others);
         batches.join(&FileBatches::none());
@@ -222,31 +230,52 @@ fn lines_about_files() {
     let last = Position { frame: u64::MAX, offset: u64::MAX };
     for (finding, text) in [
         (Finding::CannotOpen, "can't be opened: check the name and the permissions"),
-        (Finding::StandardInput, "is standard input, which can't be read again: record it to a file, and replay that"),
+        (
+            Finding::StandardInput,
+            "is standard input, which can't be read again: record it to a file, and replay that",
+        ),
         (Finding::Memory, "can't be examined for want of memory: free memory"),
         (Finding::Unreadable(start), "can't be read: it is a directory, or its device fails"),
         (Finding::Unreadable(third), "can't be read at frame 3 at byte 162: check its device"),
         (Finding::Json, "is JSON: run `batches encode`, and replay its output"),
-        (Finding::Reply(start), "contains replies, not batches, from frame 1 at byte 0 on: give them to `--check`"),
-        (Finding::Truncated { position: start, missing: 1 }, "ends inside frame 1 at byte 0, 1 bytes too early: name a file of batches"),
+        (
+            Finding::Reply(start),
+            "contains replies, not batches, from frame 1 at byte 0 on: give them to `--check`",
+        ),
+        (
+            Finding::Truncated { position: start, missing: 1 },
+            "ends inside frame 1 at byte 0, 1 bytes too early: name a file of batches",
+        ),
         (
             Finding::Truncated { position: third, missing: 12 },
-            "ends inside frame 3 at byte 162, 12 bytes too early: record it again, or keep the frames before it with `head -c 162`",
+            "ends inside frame 3 at byte 162, 12 bytes too early: \
+             record it again, or keep the frames before it with `head -c 162`",
         ),
-        (Finding::NotAFrame(start, WireError::Long), "has no frame of a batch as frame 1 at byte 0: name a file of batches"),
+        (
+            Finding::NotAFrame(start, WireError::Long),
+            "has no frame of a batch as frame 1 at byte 0: name a file of batches",
+        ),
         (
             Finding::NotAFrame(last, WireError::Trailing),
-            "has no frame of a batch as frame 18446744073709551615 at byte 18446744073709551615: record it again, or keep the \
-             frames before it with `head -c 18446744073709551615`",
+            "has no frame of a batch as frame 18446744073709551615 at byte 18446744073709551615: \
+             record it again, or keep the frames before it with `head -c 18446744073709551615`",
         ),
     ] {
-        assert_eq!(remedy("examples/first run", &finding), format!("  examples/first run {text}\n"));
+        assert_eq!(
+            remedy("examples/first run", &finding),
+            format!("  examples/first run {text}\n")
+        );
     }
 }
 
 #[test]
 fn names_stay_on_their_line() {
-    for (name, shown) in [("-", "-"), ("", ""), ("é\u{1f600}", "é\u{1f600}"), ("a\nb\tc\x1b[31m\x7f~ ", "a?b?c?[31m?~ ")] {
+    for (name, shown) in [
+        ("-", "-"),
+        ("", ""),
+        ("é\u{1f600}", "é\u{1f600}"),
+        ("a\nb\tc\x1b[31m\x7f~ ", "a?b?c?[31m?~ "),
+    ] {
         let line = format!("  {shown} can't be opened: check the name and the permissions\n");
         assert_eq!(remedy(name, &Finding::CannotOpen), line);
     }
@@ -257,15 +286,18 @@ fn lines_about_runs() {
     for (finding, text) in [
         (
             RunFinding::AllHeld(70),
-            "no batch follows version -1, so all are held: begin the chain with `batches opening --version 70`",
+            "no batch follows version -1, so all are held: \
+             begin the chain with `batches opening --version 70`",
         ),
         (
             RunFinding::GateFull,
-            "too many batches wait for one that is missing: make all files one chain, with rising versions in each file",
+            "too many batches wait for one that is missing: \
+             make all files one chain, with rising versions in each file",
         ),
         (
             RunFinding::ArenaFull { version: -1, limit: 16_777_216 },
-            "version -1 was reached with a limit of 16777216 boundaries: raise `--limit`, or use a smaller `--window`",
+            "version -1 was reached with a limit of 16777216 boundaries: \
+             raise `--limit`, or use a smaller `--window`",
         ),
         (RunFinding::Output, "the output can't be written: free its disk, or read it to its end"),
     ] {

@@ -52,16 +52,23 @@ impl Log {
         for (txn, (judged, entry)) in batch.txns.iter().zip(&reply.entries).enumerate() {
             if entry.verdict == Verdict::Committed {
                 let version = batch.version;
-                self.0.extend(judged.writes.iter().cloned().map(|range| PlainWrite { proxy, version, txn, range }));
+                self.0.extend(judged.writes.iter().cloned().map(|range| PlainWrite {
+                    proxy,
+                    version,
+                    txn,
+                    range,
+                }));
             }
         }
     }
 
-    /// Explains a read range of a transaction of the batch: first by what older batches wrote, then by its own.
+    /// Explains a read range of a transaction of the batch: first by what older batches wrote, then
+    /// by its own.
     fn explain(&self, batch: &PlainBatch, txn: usize, read: usize) -> Option<PlainExplanation> {
         let (snapshot, range) = (batch.txns[txn].snapshot, &batch.txns[txn].reads[read]);
         let met = |write: &&PlainWrite| write.range.meets(range);
-        let older = self.0.iter().filter(|write| write.version < batch.version && snapshot < write.version);
+        let older =
+            self.0.iter().filter(|write| write.version < batch.version && snapshot < write.version);
         let own = self.0.iter().filter(|write| write.version == batch.version && write.txn < txn);
         let writes: Vec<_> = older.filter(met).chain(own.filter(met)).collect();
         let (newest, others) = writes.split_last()?;
@@ -141,8 +148,8 @@ fn drawn_batch(random: &mut Random, space: &KeySpace, previous: i64, window: i64
     PlainBatch { previous, version, received: -1, txns }
 }
 
-/// Of each read range of a transaction that isn't too old: the explanation is that by the writes of all batches, and a transaction has
-/// one exactly if it is in conflict.
+/// Of each read range of a transaction that isn't too old: the explanation is that by the writes of
+/// all batches, and a transaction has one exactly if it is in conflict.
 #[test]
 fn explanations_are_those_by_all_batches() {
     let kinds = Kinds::default();
@@ -164,11 +171,19 @@ fn explanations_are_those_by_all_batches() {
                 let mut is_explained = false;
                 for read in 0..batch.txns[txn].reads.len() {
                     let explanation = explained.explain(txn, read);
-                    assert_eq!(explanation, log.explain(&batch, txn, read), "txn {txn} read {read} of {batch:?}");
+                    assert_eq!(
+                        explanation,
+                        log.explain(&batch, txn, read),
+                        "txn {txn} read {read} of {batch:?}"
+                    );
                     kinds.add(batch.version, explanation.as_ref());
                     is_explained |= explanation.is_some();
                 }
-                assert_eq!(is_explained, entry.verdict == Verdict::Conflict, "txn {txn} of {batch:?}");
+                assert_eq!(
+                    is_explained,
+                    entry.verdict == Verdict::Conflict,
+                    "txn {txn} of {batch:?}"
+                );
             }
             (previous, txns) = (batch.version, txns + batch.txns.len() as u64);
         }
@@ -191,8 +206,9 @@ fn txn(snapshot: i64, reads: &[&str], writes: &[&str]) -> PlainTxn {
     PlainTxn { snapshot, marked: false, reads: ranges(reads), writes: ranges(writes) }
 }
 
-/// Batches by their proxies and versions, and what explains a read range of the last one: the proxy, the version, the transaction and the
-/// range that it wrote, and the number of further writes.
+/// Batches by their proxies and versions, and what explains a read range of the last one: the
+/// proxy, the version, the transaction and the range that it wrote, and the number of further
+/// writes.
 struct Row {
     name: &'static str,
     window: i64,
@@ -206,7 +222,10 @@ impl Row {
         let mut explained = Explained::new(self.window);
         let mut previous = -1;
         for (proxy, version, txns) in &self.batches {
-            explained.process(*proxy, &PlainBatch { previous, version: *version, received: -1, txns: txns.clone() });
+            explained.process(
+                *proxy,
+                &PlainBatch { previous, version: *version, received: -1, txns: txns.clone() },
+            );
             previous = *version;
         }
         let expected = self.expected.map(|(proxy, version, txn, keys, further)| PlainExplanation {
@@ -224,7 +243,10 @@ fn rows_by_hand() {
         Row {
             name: "an older batch",
             window: 100,
-            batches: vec![(2, 10, vec![writes(&["x..y"]), writes(&["a..c"])]), (1, 20, vec![txn(9, &["b..d"], &[])])],
+            batches: vec![
+                (2, 10, vec![writes(&["x..y"]), writes(&["a..c"])]),
+                (1, 20, vec![txn(9, &["b..d"], &[])]),
+            ],
             asked: (0, 0),
             expected: Some((2, 10, 1, "a..c", 0)),
         },
@@ -273,14 +295,20 @@ fn rows_by_hand() {
         Row {
             name: "the batch itself before an older one",
             window: 100,
-            batches: vec![(1, 10, vec![writes(&["a..c"])]), (2, 20, vec![writes(&["b..c"]), txn(5, &["b..d"], &[])])],
+            batches: vec![
+                (1, 10, vec![writes(&["a..c"])]),
+                (2, 20, vec![writes(&["b..c"]), txn(5, &["b..d"], &[])]),
+            ],
             asked: (1, 0),
             expected: Some((2, 20, 0, "b..c", 1)),
         },
         Row {
             name: "of one transaction's ranges the last",
             window: 100,
-            batches: vec![(1, 10, vec![writes(&["c..d", "a..c", "b..b"])]), (0, 20, vec![txn(9, &["a..d"], &[])])],
+            batches: vec![
+                (1, 10, vec![writes(&["c..d", "a..c", "b..b"])]),
+                (0, 20, vec![txn(9, &["a..d"], &[])]),
+            ],
             asked: (0, 0),
             expected: Some((1, 10, 0, "a..c", 1)),
         },
@@ -308,7 +336,10 @@ fn rows_by_hand() {
         Row {
             name: "ranges that touch",
             window: 100,
-            batches: vec![(0, 10, vec![writes(&["a..b", "c..d"])]), (0, 20, vec![txn(5, &["b..c"], &[])])],
+            batches: vec![
+                (0, 10, vec![writes(&["a..b", "c..d"])]),
+                (0, 20, vec![txn(5, &["b..c"], &[])]),
+            ],
             asked: (0, 0),
             expected: None,
         },
@@ -344,7 +375,15 @@ fn rows_by_hand() {
             name: "of the writers of a single key the last",
             window: 100,
             batches: vec![
-                (1, 10, vec![writes(&["a..a\0", "c..c\0"]), writes(&["b..b\0"]), writes(&["c..c\0", "a..a\0"])]),
+                (
+                    1,
+                    10,
+                    vec![
+                        writes(&["a..a\0", "c..c\0"]),
+                        writes(&["b..b\0"]),
+                        writes(&["c..c\0", "a..a\0"]),
+                    ],
+                ),
                 (0, 20, vec![txn(9, &["a..a\0"], &[])]),
             ],
             asked: (0, 0),
@@ -353,7 +392,10 @@ fn rows_by_hand() {
         Row {
             name: "a single key that one transaction writes twice",
             window: 100,
-            batches: vec![(1, 10, vec![writes(&["a..a\0", "a..a\0"])]), (0, 20, vec![txn(9, &["a..a\0"], &[])])],
+            batches: vec![
+                (1, 10, vec![writes(&["a..a\0", "a..a\0"])]),
+                (0, 20, vec![txn(9, &["a..a\0"], &[])]),
+            ],
             asked: (0, 0),
             expected: Some((1, 10, 0, "a..a\0", 1)),
         },
@@ -380,7 +422,10 @@ fn rows_by_hand() {
         Row {
             name: "a single key that nobody wrote",
             window: 100,
-            batches: vec![(1, 10, vec![writes(&["a..a\0", "c..c\0"])]), (0, 20, vec![txn(9, &["b..b\0"], &[])])],
+            batches: vec![
+                (1, 10, vec![writes(&["a..a\0", "c..c\0"])]),
+                (0, 20, vec![txn(9, &["b..b\0"], &[])]),
+            ],
             asked: (0, 0),
             expected: None,
         },

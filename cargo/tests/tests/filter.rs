@@ -18,7 +18,10 @@ fn bounds_of_writes() {
     filter.write_key(key_hash(b"first"), 120);
     for _ in 0..2 {
         let bounds = [&b"first"[..], b"second", b"neither"].map(|key| filter.bound(key));
-        assert_eq!((bounds, filter.newest_range(), filter.is_useful()), ([150, 200, 150], 150, true));
+        assert_eq!(
+            (bounds, filter.newest_range(), filter.is_useful()),
+            ([150, 200, 150], 150, true)
+        );
         // More cells keep the bounds.
         filter.reserve(8_000).expect("memory is ample");
     }
@@ -45,5 +48,8 @@ fn keys_of_one_cell() {
     filter.write_key(2, 150);
     assert_eq!([0, 1, 2, 3, 33].map(|hash| filter.bound_at(hash)), [150, 300, 150, -1, -1]);
     filter.write_key(3, 400);
-    assert_eq!([0, 1, 3, 4, 0x8000_0000].map(|hash| filter.bound_at(hash)), [300, 300, 400, -1, -1]);
+    assert_eq!(
+        [0, 1, 3, 4, 0x8000_0000].map(|hash| filter.bound_at(hash)),
+        [300, 300, 400, -1, -1]
+    );
 }

@@ -1,6 +1,7 @@
-//! Which batch goes first if all proxies wait for each other, and what they report in a waiting room.
+//! Which batch goes first if all proxies wait for each other, and what they report in a waiting
+//! room.
 
-use flow::{Stand, ReportedState, WaitingRoom, is_below_share, next_admitted};
+use flow::{ReportedState, Stand, WaitingRoom, is_below_share, next_admitted};
 use rattle_std::alloc::Global;
 
 const GOES: ReportedState = ReportedState::Goes;
@@ -37,9 +38,14 @@ fn next_batch() {
 /// In the last row more answers than batches were counted.
 #[test]
 fn share_of_a_proxy() {
-    for (sent, answered, share, expected) in
-        [(0, 0, 1, true), (1, 0, 1, false), (16, 0, 16, false), (16, 1, 16, true), (u64::MAX, 0, 16, false), (3, 5, 1, true)]
-    {
+    for (sent, answered, share, expected) in [
+        (0, 0, 1, true),
+        (1, 0, 1, false),
+        (16, 0, 16, false),
+        (16, 1, 16, true),
+        (u64::MAX, 0, 16, false),
+        (3, 5, 1, true),
+    ] {
         assert_eq!(is_below_share(sent, answered, share), expected, "{sent} {answered} {share}");
     }
 }
@@ -67,9 +73,15 @@ fn places_are_apart() {
     let room = WaitingRoom::new(Global, 2).expect("memory is ample");
     assert!(!room.stands(0, SECOND));
     assert!(!room.stands(1, FIRST));
-    assert_eq!((room.reported_state(0), room.reported_state(1)), (ReportedState::Stands(SECOND), ReportedState::Stands(FIRST)));
+    assert_eq!(
+        (room.reported_state(0), room.reported_state(1)),
+        (ReportedState::Stands(SECOND), ReportedState::Stands(FIRST))
+    );
     room.admit(1);
-    assert_eq!((room.reported_state(0), room.reported_state(1)), (ReportedState::Stands(SECOND), GOES));
+    assert_eq!(
+        (room.reported_state(0), room.reported_state(1)),
+        (ReportedState::Stands(SECOND), GOES)
+    );
     room.closes(0);
     assert_eq!((room.reported_state(0), room.reported_state(1)), (CLOSED, GOES));
     assert!(room.stands(2, FIRST));

@@ -9,16 +9,19 @@ use tests::plain::{PlainBatch, PlainEntry, PlainRange, PlainReply, PlainTxn};
 use tests::random::Random;
 use tests::spelling::{batch_frame, framed, read_batch, read_reply, reply_frame};
 use wire::{
-    Sink, StdSink, StdSource, WireError, decode_batch, decode_reply, encode_batch, encode_batch_1, encode_reply, read_frames, upgrade,
-    write_all,
+    Sink, StdSink, StdSource, WireError, decode_batch, decode_reply, encode_batch, encode_batch_1,
+    encode_reply, read_frames, upgrade, write_all,
 };
 
 /// The vectors of the page, in hexadecimal.
 const BATCHES: [&str; 4] = [
     "0000001b 01 ffffffffffffffff 0000000000000000 ffffffffffffffff 0000",
-    "0000002e 01 0000000000000000 0000000000000064 ffffffffffffffff 0001 0000000000000000 00 0000 0001 0001 61 0001 62",
-    "0000002f 03 0000000000000000 0000000000000064 ffffffffffffffff 0001 0000000000000000 00 0000 0001 00 0001 61 0001 62",
-    "0000002c 03 0000000000000000 0000000000000064 ffffffffffffffff 0001 0000000000000000 00 0000 0001 01 0001 6b",
+    "0000002e 01 0000000000000000 0000000000000064 ffffffffffffffff 0001 0000000000000000 00 0000 \
+     0001 0001 61 0001 62",
+    "0000002f 03 0000000000000000 0000000000000064 ffffffffffffffff 0001 0000000000000000 00 0000 \
+     0001 00 0001 61 0001 62",
+    "0000002c 03 0000000000000000 0000000000000064 ffffffffffffffff 0001 0000000000000000 00 0000 \
+     0001 01 0001 6b",
 ];
 const REPLIES: [&str; 3] = [
     "0000000b 02 0000000000000000 0000",
@@ -30,7 +33,11 @@ fn bytes_of(vector: &str) -> Vec<u8> {
     let digits: Vec<u8> = vector.bytes().filter(|byte| *byte != b' ').collect();
     digits
         .chunks(2)
-        .map(|pair| pair.iter().fold(0, |byte, digit| byte << 4 | char::from(*digit).to_digit(16).expect("it is a digit") as u8))
+        .map(|pair| {
+            pair.iter().fold(0, |byte, digit| {
+                byte << 4 | char::from(*digit).to_digit(16).expect("it is a digit") as u8
+            })
+        })
         .collect()
 }
 
@@ -61,7 +68,10 @@ fn reply_decodes_by_the_tables(bytes: &[u8]) -> Option<WireError> {
         (Ok((reply, used)), Ok((expected, length))) => {
             let reply = PlainReply::of(&reply);
             assert_eq!((&reply, used), (&expected, length));
-            assert_eq!(encode_reply(Global, &reply.reply()).expect("the reply is short").as_slice(), &bytes[..used]);
+            assert_eq!(
+                encode_reply(Global, &reply.reply()).expect("the reply is short").as_slice(),
+                &bytes[..used]
+            );
             None
         }
         (Err(fault), Err(expected)) => {
@@ -72,7 +82,8 @@ fn reply_decodes_by_the_tables(bytes: &[u8]) -> Option<WireError> {
     }
 }
 
-/// Cuts a frame at every byte. With its own length it is `Short`; with the length of the remaining bytes it is `Cut`.
+/// Cuts a frame at every byte. With its own length it is `Short`; with the length of the remaining
+/// bytes it is `Cut`.
 fn cut_everywhere(frame: &[u8], decodes: impl Fn(&[u8]) -> Option<WireError>) {
     for length in 0..frame.len() {
         assert_eq!(decodes(&frame[..length]), Some(WireError::Short));
@@ -86,7 +97,12 @@ fn cut_everywhere(frame: &[u8], decodes: impl Fn(&[u8]) -> Option<WireError>) {
 }
 
 /// Flips some of the bits of each byte in turn, in `flips` ways at each.
-fn flip_everywhere(frame: &[u8], flips: u64, random: &mut Random, decodes: impl Fn(&[u8]) -> Option<WireError>) {
+fn flip_everywhere(
+    frame: &[u8],
+    flips: u64,
+    random: &mut Random,
+    decodes: impl Fn(&[u8]) -> Option<WireError>,
+) {
     let mut changed = frame.to_vec();
     for place in 0..frame.len() {
         for flip in 0..flips {
@@ -106,7 +122,9 @@ fn edit(frame: &[u8], random: &mut Random) -> Vec<u8> {
         match random.below(4) {
             0 => body.insert(place, random.pick(&[0, 1, 2, 3, 4, 0x27, 255])),
             1 if place < body.len() => drop(body.remove(place)),
-            2 if place < body.len() => body[place] = random.pick(&[0, 1, 2, 3, 4, 16, 17, 0x27, 0x7f, 0x80, 255]),
+            2 if place < body.len() => {
+                body[place] = random.pick(&[0, 1, 2, 3, 4, 16, 17, 0x27, 0x7f, 0x80, 255])
+            }
             _ => {
                 let until = body.len().min(place + random.index(12));
                 let piece = body[place..until].to_vec();
@@ -128,12 +146,24 @@ fn small_batch(random: &mut Random) -> PlainBatch {
 
 fn small_reply(random: &mut Random) -> PlainReply {
     let entry = |random: &mut Random| {
-        let verdict = random.pick(&[Verdict::Conflict, Verdict::Conflict, Verdict::TooOld, Verdict::Committed]);
+        let verdict = random.pick(&[
+            Verdict::Conflict,
+            Verdict::Conflict,
+            Verdict::TooOld,
+            Verdict::Committed,
+        ]);
         let chance = random.pick(&[2, 40, 500]);
-        let places = if verdict == Verdict::Conflict { (0..1_024).filter(|_| random.one_in(chance)).collect() } else { Vec::new() };
+        let places = if verdict == Verdict::Conflict {
+            (0..1_024).filter(|_| random.one_in(chance)).collect()
+        } else {
+            Vec::new()
+        };
         PlainEntry { verdict, places }
     };
-    PlainReply { version: any_batch(random, 0, 0).version, entries: (0..random.index(6)).map(|_| entry(random)).collect() }
+    PlainReply {
+        version: any_batch(random, 0, 0).version,
+        entries: (0..random.index(6)).map(|_| entry(random)).collect(),
+    }
 }
 
 #[test]
@@ -169,7 +199,10 @@ fn replies_are_spelled_by_the_tables() {
     run("replies_are_spelled_by_the_tables", count(300_000, 5_000), |random| {
         let reply = small_reply(random);
         let frame = reply_frame(&reply);
-        assert_eq!(encode_reply(Global, &reply.reply()).expect("the reply is short").as_slice(), frame);
+        assert_eq!(
+            encode_reply(Global, &reply.reply()).expect("the reply is short").as_slice(),
+            frame
+        );
         assert_eq!(reply_decodes_by_the_tables(&frame), None);
         let copy = reply.reply().copy(Global).expect("memory is ample");
         assert_eq!(PlainReply::of(&copy), reply);
@@ -185,7 +218,8 @@ fn random_frames_cut_and_flipped_everywhere() {
         let reply = reply_frame(&small_reply(random));
         let frames = [batch_frame(&batch, 1), batch_frame(&batch, 2)];
         let mut decoded = 0;
-        // Long keys are left to the test of edits, since these decode each frame as often as it has bytes.
+        // Long keys are left to the test of edits, since these decode each frame as often as it has
+        // bytes.
         for frame in frames.iter().filter(|frame| frame.len() < 2_000) {
             cut_everywhere(frame, decodes_by_the_tables);
             flip_everywhere(frame, 4, random, decodes_by_the_tables);
@@ -221,7 +255,9 @@ fn any_bytes_decode_by_the_tables() {
     run("any_bytes_decode_by_the_tables", count(50_000_000, 500_000), |random| {
         let length = random.index(60);
         let few = random.one_in(2);
-        let byte = |random: &mut Random| if few { random.pick(&[0, 0, 0, 1, 2, 3]) } else { random.number() as u8 };
+        let byte = |random: &mut Random| {
+            if few { random.pick(&[0, 0, 0, 1, 2, 3]) } else { random.number() as u8 }
+        };
         let mut bytes: Vec<u8> = (0..length).map(|_| byte(random)).collect();
         if random.one_in(4) {
             decodes_by_the_tables(&bytes);
@@ -233,7 +269,8 @@ fn any_bytes_decode_by_the_tables() {
     });
 }
 
-/// A reader that gives at most 20 bytes per call, is interrupted now and then, and may fail at the end of its bytes.
+/// A reader that gives at most 20 bytes per call, is interrupted now and then, and may fail at the
+/// end of its bytes.
 struct Pieces<'a> {
     bytes: &'a [u8],
     fails: bool,
@@ -266,7 +303,8 @@ struct Stream {
 impl Stream {
     fn drawn(random: &mut Random, fails: bool) -> Self {
         let entire: Vec<_> = (0..random.index(5)).map(|_| small_batch(random)).collect();
-        let mut bytes: Vec<u8> = entire.iter().flat_map(|batch| batch_frame(batch, 1 + random.below(2) as u8)).collect();
+        let mut bytes: Vec<u8> =
+            entire.iter().flat_map(|batch| batch_frame(batch, 1 + random.below(2) as u8)).collect();
         let next = batch_frame(&small_batch(random), 1 + random.below(2) as u8);
         let (more, fault) = match random.below(3) {
             0 => (Vec::new(), None),
@@ -278,7 +316,11 @@ impl Stream {
             }
         };
         // A reader that fails is found to fail where more bytes are wanted.
-        let fault = if fails && fault.is_none_or(|fault| fault == WireError::Short) { Some(WireError::Read) } else { fault };
+        let fault = if fails && fault.is_none_or(|fault| fault == WireError::Short) {
+            Some(WireError::Read)
+        } else {
+            fault
+        };
         bytes.extend(more);
         Stream { bytes, entire, fault }
     }
@@ -297,7 +339,9 @@ fn frames_of_readers_that_cut_and_fail() {
         let ordered = random.one_in(2);
         let mut next = || match ordered {
             true => frames.next(),
-            false => Ok(frames.next_unordered()?.map(|batch| batch.order(Global).expect("memory is ample"))),
+            false => Ok(frames
+                .next_unordered()?
+                .map(|batch| batch.order(Global).expect("memory is ample"))),
         };
         for batch in &stream.entire {
             let found = next().expect("the frame is whole").expect("the frame is there");
@@ -314,7 +358,8 @@ fn frames_of_readers_that_cut_and_fail() {
     });
 }
 
-/// A writer that takes some bytes per call, is interrupted now and then, and fails once it has `most` bytes.
+/// A writer that takes some bytes per call, is interrupted now and then, and fails once it has
+/// `most` bytes.
 struct Short {
     written: Vec<u8>,
     most: usize,
@@ -328,7 +373,11 @@ impl Write for Short {
         }
         let most = bytes.len().min(self.most - self.written.len());
         if most == 0 && !bytes.is_empty() {
-            return if self.random.one_in(2) { Ok(0) } else { Err(Error::other("the writer fails")) };
+            return if self.random.one_in(2) {
+                Ok(0)
+            } else {
+                Err(Error::other("the writer fails"))
+            };
         }
         let count = if most == 0 { 0 } else { 1 + self.random.index(most) };
         self.written.extend(&bytes[..count]);
@@ -340,15 +389,18 @@ impl Write for Short {
     }
 }
 
-/// `upgrade` writes each batch before a fault as a frame of version 2, and a prefix of these frames to a writer that fails.
+/// `upgrade` writes each batch before a fault as a frame of version 2, and a prefix of these frames
+/// to a writer that fails.
 #[test]
 fn upgrades_of_streams() {
     run("upgrades_of_streams", count(500_000, 10_000), |random| {
         let stream = Stream::drawn(random, false);
-        let expected: Vec<u8> = stream.entire.iter().flat_map(|batch| batch_frame(batch, 2)).collect();
+        let expected: Vec<u8> =
+            stream.entire.iter().flat_map(|batch| batch_frame(batch, 2)).collect();
         let most = if random.one_in(2) { usize::MAX } else { random.index(expected.len() + 2) };
         let mut reader = stream.reader(false, random);
-        let mut writer = StdSink::new(Short { written: Vec::new(), most, random: Random::new(random.number()) });
+        let mut writer =
+            StdSink::new(Short { written: Vec::new(), most, random: Random::new(random.number()) });
         let answer = upgrade(Global, &mut reader, &mut writer);
         let written = writer.into_inner().written;
         if most < expected.len() {
@@ -407,7 +459,9 @@ fn interruptions_up_to_the_limit() {
     let frame = bytes_of(BATCHES[1]);
     for interruptions in [0, 1, 999, 1_000, 1_001, 5_000] {
         let interrupted = || Interrupted { bytes: &frame, interruptions, left: interruptions };
-        let read = read_frames(Global, StdSource::new(interrupted())).next().map(|batch| batch.map(|batch| batch.version));
+        let read = read_frames(Global, StdSource::new(interrupted()))
+            .next()
+            .map(|batch| batch.map(|batch| batch.version));
         assert_eq!(read, if interruptions <= 1_000 { Ok(Some(100)) } else { Err(WireError::Read) });
         let mut sink = StdSink::new(interrupted());
         assert_eq!(write_all(&mut sink, &frame).is_ok(), interruptions <= 1_000);
@@ -415,14 +469,22 @@ fn interruptions_up_to_the_limit() {
     }
 }
 
-/// A batch of version 1 that is too long in version 2 is refused, after the frames before it are written.
+/// A batch of version 1 that is too long in version 2 is refused, after the frames before it are
+/// written.
 #[test]
 fn upgrade_outgrows_its_frame() {
     let mut batch = PlainBatch::empty(-1, 100);
     let long = |byte: u8| PlainRange::new(vec![byte; 9_990], vec![byte + 1; 9_990]);
-    batch.txns = vec![PlainTxn { snapshot: 0, marked: false, reads: vec![long(b'a'); 209], writes: Vec::new() }];
+    batch.txns = vec![PlainTxn {
+        snapshot: 0,
+        marked: false,
+        reads: vec![long(b'a'); 209],
+        writes: Vec::new(),
+    }];
     let left = 4_194_304 + 4 - batch_frame(&batch, 1).len();
-    batch.txns[0].writes.push(PlainRange::new(vec![b'x'; left / 2 - 4], vec![b'y'; left - left / 2]));
+    batch.txns[0]
+        .writes
+        .push(PlainRange::new(vec![b'x'; left / 2 - 4], vec![b'y'; left - left / 2]));
     let frame = batch_frame(&batch, 1);
     assert_eq!(frame.len(), 4 + 4_194_304);
     let bytes = [&bytes_of(BATCHES[1]), &frame[..]].concat();

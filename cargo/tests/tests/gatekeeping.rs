@@ -1,6 +1,7 @@
-//! Gatekeepers that watch a run: a file that stalls while another goes on, and when a batch is admitted.
+//! Gatekeepers that watch a run: a file that stalls while another goes on, and when a batch is
+//! admitted.
 
-use flow::{Stand, ReportedState, WaitingRoom};
+use flow::{ReportedState, Stand, WaitingRoom};
 use rattle_std::alloc::Global;
 use rattle_std::sync::Arc;
 use replay_program::{Gatekeeper, ShareKeeper};
@@ -44,7 +45,8 @@ impl Read for Stalling {
     }
 }
 
-/// Does what the program's gatekeeper does, and lets the reader of proxy 0 go on once proxy 1 isn't admitted, or sends no more.
+/// Does what the program's gatekeeper does, and lets the reader of proxy 0 go on once proxy 1 isn't
+/// admitted, or sends no more.
 struct Releasing {
     room: WaitingRoom,
     keeps_shares: bool,
@@ -112,7 +114,9 @@ fn replayed_beside_a_stall(keeps_shares: bool) -> String {
 /// The second proxy goes on up to its share, and waits there until the first has caught up.
 #[test]
 fn stalled_file_stops_nobody() {
-    let lines = [0, 1].map(|proxy| every_second(proxy).map(|version| format!("{proxy} {version} empty\n")).collect::<String>());
+    let lines = [0, 1].map(|proxy| {
+        every_second(proxy).map(|version| format!("{proxy} {version} empty\n")).collect::<String>()
+    });
     assert!(replayed_beside_a_stall(true) == lines.concat() + "done: ");
 }
 
@@ -125,14 +129,16 @@ fn stalled_file_without_shares() {
 /// How often the first look yields at most until the first batch is sent.
 const MAX_YIELDS: u64 = 10_000_000;
 
-/// Tells of its one proxy that it stands, from its first batch on. During the first look that batch is sent, and so it is taken between
-/// the first look and the second. The second batch may be sent once some batch was admitted twice.
+/// Tells of its one proxy that it stands, from its first batch on. During the first look that batch
+/// is sent, and so it is taken between the first look and the second. The second batch may be sent
+/// once some batch was admitted twice.
 #[derive(Default)]
 struct Watched {
     // how many batches the proxy has had ready, and how many it may send
     read: AtomicU64,
     open: AtomicU64,
-    // how many looks have found that it stands: all, those before a batch was admitted, and those before one was again
+    // how many looks have found that it stands: all, those before a batch was admitted, and those
+    // before one was again
     looks: AtomicU64,
     first: AtomicU64,
     again: AtomicU64,
@@ -188,8 +194,9 @@ impl ShareKeeper for Watched {
     }
 }
 
-/// Two batches that are held. A batch is admitted only if two looks in sequence have found the same, with no batch taken between and
-/// none let through: the first look is forgotten when the batch is taken, and the third when one is admitted.
+/// Two batches that are held. A batch is admitted only if two looks in sequence have found the
+/// same, with no batch taken between and none let through: the first look is forgotten when the
+/// batch is taken, and the third when one is admitted.
 #[test]
 fn two_looks_equal_let_a_batch_through() {
     let watched = shared(Watched::default());

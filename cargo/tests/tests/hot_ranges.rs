@@ -43,7 +43,10 @@ impl Counted {
     fn process_all(&mut self, batches: &[(i64, Vec<PlainTxn>)]) {
         let mut previous = -1;
         for (version, txns) in batches {
-            self.process(0, &PlainBatch { previous, version: *version, received: -1, txns: txns.clone() });
+            self.process(
+                0,
+                &PlainBatch { previous, version: *version, received: -1, txns: txns.clone() },
+            );
             previous = *version;
         }
     }
@@ -66,10 +69,12 @@ fn rows(ranges: &[HotRange<'_>]) -> Vec<Row> {
     ranges.iter().map(|hot| ((hot.begin.to_vec(), hot.end.to_vec()), hot.conflicts)).collect()
 }
 
-/// A plain count: for each range the rejected transactions that it counts for, by their versions and indices.
+/// A plain count: for each range the rejected transactions that it counts for, by their versions
+/// and indices.
 #[derive(Default)]
 struct Scan {
-    // all committed writes, in the order of processing: the version, the index of the transaction and the range
+    // all committed writes, in the order of processing: the version, the index of the transaction
+    // and the range
     writes: Vec<(i64, usize, PlainRange)>,
     reads: BTreeMap<(Vec<u8>, Vec<u8>), BTreeSet<(i64, usize)>>,
     written: BTreeMap<(Vec<u8>, Vec<u8>), BTreeSet<(i64, usize)>>,
@@ -79,11 +84,14 @@ impl Scan {
     fn add(&mut self, batch: &PlainBatch, reply: &PlainReply) {
         for (txn, (judged, entry)) in batch.txns.iter().zip(&reply.entries).enumerate() {
             match entry.verdict {
-                Verdict::Committed => {
-                    self.writes.extend(judged.writes.iter().map(|range| (batch.version, txn, range.clone())))
-                }
+                Verdict::Committed => self
+                    .writes
+                    .extend(judged.writes.iter().map(|range| (batch.version, txn, range.clone()))),
                 Verdict::TooOld => {}
-                Verdict::Conflict => judged.reads.iter().for_each(|range| self.add_read(batch.version, txn, judged, range)),
+                Verdict::Conflict => judged
+                    .reads
+                    .iter()
+                    .for_each(|range| self.add_read(batch.version, txn, judged, range)),
             }
         }
     }
@@ -104,14 +112,18 @@ fn ends(range: &PlainRange) -> (Vec<u8>, Vec<u8>) {
 }
 
 /// Returns the greatest counts, and equal ones in the order of the ranges.
-fn greatest(counts: &BTreeMap<(Vec<u8>, Vec<u8>), BTreeSet<(i64, usize)>>, most: usize) -> Vec<Row> {
+fn greatest(
+    counts: &BTreeMap<(Vec<u8>, Vec<u8>), BTreeSet<(i64, usize)>>,
+    most: usize,
+) -> Vec<Row> {
     let mut rows: Vec<_> = counts.iter().map(|(ends, txns)| (ends.clone(), txns.len())).collect();
     rows.sort_by_key(|row| (Reverse(row.1), row.0.clone()));
     rows.truncate(most);
     rows
 }
 
-/// Over drawn chains of several proxies, the ranges are those of a plain count, whatever their number.
+/// Over drawn chains of several proxies, the ranges are those of a plain count, whatever their
+/// number.
 #[test]
 fn ranges_are_those_of_a_count() {
     let (several, again) = (AtomicU64::new(0), AtomicU64::new(0));
@@ -130,14 +142,26 @@ fn ranges_are_those_of_a_count() {
             let expected = (greatest(&scan.reads, most), greatest(&scan.written, most));
             assert_eq!(counted.top(most), expected, "the first {most}");
         }
-        several.fetch_add(scan.reads.values().filter(|txns| txns.len() > 1).count() as u64, Ordering::Relaxed);
-        again.fetch_add(scan.written.values().filter(|txns| txns.len() > 1).count() as u64, Ordering::Relaxed);
+        several.fetch_add(
+            scan.reads.values().filter(|txns| txns.len() > 1).count() as u64,
+            Ordering::Relaxed,
+        );
+        again.fetch_add(
+            scan.written.values().filter(|txns| txns.len() > 1).count() as u64,
+            Ordering::Relaxed,
+        );
         txns
     });
     // One seed alone, or few cases, may not have each kind.
     if env::var("ARCHCARAWAY_SEED").is_err() && count(20_000, 20_000) == 20_000 {
-        assert!(several.load(Ordering::Relaxed) >= 500, "read ranges of several transactions: {several:?}");
-        assert!(again.load(Ordering::Relaxed) >= 500, "written ranges of several transactions: {again:?}");
+        assert!(
+            several.load(Ordering::Relaxed) >= 500,
+            "read ranges of several transactions: {several:?}"
+        );
+        assert!(
+            again.load(Ordering::Relaxed) >= 500,
+            "written ranges of several transactions: {again:?}"
+        );
     }
 }
 
@@ -151,9 +175,11 @@ fn drawn_batch(random: &mut Random, space: &KeySpace, previous: i64, window: i64
 /// A range by its keys.
 type Ends = (&'static [u8], &'static [u8]);
 
-/// Returns a transaction without a report by its snapshot, the ranges that it reads, and those that it writes.
+/// Returns a transaction without a report by its snapshot, the ranges that it reads, and those that
+/// it writes.
 fn txn(snapshot: i64, reads: &[Ends], writes: &[Ends]) -> PlainTxn {
-    let ranges = |ranges: &[Ends]| ranges.iter().map(|(begin, end)| PlainRange::new(*begin, *end)).collect();
+    let ranges =
+        |ranges: &[Ends]| ranges.iter().map(|(begin, end)| PlainRange::new(*begin, *end)).collect();
     PlainTxn { snapshot, marked: false, reads: ranges(reads), writes: ranges(writes) }
 }
 
@@ -171,7 +197,9 @@ impl Case {
         let mut counted = Counted::new(self.window);
         counted.process_all(&self.batches);
         let rows = |rows: &[(Ends, usize)]| {
-            rows.iter().map(|((begin, end), conflicts)| ((begin.to_vec(), end.to_vec()), *conflicts)).collect::<Vec<_>>()
+            rows.iter()
+                .map(|((begin, end), conflicts)| ((begin.to_vec(), end.to_vec()), *conflicts))
+                .collect::<Vec<_>>()
         };
         assert_eq!(counted.top(10), (rows(&self.reads), rows(&self.writes)), "{}", self.name);
     }
@@ -179,7 +207,8 @@ impl Case {
 
 #[test]
 fn rows_by_hand() {
-    let (ab, bc, ac, xy): (Ends, Ends, Ends, Ends) = ((b"a", b"b"), (b"b", b"c"), (b"a", b"c"), (b"x", b"y"));
+    let (ab, bc, ac, xy): (Ends, Ends, Ends, Ends) =
+        ((b"a", b"b"), (b"b", b"c"), (b"a", b"c"), (b"x", b"y"));
     let cases = [
         Case {
             name: "nothing is rejected",
@@ -205,7 +234,10 @@ fn rows_by_hand() {
         Case {
             name: "each read range in conflict counts, and no other",
             window: 100,
-            batches: vec![(10, vec![txn(0, &[], &[ab, bc])]), (20, vec![txn(9, &[xy, bc, ab], &[])])],
+            batches: vec![
+                (10, vec![txn(0, &[], &[ab, bc])]),
+                (20, vec![txn(9, &[xy, bc, ab], &[])]),
+            ],
             reads: vec![(ab, 1), (bc, 1)],
             writes: vec![(ab, 1), (bc, 1)],
         },
@@ -237,7 +269,11 @@ fn rows_by_hand() {
         Case {
             name: "the newest write counts alone",
             window: 100,
-            batches: vec![(10, vec![txn(0, &[], &[ab])]), (20, vec![txn(0, &[], &[ac])]), (30, vec![txn(9, &[ab], &[])])],
+            batches: vec![
+                (10, vec![txn(0, &[], &[ab])]),
+                (20, vec![txn(0, &[], &[ac])]),
+                (30, vec![txn(9, &[ab], &[])]),
+            ],
             reads: vec![(ab, 1)],
             writes: vec![(ac, 1)],
         },
@@ -279,7 +315,10 @@ fn rows_by_hand() {
         Case {
             name: "equal counts are in the order of the begins, and then of the ends",
             window: 100,
-            batches: vec![(10, vec![txn(0, &[], &[(b"", b"z")])]), (20, vec![txn(9, &[bc, ac, xy, ab], &[])])],
+            batches: vec![
+                (10, vec![txn(0, &[], &[(b"", b"z")])]),
+                (20, vec![txn(9, &[bc, ac, xy, ab], &[])]),
+            ],
             reads: vec![(ab, 1), (ac, 1), (bc, 1), (xy, 1)],
             writes: vec![((b"", b"z"), 1)],
         },
@@ -292,14 +331,21 @@ fn rows_by_hand() {
 fn texts_by_hand() {
     let (bob, odd): (Ends, Ends) = ((b"account/bob", b"account/bob\0"), (b"\"\\", b"\"\\\xff"));
     let mut counted = Counted::new(100);
-    let heads = ("read ranges in conflict, most first\n", "written ranges in conflict, most first\n");
-    assert_eq!(counted.texts(3), (format!("{}{}", heads.0, heads.1), "\"hot_reads\":[],\"hot_writes\":[]".to_owned()));
+    let heads =
+        ("read ranges in conflict, most first\n", "written ranges in conflict, most first\n");
+    assert_eq!(
+        counted.texts(3),
+        (format!("{}{}", heads.0, heads.1), "\"hot_reads\":[],\"hot_writes\":[]".to_owned())
+    );
     counted.process_all(&[
         (10, vec![txn(0, &[], &[bob, odd])]),
         (20, vec![txn(9, &[odd, bob], &[]), txn(9, &[bob], &[])]),
     ]);
     let lines = "  2 [\"account/bob\",\"account/bob\\x00\")\n  1 [\"\"\\\\\",\"\"\\\\\\xff\")\n";
-    let array = r#"[{"begin":"account/bob","end":"account/bob\\x00","conflicts":2},{"begin":"\"\\\\","end":"\"\\\\\\xff","conflicts":1}]"#;
+    let array = concat!(
+        r#"[{"begin":"account/bob","end":"account/bob\\x00","conflicts":2},"#,
+        r#"{"begin":"\"\\\\","end":"\"\\\\\\xff","conflicts":1}]"#,
+    );
     let expected = (
         format!("{}{lines}{}{lines}", heads.0, heads.1),
         format!("\"hot_reads\":{array},\"hot_writes\":{array}"),

@@ -1,6 +1,9 @@
 //! The order of keys, their heads and hashes, and the ranks of ranges.
 
-use keys::{Key, RangeList, RangeRef, GapRuns, common_prefix_len, head_after, key_hash, key_head, same_bytes};
+use keys::{
+    GapRuns, Key, RangeList, RangeRef, common_prefix_len, head_after, key_hash, key_head,
+    same_bytes,
+};
 use keyspace::Txns;
 use rattle_std::alloc::Global;
 use std::collections::{BTreeMap, BTreeSet};
@@ -35,7 +38,8 @@ fn any_key(space: &KeySpace, random: &mut Random) -> Vec<u8> {
 fn keys_are_sorted_as_their_bytes() {
     run("keys_are_sorted_as_their_bytes", count(5_000_000, 50_000), |random| {
         let space = KeySpace::drawn(random);
-        let mut bytes: Vec<_> = (0..1 + random.index(500)).map(|_| any_key(&space, random)).collect();
+        let mut bytes: Vec<_> =
+            (0..1 + random.index(500)).map(|_| any_key(&space, random)).collect();
         let mut keys: Vec<Key> = bytes.iter().map(|bytes| key(bytes)).collect();
         bytes.sort();
         keys.sort();
@@ -50,17 +54,30 @@ fn heads_and_common_prefixes_are_those_of_the_bytes() {
         let space = KeySpace::drawn(random);
         for _ in 0..1_000 {
             let (one, other) = (any_key(&space, random), any_key(&space, random));
-            let head = |bytes: &[u8]| (0..8).fold(0, |head, index| head << 8 | u64::from(bytes.get(index).copied().unwrap_or(0)));
+            let head = |bytes: &[u8]| {
+                (0..8).fold(0, |head, index| {
+                    head << 8 | u64::from(bytes.get(index).copied().unwrap_or(0))
+                })
+            };
             assert_eq!(key_head(&one), head(&one));
             if key_head(&one) < key_head(&other) {
                 assert!(one < other, "{one:?} {other:?}");
             }
             let behind = random.index(one.len() + 4);
-            assert_eq!(head_after(&one, behind), head(one.get(behind..).unwrap_or(&[])), "{one:?} {behind}");
+            assert_eq!(
+                head_after(&one, behind),
+                head(one.get(behind..).unwrap_or(&[])),
+                "{one:?} {behind}"
+            );
             let common = one.iter().zip(&other).take_while(|(one, other)| one == other).count();
             assert_eq!(common_prefix_len(&one, &other), common, "{one:?} {other:?}");
             let (one, other) = (key_head(&one), key_head(&other));
-            let same = one.to_be_bytes().iter().zip(other.to_be_bytes()).take_while(|(one, other)| **one == *other).count();
+            let same = one
+                .to_be_bytes()
+                .iter()
+                .zip(other.to_be_bytes())
+                .take_while(|(one, other)| **one == *other)
+                .count();
             assert_eq!(same_bytes(one, other), same);
         }
         1_000
@@ -110,7 +127,8 @@ fn ranges_hold_and_meet_as_their_keys_say() {
     });
 }
 
-/// Begins are numbered in order. A run goes from the number of its begin to that of the first begin at or after its end.
+/// Begins are numbered in order. A run goes from the number of its begin to that of the first begin
+/// at or after its end.
 #[test]
 fn ranks_are_the_numbers_of_sorted_begins() {
     run("ranks_are_the_numbers_of_sorted_begins", count(10_000_000, 100_000), |random| {
@@ -119,16 +137,24 @@ fn ranks_are_the_numbers_of_sorted_begins() {
         let ranges = Ranges((0..random.index(most)).map(|_| space.range(random)).collect());
         let (ranks, order) = GapRuns::with_order(Global, &ranges).expect("memory is ample");
         let filled = |index: &usize| !ranges.0[*index].is_empty();
-        let begins: BTreeSet<_> = (0..ranges.len()).filter(filled).map(|index| &ranges.0[index].begin).collect();
+        let begins: BTreeSet<_> =
+            (0..ranges.len()).filter(filled).map(|index| &ranges.0[index].begin).collect();
         let sorted: Vec<_> = begins.iter().copied().collect();
         assert_eq!(ranks.begins(), sorted.len());
         for (range, run) in ranges.0.iter().zip(ranks.runs()) {
             let number = |key| sorted.partition_point(|begin| *begin < key) as u32;
             let expected = (number(&range.begin), number(&range.end));
-            assert!(if range.is_empty() { run.0 == run.1 } else { *run == expected }, "{range:?} {run:?}");
+            assert!(
+                if range.is_empty() { run.0 == run.1 } else { *run == expected },
+                "{range:?} {run:?}"
+            );
         }
         // The order is that of the begins, and has each range that isn't empty once.
-        assert!(order.windows(2).all(|pair| ranges.0[pair[0] as usize].begin <= ranges.0[pair[1] as usize].begin));
+        assert!(
+            order
+                .windows(2)
+                .all(|pair| ranges.0[pair[0] as usize].begin <= ranges.0[pair[1] as usize].begin)
+        );
         let mut indices: Vec<_> = order.iter().map(|index| *index as usize).collect();
         indices.sort_unstable();
         assert!(indices.into_iter().eq((0..ranges.len()).filter(filled)));
@@ -145,14 +171,19 @@ fn runs_overlap_as_ranges_meet() {
         let (ranks, _) = GapRuns::with_order(Global, &ranges).expect("memory is ample");
         for (one, run) in ranges.0.iter().zip(ranks.runs()) {
             for (other, beside) in ranges.0.iter().zip(ranks.runs()) {
-                assert_eq!(run.0.max(beside.0) < run.1.min(beside.1), one.meets(other), "{one:?} {other:?}");
+                assert_eq!(
+                    run.0.max(beside.0) < run.1.min(beside.1),
+                    one.meets(other),
+                    "{one:?} {other:?}"
+                );
             }
         }
         1 + (ranges.len() * ranges.len()) as u64
     });
 }
 
-/// The hashes of single keys, computed from the definition by another program. No other range has one.
+/// The hashes of single keys, computed from the definition by another program. No other range has
+/// one.
 #[test]
 fn hashes_by_hand() {
     for (key, hash) in [
@@ -212,35 +243,51 @@ fn hashes_report_short_keys_apart() {
     });
 }
 
-/// The first thousand numbers, as text, fall into most of the cells that a thousand random hashes would fill.
+/// The first thousand numbers, as text, fall into most of the cells that a thousand random hashes
+/// would fill.
 #[test]
 fn hashes_of_numbers_spread() {
-    let cells: BTreeSet<_> = (0..1_000).map(|number| key_hash(format!("user/{number:06}").as_bytes()) >> 20).collect();
+    let cells: BTreeSet<_> =
+        (0..1_000).map(|number| key_hash(format!("user/{number:06}").as_bytes()) >> 20).collect();
     assert!(cells.len() >= 600, "{}", cells.len());
 }
 
-/// Each written key has one number, and its run holds that alone. Two written keys touch exactly if no
-/// number is between theirs. A key that is read has the run of an equal written one, or shares no number
-/// with any. The order has each written index once, in the order of the keys.
+/// Each written key has one number, and its run holds that alone. Two written keys touch exactly if
+/// no number is between theirs. A key that is read has the run of an equal written one, or shares
+/// no number with any. The order has each written index once, in the order of the keys.
 fn assert_singles_are_ranked(ranges: &Ranges, txns: &Txns, is_write: &[bool]) {
     let runs = txns.ranks().runs();
     let written = |index: &usize| is_write[*index];
-    let numbers: BTreeMap<_, _> =
-        (0..ranges.len()).filter(written).map(|index| (ranges.0[index].begin.clone(), runs[index])).collect();
+    let numbers: BTreeMap<_, _> = (0..ranges.len())
+        .filter(written)
+        .map(|index| (ranges.0[index].begin.clone(), runs[index]))
+        .collect();
     let gaps: BTreeSet<_> = numbers.values().map(|run| run.0).collect();
     assert_eq!(gaps.len(), numbers.len());
-    assert!(numbers.values().all(|run| run.0 + 1 == run.1 && run.1 as usize <= txns.ranks().begins()));
+    assert!(
+        numbers.values().all(|run| run.0 + 1 == run.1 && run.1 as usize <= txns.ranks().begins())
+    );
     for (range, run) in ranges.0.iter().zip(runs) {
         match numbers.get(&range.begin) {
             Some(number) => assert_eq!(run, number, "{range:?}"),
-            None => assert!(!gaps.iter().any(|gap| (run.0..run.1).contains(gap)), "{range:?} {run:?}"),
+            None => {
+                assert!(!gaps.iter().any(|gap| (run.0..run.1).contains(gap)), "{range:?} {run:?}")
+            }
         }
     }
     for ((key, run), (next, later)) in numbers.iter().zip(numbers.iter().skip(1)) {
-        assert_eq!(run.1 == later.0, PlainRange::single(key.clone()).end == *next, "{key:?} {next:?}");
+        assert_eq!(
+            run.1 == later.0,
+            PlainRange::single(key.clone()).end == *next,
+            "{key:?} {next:?}"
+        );
     }
     let order = txns.write_order();
-    assert!(order.windows(2).all(|pair| ranges.0[pair[0] as usize].begin <= ranges.0[pair[1] as usize].begin));
+    assert!(
+        order
+            .windows(2)
+            .all(|pair| ranges.0[pair[0] as usize].begin <= ranges.0[pair[1] as usize].begin)
+    );
     let mut indices: Vec<_> = order.iter().map(|index| *index as usize).collect();
     indices.sort_unstable();
     assert!(indices.into_iter().eq((0..ranges.len()).filter(written)));
@@ -254,7 +301,10 @@ fn batches_of_single_keys_rank_what_they_write() {
         let txns = (0..1 + random.index(20))
             .map(|_| {
                 let mut txn = space.txn(random, 4, (0, 9));
-                txn.reads.iter_mut().chain(&mut txn.writes).for_each(|range| *range = PlainRange::single(space.key(random)));
+                txn.reads
+                    .iter_mut()
+                    .chain(&mut txn.writes)
+                    .for_each(|range| *range = PlainRange::single(space.key(random)));
                 txn
             })
             .collect();
@@ -293,15 +343,24 @@ fn batches_rank_and_hash_their_ranges() {
         let ranges = Ranges(all);
         let (ranks, order) = GapRuns::with_order(Global, &ranges).expect("memory is ample");
         if ranges.len() == 0 || (0..ranges.len()).any(|index| !ranges.range(index).is_single()) {
-            assert_eq!((txns.ranks().runs(), txns.ranks().begins()), (ranks.runs(), ranks.begins()));
+            assert_eq!(
+                (txns.ranks().runs(), txns.ranks().begins()),
+                (ranks.runs(), ranks.begins())
+            );
             assert!(order.iter().filter(|index| is_write[**index as usize]).eq(txns.write_order()));
         } else {
             assert_singles_are_ranked(&ranges, &txns, &is_write);
         }
         for index in 0..ranges.len() {
             let range = ranges.range(index);
-            assert_eq!((txns.hash(index), txns.hashed_range(index).hash()), (range.single_hash(), range.single_hash()));
-            assert_eq!((txns.hashed_range(index).begin(), txns.hashed_range(index).end()), (range.begin(), range.end()));
+            assert_eq!(
+                (txns.hash(index), txns.hashed_range(index).hash()),
+                (range.single_hash(), range.single_hash())
+            );
+            assert_eq!(
+                (txns.hashed_range(index).begin(), txns.hashed_range(index).end()),
+                (range.begin(), range.end())
+            );
         }
         1 + ranges.len() as u64
     });

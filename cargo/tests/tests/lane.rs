@@ -15,7 +15,8 @@ fn made<T>(capacity: usize) -> (Port<T>, Intake<T>) {
     lane(Global, capacity).expect("memory is ample")
 }
 
-/// Sends the item as soon as there is room, with a call that lets other threads run after some tries.
+/// Sends the item as soon as there is room, with a call that lets other threads run after some
+/// tries.
 fn send_at_last<T>(port: &mut Port<T>, mut item: T) {
     let mut tries = 0;
     while let Err(refused) = port.send(item) {
@@ -44,7 +45,8 @@ fn rest(tries: &mut u32) {
     if *tries % 64 == 0 { thread::yield_now() } else { std::hint::spin_loop() }
 }
 
-/// Sends the numbers below the count and closes. The other thread takes them in order, and then the end, for ever.
+/// Sends the numbers below the count and closes. The other thread takes them in order, and then the
+/// end, for ever.
 fn numbers_between_threads(capacity: usize, items: u64) {
     let (mut port, mut intake) = made(capacity);
     thread::scope(|scope| {
@@ -102,7 +104,17 @@ impl BothEnds {
     fn new(capacity: usize) -> Self {
         let (port, intake) = made(capacity);
         let items = VecDeque::new();
-        BothEnds { port, intake, capacity: capacity as u64, items, sent: 0, closed: false, seen_taken: 0, seen_sent: 0, seen_close: false }
+        BothEnds {
+            port,
+            intake,
+            capacity: capacity as u64,
+            items,
+            sent: 0,
+            closed: false,
+            seen_taken: 0,
+            seen_sent: 0,
+            seen_close: false,
+        }
     }
 
     fn taken(&self) -> u64 {
@@ -164,7 +176,8 @@ impl BothEnds {
     }
 }
 
-/// With both ends in one thread each answer is known: those of `send`, `take`, `take_beside` and `agree`.
+/// With both ends in one thread each answer is known: those of `send`, `take`, `take_beside` and
+/// `agree`.
 #[test]
 fn answers_with_both_ends_in_one_thread() {
     run("answers_with_both_ends_in_one_thread", count(20_000_000, 200_000), |random| {
@@ -210,7 +223,8 @@ fn all_dropped(drops: &[AtomicU8]) -> bool {
     drops.iter().all(|count| count.load(Ordering::Relaxed) == 1)
 }
 
-/// Items are dropped once: taken ones by the taker, refused ones by the sender, and the others with the last end.
+/// Items are dropped once: taken ones by the taker, refused ones by the sender, and the others with
+/// the last end.
 #[test]
 fn items_are_dropped_once_in_one_thread() {
     run("items_are_dropped_once_in_one_thread", count(5_000_000, 50_000), |random| {
@@ -259,7 +273,9 @@ fn items_are_dropped_once_between_threads() {
                     for _ in 0..4 {
                         match port.send(item) {
                             Ok(()) => break,
-                            Err(Refused::Full(back) | Refused::Closed(back) | Refused::Worn(back)) => item = back,
+                            Err(
+                                Refused::Full(back) | Refused::Closed(back) | Refused::Worn(back),
+                            ) => item = back,
                         }
                         thread::yield_now();
                         if number % 7 == 0 {

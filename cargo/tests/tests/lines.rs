@@ -1,4 +1,5 @@
-//! Lines of JSON: written lines are read back, and changed ones are read or refused without a panic.
+//! Lines of JSON: written lines are read back, and changed ones are read or refused without a
+//! panic.
 
 use json_lines::{Scratch, read_batch, read_reply, write_batch, write_reply};
 use keyspace::Verdict;
@@ -8,7 +9,8 @@ use tests::drawn::any_batch;
 use tests::plain::{PlainBatch, PlainEntry, PlainRange, PlainReply};
 use tests::random::Random;
 
-/// Puts bytes into the keys of a batch that JSON and the form of keys escape, and ones that are no text.
+/// Puts bytes into the keys of a batch that JSON and the form of keys escape, and ones that are no
+/// text.
 fn with_escapes(batch: &mut PlainBatch, random: &mut Random) {
     let letters = b"\x00\x09\x1f ab\"\\/xX09~\x7f\x80\xc3\xa9\xff";
     for txn in &mut batch.txns {
@@ -69,12 +71,24 @@ fn replies_are_read_back() {
     run("replies_are_read_back", count(1_000_000, 20_000), |random| {
         let mut scratch = Scratch::new(Global);
         let entry = |random: &mut Random| {
-            let verdict = random.pick(&[Verdict::Conflict, Verdict::Conflict, Verdict::TooOld, Verdict::Committed]);
+            let verdict = random.pick(&[
+                Verdict::Conflict,
+                Verdict::Conflict,
+                Verdict::TooOld,
+                Verdict::Committed,
+            ]);
             let chance = random.pick(&[2, 300]);
-            let places = if verdict == Verdict::Conflict { (0..1_024).filter(|_| random.one_in(chance)).collect() } else { Vec::new() };
+            let places = if verdict == Verdict::Conflict {
+                (0..1_024).filter(|_| random.one_in(chance)).collect()
+            } else {
+                Vec::new()
+            };
             PlainEntry { verdict, places }
         };
-        let reply = PlainReply { version: any_batch(random, 0, 0).version, entries: (0..random.index(5)).map(|_| entry(random)).collect() };
+        let reply = PlainReply {
+            version: any_batch(random, 0, 0).version,
+            entries: (0..random.index(5)).map(|_| entry(random)).collect(),
+        };
         let line = write_reply(Global, &reply.reply()).expect("memory is ample");
         let read = read_reply(Global, &line, &mut scratch).map(|reply| PlainReply::of(&reply));
         assert_eq!(read.as_ref().ok(), Some(&reply));
@@ -87,7 +101,9 @@ fn replies_are_read_back() {
 
 /// Returns the refusal of a line of a batch, as text, or nothing if it is read.
 fn refusal(line: &str) -> Option<String> {
-    read_batch(Global, line.as_bytes(), &mut Scratch::new(Global)).err().map(|refusal| refusal.to_string())
+    read_batch(Global, line.as_bytes(), &mut Scratch::new(Global))
+        .err()
+        .map(|refusal| refusal.to_string())
 }
 
 /// The program `batches` passes over empty lines, so this one is no row of `json_rows.py`.
@@ -96,14 +112,19 @@ fn empty_line_is_refused() {
     assert_eq!(refusal("").as_deref(), Some("not JSON"));
 }
 
-/// A line at the limits: transactions, ranges of one, and bytes of a single key. The end of a further range has one byte more.
+/// A line at the limits: transactions, ranges of one, and bytes of a single key. The end of a
+/// further range has one byte more.
 #[test]
 fn limits_of_a_line() {
     let line = |txns: usize, ranges: usize, bytes: usize| {
         let key = "k".repeat(bytes);
         let ranges = vec!["\"k\""; ranges].join(",");
-        let first = format!(r#"{{"snapshot":0,"reads":[{ranges}],"writes":["{key}",["","{key}k"]]}}"#);
-        let txns = [vec![first.as_str()], vec![r#"{"snapshot":0,"reads":[],"writes":[]}"#; txns - 1]].concat().join(",");
+        let first =
+            format!(r#"{{"snapshot":0,"reads":[{ranges}],"writes":["{key}",["","{key}k"]]}}"#);
+        let txns =
+            [vec![first.as_str()], vec![r#"{"snapshot":0,"reads":[],"writes":[]}"#; txns - 1]]
+                .concat()
+                .join(",");
         format!(r#"{{"previous":0,"version":1,"transactions":[{txns}]}}"#)
     };
     for (txns, ranges, bytes, expected) in [

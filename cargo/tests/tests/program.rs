@@ -1,4 +1,5 @@
-//! The complete program `replay`: its words, and streams that fail or hold all bytes until they are flushed.
+//! The complete program `replay`: its words, and streams that fail or hold all bytes until they are
+//! flushed.
 
 use std::ffi::OsString;
 use std::io::{Result, Write};
@@ -13,8 +14,12 @@ use wire::StdSink;
 fn words_that_are_no_text() {
     let expected = "usage: error: invalid UTF-8 was detected in one or more arguments\n\n\
         Usage: replay [OPTIONS] <FILE>...\n\nFor more information, try '--help'.\n";
-    let rows: [&[&[u8]]; 4] =
-        [&[b"replay", b"\xff"], &[b"replay", b"first", b"sec\xc3ond"], &[b"replay", b"--help", b"\xff"], &[b"rep\x80lay", b"first"]];
+    let rows: [&[&[u8]]; 4] = [
+        &[b"replay", b"\xff"],
+        &[b"replay", b"first", b"sec\xc3ond"],
+        &[b"replay", b"--help", b"\xff"],
+        &[b"rep\x80lay", b"first"],
+    ];
     for words in rows {
         let words: Vec<_> = words.iter().map(|word| OsString::from_vec(word.to_vec())).collect();
         assert_eq!(shell(&words), expected, "{words:?}");
@@ -34,10 +39,14 @@ fn help_and_version_shown() {
     let version = shell(&["replay", "--version"]);
     assert!(version.starts_with("replay 0.2.0 (") && version.ends_with(")\ndone: "), "{version}");
     let help = shell(&["replay", "first", "--help"]);
-    assert!(help.contains("Usage: replay [OPTIONS] <FILE>...\n") && help.ends_with("\ndone: "), "{help}");
+    assert!(
+        help.contains("Usage: replay [OPTIONS] <FILE>...\n") && help.ends_with("\ndone: "),
+        "{help}"
+    );
 }
 
-/// How the program ends on these words, and what it writes to standard error, if standard output is this.
+/// How the program ends on these words, and what it writes to standard error, if standard output is
+/// this.
 fn ends_on(words: &[&str], out: Failing) -> String {
     let mut error = StdSink::new(Vec::new());
     let report = shell_into(words, &mut StdSink::new(out), &mut error);
@@ -58,15 +67,22 @@ fn standard_output_that_fails() {
         for room in [0, 5] {
             assert_eq!(ends_on(words, Failing::after(room)), "failed: ", "{words:?}");
         }
-        assert_eq!(ends_on(words, Failing { room: usize::MAX, flushes: false }), "failed: ", "{words:?}");
+        assert_eq!(
+            ends_on(words, Failing { room: usize::MAX, flushes: false }),
+            "failed: ",
+            "{words:?}"
+        );
     }
 }
 
 /// A failed write to standard error changes no status.
 #[test]
 fn standard_error_that_fails() {
-    let rows: [(&[&str], &str); 3] =
-        [(&["replay", "none"], "failed: "), (&["replay", "cut"], "0 0 empty\nfailed: "), (&["replay", "--none"], "usage: ")];
+    let rows: [(&[&str], &str); 3] = [
+        (&["replay", "none"], "failed: "),
+        (&["replay", "cut"], "0 0 empty\nfailed: "),
+        (&["replay", "--none"], "usage: "),
+    ];
     for (words, expected) in rows {
         let mut out = StdSink::new(Vec::new());
         let report = shell_into(words, &mut out, &mut StdSink::new(Failing::after(0)));
@@ -93,7 +109,8 @@ impl Write for Holding {
     }
 }
 
-/// Standard output has passed on all that it was given when the program ends. Standard error isn't buffered, and isn't flushed.
+/// Standard output has passed on all that it was given when the program ends. Standard error isn't
+/// buffered, and isn't flushed.
 #[test]
 fn all_output_is_passed_on() {
     let rows: [&[&str]; 9] = [
@@ -108,7 +125,8 @@ fn all_output_is_passed_on() {
         &["replay", "--version"],
     ];
     for words in rows {
-        let (mut out, mut error) = (StdSink::new(Holding::default()), StdSink::new(Holding::default()));
+        let (mut out, mut error) =
+            (StdSink::new(Holding::default()), StdSink::new(Holding::default()));
         let report = shell_into(words, &mut out, &mut error);
         let found = ended(report.status, &out.into_inner().passed_on, &error.into_inner().held);
         assert_eq!(found, shell(words));
@@ -121,12 +139,14 @@ fn records_of_each_proxy() {
     let words = ["replay", "--stream", "--replies", "a", "--replies", "b", "first", "second"];
     let (mut out, mut error) = (StdSink::new(Vec::new()), StdSink::new(Vec::new()));
     let report = shell_into(&words, &mut out, &mut error);
-    let records: Vec<_> = report.recorders.into_iter().flatten().map(|recorder| recorder.out.into_inner()).collect();
+    let records: Vec<_> =
+        report.recorders.into_iter().flatten().map(|recorder| recorder.out.into_inner()).collect();
     let hex = |bytes: &Vec<u8>| bytes.iter().map(|byte| format!("{byte:02x}")).collect::<String>();
     assert_eq!(
         records.iter().map(hex).collect::<Vec<_>>(),
         [
-            "0100000000000000000000000b02000000000000000000000100000000000000640000000e0200000000000000640001020000",
+            "0100000000000000000000000b020000000000000000000001000000000000006400\
+             00000e0200000000000000640001020000",
             "0100000000000000c80000000e0200000000000000c80001000000",
         ]
     );
@@ -155,10 +175,15 @@ fn output_in_a_file() {
     }
 }
 
-/// A file that isn't named isn't created, and neither is one for the output once a file of batches can't be opened.
+/// A file that isn't named isn't created, and neither is one for the output once a file of batches
+/// can't be opened.
 #[test]
 fn no_output_in_a_file() {
-    for words in [&["replay", "first"][..], &["replay", "-o", "out", "none"], &["replay", "-o", "out", "--help"]] {
+    for words in [
+        &["replay", "first"][..],
+        &["replay", "-o", "out", "none"],
+        &["replay", "-o", "out", "--help"],
+    ] {
         let (mut out, mut error) = (StdSink::new(Vec::new()), StdSink::new(Vec::new()));
         let report = shell_into(words, &mut out, &mut error);
         assert!(report.output.is_none() && report.summary.is_none(), "{words:?}");
@@ -172,7 +197,10 @@ fn file_that_cannot_be_created() {
         (&["replay", "-o", "sealed", "first"], "failed: replay: create output\n"),
         (&["replay", "-o", "sealed", "none"], "failed: replay: proxy 0: cannot open\n"),
         (&["replay", "--summary-to", "sealed", "first"], "failed: replay: create summary\n"),
-        (&["replay", "--summary-to", "sealed", "-o", "sealed", "first"], "failed: replay: create output\n"),
+        (
+            &["replay", "--summary-to", "sealed", "-o", "sealed", "first"],
+            "failed: replay: create output\n",
+        ),
     ];
     for (words, expected) in rows {
         assert_eq!(shell(words), expected, "{words:?}");

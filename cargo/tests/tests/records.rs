@@ -1,8 +1,9 @@
-//! Answers that are written as they come: the vectors of `docs/vectors.json`, random replies, and writers that fail.
+//! Answers that are written as they come: the vectors of `docs/vectors.json`, random replies, and
+//! writers that fail.
 
 use keyspace::{Answer, Verdict};
 use rattle_std::alloc::Global;
-use replay_output::{AnswerError, LineFilter, Form, Line, Style, print_line, write_record};
+use replay_output::{AnswerError, Form, Line, LineFilter, Style, print_line, write_record};
 use tests::cases::{count, run};
 use tests::drawn::any_batch;
 use tests::plain::{PlainEntry, PlainReply};
@@ -63,7 +64,10 @@ fn records_of_the_vectors() {
     let committed = entry(Verdict::Committed, &[]);
     let rows = [
         (reply(0, vec![]), "0100000000000000000000000b0200000000000000000000"),
-        (reply(100, vec![committed.clone()]), "0100000000000000640000000e0200000000000000640001020000"),
+        (
+            reply(100, vec![committed.clone()]),
+            "0100000000000000640000000e0200000000000000640001020000",
+        ),
         (
             reply(100, vec![committed, entry(Verdict::Conflict, &[0])]),
             "0100000000000000640000001302000000000000006400020200000000010000",
@@ -117,8 +121,14 @@ fn lines_as_the_batch_run_prints_them() {
             let filter = any_filter(random, reply.version);
             let style = Style { form, filter };
             let is_shown = is_shown(&filter, &answer());
-            assert_eq!(line_of(style, proxy, answer()), if is_shown { entire.clone() } else { vec![] });
-            assert_eq!(pieces_of(style, proxy, &answer()), if is_shown { vec![entire] } else { vec![] });
+            assert_eq!(
+                line_of(style, proxy, answer()),
+                if is_shown { entire.clone() } else { vec![] }
+            );
+            assert_eq!(
+                pieces_of(style, proxy, &answer()),
+                if is_shown { vec![entire] } else { vec![] }
+            );
         }
         1
     });
@@ -141,21 +151,30 @@ fn pieces_of(style: Style, proxy: usize, answer: &Answer) -> Vec<Vec<u8>> {
 
 /// A filter whose ends are at a version or beside it, or left out.
 fn any_filter(random: &mut Random, version: i64) -> LineFilter {
-    let mut end = || (random.below(3) > 0).then(|| version.saturating_add(i64::try_from(random.index(3)).unwrap_or(0) - 1));
+    let mut end = || {
+        (random.below(3) > 0)
+            .then(|| version.saturating_add(i64::try_from(random.index(3)).unwrap_or(0) - 1))
+    };
     let (least, below) = (end().unwrap_or(i64::MIN), end());
-    let only = [None, Some(Verdict::Committed), Some(Verdict::Conflict), Some(Verdict::TooOld)][random.index(4)];
+    let only = [None, Some(Verdict::Committed), Some(Verdict::Conflict), Some(Verdict::TooOld)]
+        [random.index(4)];
     LineFilter { quiet: random.below(8) == 0, only, least, below }
 }
 
 /// What `docs/REPLAY.md` says of the options.
 fn is_shown(filter: &LineFilter, answer: &Answer) -> bool {
     let (version, verdicts) = match answer {
-        Answer::Reply(reply) => (reply.version, reply.entries.as_slice().iter().map(|entry| entry.verdict).collect()),
+        Answer::Reply(reply) => {
+            (reply.version, reply.entries.as_slice().iter().map(|entry| entry.verdict).collect())
+        }
         Answer::Never(version) | Answer::Held(version) => (*version, vec![]),
     };
     let versions = filter.least..=filter.below.map_or(i64::MAX, |below| below.saturating_sub(1));
     let is_empty = filter.below == Some(i64::MIN);
-    !filter.quiet && !is_empty && versions.contains(&version) && filter.only.is_none_or(|only| verdicts.contains(&only))
+    !filter.quiet
+        && !is_empty
+        && versions.contains(&version)
+        && filter.only.is_none_or(|only| verdicts.contains(&only))
 }
 
 /// Chooses the kind of an answer by its version.
@@ -183,6 +202,10 @@ fn a_failed_write_leaves_a_prefix() {
 fn record_fails_everywhere() {
     for room in 0..=9 {
         let written = write_record(Global, &mut Pieces::new(room), &Answer::Held(300));
-        assert_eq!(written, if room < 9 { Err(AnswerError::Write) } else { Ok(()) }, "after {room} bytes");
+        assert_eq!(
+            written,
+            if room < 9 { Err(AnswerError::Write) } else { Ok(()) },
+            "after {room} bytes"
+        );
     }
 }

@@ -43,7 +43,11 @@ struct Texts {
 
 impl Texts {
     fn member(&self) -> String {
-        if self.objects.is_empty() { String::new() } else { format!("\"explanations\":[{}]", self.objects.join(",")) }
+        if self.objects.is_empty() {
+            String::new()
+        } else {
+            format!("\"explanations\":[{}]", self.objects.join(","))
+        }
     }
 }
 
@@ -71,20 +75,29 @@ impl Scan {
         let mut texts = Texts::default();
         for (txn, (judged, entry)) in batch.txns.iter().zip(&reply.entries).enumerate() {
             match entry.verdict {
-                Verdict::Committed => self.writes.extend(judged.writes.iter().cloned().map(|range| PlainWrite {
-                    proxy,
-                    version: batch.version,
-                    txn,
-                    range,
-                })),
+                Verdict::Committed => {
+                    self.writes.extend(judged.writes.iter().cloned().map(|range| PlainWrite {
+                        proxy,
+                        version: batch.version,
+                        txn,
+                        range,
+                    }))
+                }
                 Verdict::TooOld => {
-                    let (snapshot, oldest) = (judged.snapshot, (batch.version - self.window).max(0));
-                    texts.words += &format!("  txn {txn} too old: snapshot {snapshot}, oldest readable version {oldest}\n");
-                    texts.objects.push(format!(r#"{{"txn":{txn},"too_old":{{"snapshot":{snapshot},"oldest":{oldest}}}}}"#));
+                    let (snapshot, oldest) =
+                        (judged.snapshot, (batch.version - self.window).max(0));
+                    texts.words += &format!(
+                        "  txn {txn} too old: snapshot {snapshot}, \
+                         oldest readable version {oldest}\n"
+                    );
+                    texts.objects.push(format!(
+                        r#"{{"txn":{txn},"too_old":{{"snapshot":{snapshot},"oldest":{oldest}}}}}"#
+                    ));
                 }
                 Verdict::Conflict => {
                     for read in 0..judged.reads.len() {
-                        if let Some((line, object)) = self.explain(batch.version, txn, judged, read) {
+                        if let Some((line, object)) = self.explain(batch.version, txn, judged, read)
+                        {
                             texts.words += &line;
                             texts.objects.push(object);
                         }
@@ -95,8 +108,15 @@ impl Scan {
         texts
     }
 
-    /// Returns the line and the object of a read range, whose batch was the last to add a write, or none if it meets no write.
-    fn explain(&self, version: i64, txn: usize, judged: &PlainTxn, read: usize) -> Option<(String, String)> {
+    /// Returns the line and the object of a read range, whose batch was the last to add a write, or
+    /// none if it meets no write.
+    fn explain(
+        &self,
+        version: i64,
+        txn: usize,
+        judged: &PlainTxn,
+        read: usize,
+    ) -> Option<(String, String)> {
         let range = &judged.reads[read];
         let met = |write: &&PlainWrite| {
             let is_own = write.version == version;
@@ -106,14 +126,18 @@ impl Scan {
         let (newest, others) = writes.split_last()?;
         let PlainWrite { proxy, version: written, txn: writer, range: write } = newest;
         let origin = if *written == version { "same batch" } else { "history" };
-        let further = if others.is_empty() { String::new() } else { format!(", and {} more", others.len()) };
+        let further =
+            if others.is_empty() { String::new() } else { format!(", and {} more", others.len()) };
         let line = format!(
-            "  txn {txn} read {read} {} conflicts with write {} of proxy {proxy}, version {written}, txn {writer} ({origin}){further}\n",
+            "  txn {txn} read {read} {} conflicts with write {} \
+             of proxy {proxy}, version {written}, txn {writer} ({origin}){further}\n",
             shown(range),
             shown(write),
         );
         let object = format!(
-            r#"{{"txn":{txn},"read":{read},"range":{},"write":{{"range":{},"proxy":{proxy},"version":{written},"txn":{writer}}},"further":{},"same_batch":{}}}"#,
+            "{{\"txn\":{txn},\"read\":{read},\"range\":{},\
+             \"write\":{{\"range\":{},\"proxy\":{proxy},\"version\":{written},\"txn\":{writer}}},\
+             \"further\":{},\"same_batch\":{}}}",
             as_json(range),
             as_json(write),
             others.len(),
@@ -184,8 +208,9 @@ impl Kinds {
     }
 }
 
-/// Over drawn chains of several proxies, each batch has the lines of the scan, also once all batches were seen. A batch without a
-/// rejection has none, a transaction has a line exactly if it was rejected, and so has each read range of a report.
+/// Over drawn chains of several proxies, each batch has the lines of the scan, also once all
+/// batches were seen. A batch without a rejection has none, a transaction has a line exactly if it
+/// was rejected, and so has each read range of a report.
 #[test]
 fn lines_are_those_of_a_scan() {
     let kinds = Kinds::default();
@@ -203,9 +228,16 @@ fn lines_are_those_of_a_scan() {
             for (txn, entry) in reply.entries.iter().enumerate() {
                 let begin = format!("  txn {txn} ");
                 let is_explained = text.lines().any(|line| line.starts_with(&begin));
-                assert_eq!(is_explained, entry.verdict != Verdict::Committed, "txn {txn} of {batch:?}");
+                assert_eq!(
+                    is_explained,
+                    entry.verdict != Verdict::Committed,
+                    "txn {txn} of {batch:?}"
+                );
                 for place in &entry.places {
-                    assert!(text.contains(&format!("{begin}read {place} ")), "read {place} of txn {txn} of {batch:?}");
+                    assert!(
+                        text.contains(&format!("{begin}read {place} ")),
+                        "read {place} of txn {txn} of {batch:?}"
+                    );
                 }
             }
             kinds.add(text);
@@ -234,9 +266,12 @@ fn drawn_batch(random: &mut Random, space: &KeySpace, previous: i64, window: i64
     PlainBatch { previous, version, received: -1, txns }
 }
 
-/// Returns a transaction without a report by its snapshot, the ranges that it reads, and those that it writes.
+/// Returns a transaction without a report by its snapshot, the ranges that it reads, and those that
+/// it writes.
 fn txn(snapshot: i64, reads: &[(&[u8], &[u8])], writes: &[(&[u8], &[u8])]) -> PlainTxn {
-    let ranges = |ranges: &[(&[u8], &[u8])]| ranges.iter().map(|(begin, end)| PlainRange::new(*begin, *end)).collect();
+    let ranges = |ranges: &[(&[u8], &[u8])]| {
+        ranges.iter().map(|(begin, end)| PlainRange::new(*begin, *end)).collect()
+    };
     PlainTxn { snapshot, marked: false, reads: ranges(reads), writes: ranges(writes) }
 }
 
@@ -253,7 +288,10 @@ impl Row {
         let mut explained = Explained::new(self.window);
         let (mut previous, mut last) = (-1, (0, -1));
         for (proxy, version, txns) in &self.batches {
-            explained.process(*proxy, &PlainBatch { previous, version: *version, received: -1, txns: txns.clone() });
+            explained.process(
+                *proxy,
+                &PlainBatch { previous, version: *version, received: -1, txns: txns.clone() },
+            );
             (previous, last) = (*version, (*proxy, *version));
         }
         assert_eq!(explained.explanation(last.0, last.1), self.expected, "{}", self.name);
@@ -262,19 +300,25 @@ impl Row {
 
 #[test]
 fn rows_by_hand() {
-    let (ab, bc, ac): ((&[u8], &[u8]), _, _) = ((b"a", b"b"), (&b"b"[..], &b"c"[..]), (&b"a"[..], &b"c"[..]));
+    let (ab, bc, ac): ((&[u8], &[u8]), _, _) =
+        ((b"a", b"b"), (&b"b"[..], &b"c"[..]), (&b"a"[..], &b"c"[..]));
     let rows = [
         Row {
             name: "history",
             window: 100,
-            batches: vec![(2, 10, vec![txn(0, &[], &[bc]), txn(0, &[], &[ab])]), (1, 20, vec![txn(9, &[ab], &[])])],
-            expected: "  txn 0 read 0 [\"a\",\"b\") conflicts with write [\"a\",\"b\") of proxy 2, version 10, txn 1 (history)\n",
+            batches: vec![
+                (2, 10, vec![txn(0, &[], &[bc]), txn(0, &[], &[ab])]),
+                (1, 20, vec![txn(9, &[ab], &[])]),
+            ],
+            expected: "  txn 0 read 0 [\"a\",\"b\") conflicts with write [\"a\",\"b\") \
+                       of proxy 2, version 10, txn 1 (history)\n",
         },
         Row {
             name: "same batch",
             window: 100,
             batches: vec![(3, 20, vec![txn(0, &[], &[ac]), txn(20, &[ab], &[])])],
-            expected: "  txn 1 read 0 [\"a\",\"b\") conflicts with write [\"a\",\"c\") of proxy 3, version 20, txn 0 (same batch)\n",
+            expected: "  txn 1 read 0 [\"a\",\"b\") conflicts with write [\"a\",\"c\") \
+                       of proxy 3, version 20, txn 0 (same batch)\n",
         },
         Row {
             name: "further ones",
@@ -284,31 +328,52 @@ fn rows_by_hand() {
                 (1, 20, vec![txn(0, &[], &[ac])]),
                 (0, 30, vec![txn(5, &[(b"x", b"y"), ac], &[])]),
             ],
-            expected: "  txn 0 read 1 [\"a\",\"c\") conflicts with write [\"a\",\"c\") of proxy 1, version 20, txn 0 (history), and 2 more\n",
+            expected: "  txn 0 read 1 [\"a\",\"c\") conflicts with write [\"a\",\"c\") \
+                       of proxy 1, version 20, txn 0 (history), and 2 more\n",
         },
         Row {
             name: "each read range in conflict",
             window: 100,
-            batches: vec![(0, 10, vec![txn(0, &[], &[ac])]), (0, 20, vec![txn(5, &[ab, (b"x", b"y"), bc], &[])])],
-            expected: "  txn 0 read 0 [\"a\",\"b\") conflicts with write [\"a\",\"c\") of proxy 0, version 10, txn 0 (history)\n  \
-                       txn 0 read 2 [\"b\",\"c\") conflicts with write [\"a\",\"c\") of proxy 0, version 10, txn 0 (history)\n",
+            batches: vec![
+                (0, 10, vec![txn(0, &[], &[ac])]),
+                (0, 20, vec![txn(5, &[ab, (b"x", b"y"), bc], &[])]),
+            ],
+            expected: "  txn 0 read 0 [\"a\",\"b\") conflicts with write [\"a\",\"c\") \
+                       of proxy 0, version 10, txn 0 (history)\n  \
+                       txn 0 read 2 [\"b\",\"c\") conflicts with write [\"a\",\"c\") \
+                       of proxy 0, version 10, txn 0 (history)\n",
         },
         Row {
             name: "a report has the hits of older batches alone, and the lines have all",
             window: 100,
             batches: vec![
                 (0, 10, vec![txn(0, &[], &[ab])]),
-                (0, 20, vec![txn(0, &[], &[bc]), PlainTxn { marked: true, ..txn(5, &[bc, ab], &[]) }]),
+                (
+                    0,
+                    20,
+                    vec![txn(0, &[], &[bc]), PlainTxn { marked: true, ..txn(5, &[bc, ab], &[]) }],
+                ),
             ],
-            expected: "  txn 1 read 0 [\"b\",\"c\") conflicts with write [\"b\",\"c\") of proxy 0, version 20, txn 0 (same batch)\n  \
-                       txn 1 read 1 [\"a\",\"b\") conflicts with write [\"a\",\"b\") of proxy 0, version 10, txn 0 (history)\n",
+            expected: "  txn 1 read 0 [\"b\",\"c\") conflicts with write [\"b\",\"c\") \
+                       of proxy 0, version 20, txn 0 (same batch)\n  \
+                       txn 1 read 1 [\"a\",\"b\") conflicts with write [\"a\",\"b\") \
+                       of proxy 0, version 10, txn 0 (history)\n",
         },
         Row {
             name: "a report has the first of the own batch alone, and the lines have all",
             window: 100,
-            batches: vec![(0, 20, vec![txn(0, &[], &[ac]), PlainTxn { marked: true, ..txn(20, &[bc, (b"x", b"y"), ab], &[]) }])],
-            expected: "  txn 1 read 0 [\"b\",\"c\") conflicts with write [\"a\",\"c\") of proxy 0, version 20, txn 0 (same batch)\n  \
-                       txn 1 read 2 [\"a\",\"b\") conflicts with write [\"a\",\"c\") of proxy 0, version 20, txn 0 (same batch)\n",
+            batches: vec![(
+                0,
+                20,
+                vec![
+                    txn(0, &[], &[ac]),
+                    PlainTxn { marked: true, ..txn(20, &[bc, (b"x", b"y"), ab], &[]) },
+                ],
+            )],
+            expected: "  txn 1 read 0 [\"b\",\"c\") conflicts with write [\"a\",\"c\") \
+                       of proxy 0, version 20, txn 0 (same batch)\n  \
+                       txn 1 read 2 [\"a\",\"b\") conflicts with write [\"a\",\"c\") \
+                       of proxy 0, version 20, txn 0 (same batch)\n",
         },
         Row {
             name: "too old",
@@ -323,7 +388,8 @@ fn rows_by_hand() {
                 (0, 10, vec![txn(0, &[], &[(b"\\a\xff", b"\\a\xff\0")])]),
                 (0, 20, vec![txn(9, &[(b"\\a\xff", b"\\a\xff\0")], &[])]),
             ],
-            expected: "  txn 0 read 0 [\"\\\\a\\xff\",\"\\\\a\\xff\\x00\") conflicts with write [\"\\\\a\\xff\",\"\\\\a\\xff\\x00\") \
+            expected: "  txn 0 read 0 [\"\\\\a\\xff\",\"\\\\a\\xff\\x00\") \
+                       conflicts with write [\"\\\\a\\xff\",\"\\\\a\\xff\\x00\") \
                        of proxy 0, version 10, txn 0 (history)\n",
         },
         Row {
@@ -337,14 +403,21 @@ fn rows_by_hand() {
     rows.iter().for_each(Row::check);
 }
 
-/// A resolver shows a batch once. If the proxy sends it again, the explainer doesn't see it, and its lines stay.
+/// A resolver shows a batch once. If the proxy sends it again, the explainer doesn't see it, and
+/// its lines stay.
 #[test]
 fn lines_stay() {
     let ab: (&[u8], &[u8]) = (b"a", b"b");
     let mut explained = Explained::new(100);
-    let batch = PlainBatch { previous: -1, version: 10, received: -1, txns: vec![txn(0, &[], &[ab]), txn(9, &[ab], &[])] };
+    let batch = PlainBatch {
+        previous: -1,
+        version: 10,
+        received: -1,
+        txns: vec![txn(0, &[], &[ab]), txn(9, &[ab], &[])],
+    };
     explained.process(0, &batch);
-    let lines = "  txn 1 read 0 [\"a\",\"b\") conflicts with write [\"a\",\"b\") of proxy 0, version 10, txn 0 (same batch)\n";
+    let lines = "  txn 1 read 0 [\"a\",\"b\") conflicts with write [\"a\",\"b\") \
+                 of proxy 0, version 10, txn 0 (same batch)\n";
     assert_eq!(explained.explanation(0, 10), lines);
     explained.process(1, &PlainBatch::empty(10, 20));
     explained.process(1, &PlainBatch::empty(20, 200));
@@ -356,19 +429,36 @@ fn lines_stay() {
 
 #[test]
 fn members_by_hand() {
-    let (ab, quoted): ((&[u8], &[u8]), (&[u8], &[u8])) = ((b"a", b"b"), (b"\"\\\xff", b"\"\\\xff\0"));
+    let (ab, quoted): ((&[u8], &[u8]), (&[u8], &[u8])) =
+        ((b"a", b"b"), (b"\"\\\xff", b"\"\\\xff\0"));
     let mut explained = Explained::new(100);
-    explained.process(2, &PlainBatch { previous: -1, version: 150, received: -1, txns: vec![txn(0, &[], &[ab, quoted])] });
-    let txns = vec![txn(0, &[], &[ab]), txn(149, &[ab], &[]), txn(99, &[ab], &[]), txn(149, &[quoted], &[])];
+    explained.process(
+        2,
+        &PlainBatch {
+            previous: -1,
+            version: 150,
+            received: -1,
+            txns: vec![txn(0, &[], &[ab, quoted])],
+        },
+    );
+    let txns = vec![
+        txn(0, &[], &[ab]),
+        txn(149, &[ab], &[]),
+        txn(99, &[ab], &[]),
+        txn(149, &[quoted], &[]),
+    ];
     explained.process(0, &PlainBatch { previous: 150, version: 200, received: -1, txns });
     assert_eq!(explained.member(2, 150), "");
     assert_eq!(
         explained.member(0, 200),
         concat!(
-            r#""explanations":[{"txn":1,"read":0,"range":["a","b"],"write":{"range":["a","b"],"proxy":0,"version":200,"txn":0},"#,
+            r#""explanations":[{"txn":1,"read":0,"range":["a","b"],"#,
+            r#""write":{"range":["a","b"],"proxy":0,"version":200,"txn":0},"#,
             r#""further":1,"same_batch":true},{"txn":2,"too_old":{"snapshot":99,"oldest":100}},"#,
             r#"{"txn":3,"read":0,"range":["\"\\\\\\xff","\"\\\\\\xff\\x00"],"#,
-            r#""write":{"range":["\"\\\\\\xff","\"\\\\\\xff\\x00"],"proxy":2,"version":150,"txn":0},"further":0,"same_batch":false}]"#,
+            r#""write":{"range":["\"\\\\\\xff","\"\\\\\\xff\\x00"],"#,
+            r#""proxy":2,"version":150,"txn":0},"#,
+            r#""further":0,"same_batch":false}]"#,
         )
     );
 }

@@ -1,9 +1,12 @@
-//! Runs in which all transactions report: their answers are those to batches whose transactions all ask for their reports.
+//! Runs in which all transactions report: their answers are those to batches whose transactions all
+//! ask for their reports.
 
 use rattle_std::alloc::Global;
 use rattle_std::rt::HostRuntime;
 use rattle_std::sync::Arc;
-use replay_program::{AlwaysOpen, Form, Gatekeeper, Options, Reports, ShareKeeper, Status, Style, Unshared};
+use replay_program::{
+    AlwaysOpen, Form, Gatekeeper, Options, Reports, ShareKeeper, Status, Style, Unshared,
+};
 use replay_program::{explain_over, replay_over, stream_over};
 use tests::cases::{count, run};
 use tests::drawn::KeySpace;
@@ -15,8 +18,13 @@ use tests::random::Random;
 use tests::spelling::batch_frame;
 use wire::StdSink;
 
-/// Three read ranges of the last batch are in conflict. Only its first transaction asks for its report.
-const CONFLICTS: &[&str] = &["-1>0", "0>100: W[a,b) W[k]", "100>200: m R[k] @99; R[x,y) R[a,b) R[k] @50; R[a,b) @100; R[k] @0"];
+/// Three read ranges of the last batch are in conflict. Only its first transaction asks for its
+/// report.
+const CONFLICTS: &[&str] = &[
+    "-1>0",
+    "0>100: W[a,b) W[k]",
+    "100>200: m R[k] @99; R[x,y) R[a,b) R[k] @50; R[a,b) @100; R[k] @0",
+];
 
 fn asking(batch: &PlainBatch) -> PlainBatch {
     let mut batch = batch.clone();
@@ -26,7 +34,11 @@ fn asking(batch: &PlainBatch) -> PlainBatch {
 
 /// The reader of the frames of these batches, and of these bytes after them.
 fn reader_of(batches: &[PlainBatch], rest: &[u8]) -> Reader {
-    let mut file: Vec<u8> = batches.iter().enumerate().flat_map(|(index, batch)| batch_frame(batch, 1 + (index % 2) as u8)).collect();
+    let mut file: Vec<u8> = batches
+        .iter()
+        .enumerate()
+        .flat_map(|(index, batch)| batch_frame(batch, 1 + (index % 2) as u8))
+        .collect();
     file.extend(rest);
     reader(file)
 }
@@ -68,11 +80,25 @@ where
 {
     let rt = HostRuntime::new();
     match way {
-        Way::Sorted => replay_over(&rt, Global, readers.into(), options, gatekeeper, out, error).status,
-        Way::Explained => explain_over(&rt, Global, readers.into(), options, gatekeeper, out, error).status,
+        Way::Sorted => {
+            replay_over(&rt, Global, readers.into(), options, gatekeeper, out, error).status
+        }
+        Way::Explained => {
+            explain_over(&rt, Global, readers.into(), options, gatekeeper, out, error).status
+        }
         Way::Streamed => {
             let records: Vec<Option<StdSink<Vec<u8>>>> = vec![None];
-            stream_over(&rt, Global, readers.into(), records.into(), options, gatekeeper, out, error).status
+            stream_over(
+                &rt,
+                Global,
+                readers.into(),
+                records.into(),
+                options,
+                gatekeeper,
+                out,
+                error,
+            )
+            .status
         }
     }
 }
@@ -85,14 +111,16 @@ fn chain(random: &mut Random) -> Vec<PlainBatch> {
         .map(|_| {
             let previous = version;
             version += random.between(1, 400);
-            let txns = (0..random.index(6)).map(|_| space.txn(random, 4, (version - 1_200, version))).collect();
+            let txns = (0..random.index(6))
+                .map(|_| space.txn(random, 4, (version - 1_200, version)))
+                .collect();
             PlainBatch { previous, version, received: previous, txns }
         })
         .collect()
 }
 
-/// The answers are the same, byte for byte, as those to the same batches whose transactions all ask. After a fault so are those before
-/// it.
+/// The answers are the same, byte for byte, as those to the same batches whose transactions all
+/// ask. After a fault so are those before it.
 #[test]
 fn as_if_all_asked() {
     run("reports", count(20_000, 300), |random| {

@@ -3,7 +3,9 @@
 use rattle_std::alloc::Global;
 use rattle_std::io::BufWriter;
 use rattle_std::vec::Vec as KitVec;
-use replay_program::{Ending, Line, ProxyFailure, Report, StartError, Status, fail_to_start, print_report};
+use replay_program::{
+    Ending, Line, ProxyFailure, Report, StartError, Status, fail_to_start, print_report,
+};
 use resolver::{OpenError, Stop};
 use std::io::Write;
 use tests::failing::Failing;
@@ -19,7 +21,8 @@ const SHORT_AND_LOST: ProxyFailure = ProxyFailure { fault: Some(WireError::Short
 fn printed_report(failures: &[ProxyFailure], ending: Ending) -> String {
     let mut received: Vec<KitVec<Line>> = failures.iter().map(|_| KitVec::new(Global)).collect();
     let (mut out, mut error) = (StdSink::new(Vec::new()), StdSink::new(Vec::new()));
-    let report = print_report(Global, &mut out, &mut error, &mut received, &mut failures.to_vec(), ending);
+    let report =
+        print_report(Global, &mut out, &mut error, &mut received, &mut failures.to_vec(), ending);
     ended(report.status, &out.into_inner(), &error.into_inner())
 }
 
@@ -28,15 +31,25 @@ fn by_proxy_and_the_ending_last() {
     assert_eq!(printed_report(&[CLEAN, CLEAN], Ending::Complete), "done: ");
     let expected = "failed: replay: proxy 0: wire 1 Short\nreplay: proxy 0: memory\n";
     assert_eq!(printed_report(&[SHORT_AND_LOST], Ending::Complete), expected);
-    let expected = "failed: replay: proxy 1: memory\nreplay: proxy 2: wire 1 Short\nreplay: stop 1 Memory\n";
+    let expected =
+        "failed: replay: proxy 1: memory\nreplay: proxy 2: wire 1 Short\nreplay: stop 1 Memory\n";
     assert_eq!(printed_report(&[CLEAN, LOST, SHORT], Ending::Stopped(Stop::Memory)), expected);
 }
 
 #[test]
 fn ending_of_no_proxy() {
-    assert_eq!(printed_report(&[], Ending::Stopped(Stop::GateFull)), "failed: replay: stop 2 GateFull\n");
-    assert_eq!(printed_report(&[], Ending::Stopped(Stop::ArenaFull)), "failed: replay: stop 3 ArenaFull\n");
-    assert_eq!(printed_report(&[SHORT], Ending::Incomplete), "failed: replay: proxy 0: wire 1 Short\nreplay: incomplete\n");
+    assert_eq!(
+        printed_report(&[], Ending::Stopped(Stop::GateFull)),
+        "failed: replay: stop 2 GateFull\n"
+    );
+    assert_eq!(
+        printed_report(&[], Ending::Stopped(Stop::ArenaFull)),
+        "failed: replay: stop 3 ArenaFull\n"
+    );
+    assert_eq!(
+        printed_report(&[SHORT], Ending::Incomplete),
+        "failed: replay: proxy 0: wire 1 Short\nreplay: incomplete\n"
+    );
 }
 
 const FAULTS: [WireError; 15] = [
@@ -63,7 +76,13 @@ fn names_as_displayed() {
     for fault in FAULTS {
         for stop in [Stop::Memory, Stop::GateFull, Stop::ArenaFull] {
             let displayed = format!("failed: replay: proxy 0: wire {fault}\nreplay: stop {stop}\n");
-            assert_eq!(printed_report(&[ProxyFailure { fault: Some(fault), lost: false }], Ending::Stopped(stop)), displayed);
+            assert_eq!(
+                printed_report(
+                    &[ProxyFailure { fault: Some(fault), lost: false }],
+                    Ending::Stopped(stop)
+                ),
+                displayed
+            );
         }
     }
 }
@@ -92,9 +111,22 @@ fn a_stop_decides() {
 
 const LINES: &str = "0 7 held\n1 3 never\n1 5 held\n";
 
-/// Reports the answers to two proxies, of which these failed, to two writers. They were received in another order.
-fn reported(out: &mut impl Sink, error: &mut impl Sink, mut failures: [ProxyFailure; 2], ending: Ending) -> Report {
-    print_report(Global, out, error, &mut received(&["7 held", "5 held; 3 never"]), &mut failures, ending)
+/// Reports the answers to two proxies, of which these failed, to two writers. They were received in
+/// another order.
+fn reported(
+    out: &mut impl Sink,
+    error: &mut impl Sink,
+    mut failures: [ProxyFailure; 2],
+    ending: Ending,
+) -> Report {
+    print_report(
+        Global,
+        out,
+        error,
+        &mut received(&["7 held", "5 held; 3 never"]),
+        &mut failures,
+        ending,
+    )
 }
 
 #[test]
@@ -107,7 +139,8 @@ fn answers_and_failures() {
         (
             [LOST, SHORT],
             Ending::Stopped(Stop::Memory),
-            "failed: replay: proxy 0: memory\nreplay: proxy 1: wire 1 Short\nreplay: stop 1 Memory\n",
+            "failed: replay: proxy 0: memory\nreplay: proxy 1: wire 1 Short\nreplay: stop 1 \
+             Memory\n",
         ),
     ] {
         let (mut out, mut error) = (StdSink::new(Vec::new()), StdSink::new(Vec::new()));
@@ -117,7 +150,8 @@ fn answers_and_failures() {
     }
 }
 
-/// Prints the answers to this writer where nothing else fails. Returns the status, and whether standard error is empty.
+/// Prints the answers to this writer where nothing else fails. Returns the status, and whether
+/// standard error is empty.
 fn printed_to(out: impl Write) -> (Status, bool) {
     let mut error = StdSink::new(Vec::new());
     let report = reported(&mut StdSink::new(out), &mut error, [CLEAN, CLEAN], Ending::Complete);
@@ -147,8 +181,16 @@ fn error_output_fails_everywhere() {
     let text = "replay: proxy 0: wire 1 Short\nreplay: incomplete\n";
     for room in 0..=text.len() {
         let mut out = StdSink::new(Vec::new());
-        let report = reported(&mut out, &mut StdSink::new(Failing::after(room)), [SHORT, CLEAN], Ending::Incomplete);
+        let report = reported(
+            &mut out,
+            &mut StdSink::new(Failing::after(room)),
+            [SHORT, CLEAN],
+            Ending::Incomplete,
+        );
         assert_eq!(report.reported.is_ok(), room == text.len());
-        assert_eq!(ended(report.status, &out.into_inner(), b"").strip_prefix(LINES), Some("failed: "));
+        assert_eq!(
+            ended(report.status, &out.into_inner(), b"").strip_prefix(LINES),
+            Some("failed: ")
+        );
     }
 }

@@ -12,7 +12,8 @@ use tests::plain::{PlainAnswer, PlainBatch, PlainReply};
 use tests::random::Random;
 use tests::reference::Reference;
 
-/// Batches of one chain with their proxies, in order of arrival: shuffled, some twice, some never, some off the chain.
+/// Batches of one chain with their proxies, in order of arrival: shuffled, some twice, some never,
+/// some off the chain.
 struct Arrivals {
     proxies: usize,
     window: i64,
@@ -35,7 +36,8 @@ impl Arrivals {
             }
             let snapshots = (version - window - 10, version - 1);
             let txns = (0..random.index(4)).map(|_| space.txn(random, 2, snapshots)).collect();
-            let batch = PlainBatch { previous, version, received: received[proxy].min(version - 1), txns };
+            let batch =
+                PlainBatch { previous, version, received: received[proxy].min(version - 1), txns };
             if !random.one_in(100) {
                 batches.push((proxy, batch));
             }
@@ -47,7 +49,8 @@ impl Arrivals {
         arrivals
     }
 
-    // Sends some batches again, also by another proxy or with other contents, and some that are on no chain.
+    // Sends some batches again, also by another proxy or with other contents, and some that are on
+    // no chain.
     fn repeat(&mut self, random: &mut Random) {
         if self.batches.is_empty() {
             return;
@@ -130,7 +133,8 @@ fn core_answers_as_the_rules_say() {
     });
 }
 
-/// With a small limit: answers before the stop are right, later batches are refused, and the stop stays.
+/// With a small limit: answers before the stop are right, later batches are refused, and the stop
+/// stays.
 #[test]
 fn core_stays_stopped() {
     run("core_stays_stopped", count(500_000, 10_000), |random| {
@@ -309,7 +313,10 @@ fn replies_are_a_map() {
             assert_eq!(replies.put(proxy, reply.reply()), Ok(()));
             kept.insert((proxy, version), reply);
             let asked = (random.index(5), random.between(-1, version + 1));
-            assert_eq!(replies.find(asked.0, asked.1).map(PlainReply::of).as_ref(), kept.get(&asked));
+            assert_eq!(
+                replies.find(asked.0, asked.1).map(PlainReply::of).as_ref(),
+                kept.get(&asked)
+            );
         }
         calls
     });

@@ -1,12 +1,15 @@
-//! Which failures of a reader or a writer are tried again, and how often a call reaches the reader or the writer; and that a
-//! frame is read in as many calls as the reader needs, and no more.
+//! Which failures of a reader or a writer are tried again, and how often a call reaches the reader
+//! or the writer; and that a frame is read in as many calls as the reader needs, and no more.
 
 use rattle_std::alloc::Global;
 use std::cell::Cell;
 use std::io::{ErrorKind, Read, Result as IoResult, Write};
 use tests::plain::{PlainBatch, PlainRange, PlainTxn};
 use tests::spelling::batch_frame;
-use wire::{Failed, Sink, Source, StdSink, StdSource, WireError, read_frames, upgrade, write_all, write_and_flush};
+use wire::{
+    Failed, Sink, Source, StdSink, StdSource, WireError, read_frames, upgrade, write_all,
+    write_and_flush,
+};
 
 /// Fails `failures` times in this way, and then answers. Counts the calls.
 struct Failing<'a> {
@@ -58,10 +61,17 @@ fn tries(kind: ErrorKind, failures: u32) -> Vec<(bool, u32)> {
     vec![(read, reads), (written, writes), (flushed, flushes)]
 }
 
-/// A failure other than an interruption is reported at once: the next call, and not this one, tries again.
+/// A failure other than an interruption is reported at once: the next call, and not this one, tries
+/// again.
 #[test]
 fn only_interruptions_are_retried() {
-    for kind in [ErrorKind::WouldBlock, ErrorKind::TimedOut, ErrorKind::BrokenPipe, ErrorKind::UnexpectedEof, ErrorKind::Other] {
+    for kind in [
+        ErrorKind::WouldBlock,
+        ErrorKind::TimedOut,
+        ErrorKind::BrokenPipe,
+        ErrorKind::UnexpectedEof,
+        ErrorKind::Other,
+    ] {
         assert_eq!(tries(kind, 1), [(false, 1); 3], "{kind:?}");
     }
     assert_eq!(tries(ErrorKind::Interrupted, 0), [(true, 1); 3]);
@@ -108,7 +118,8 @@ impl Read for FailsFirst<'_> {
     }
 }
 
-/// Gives at most `step` bytes in each call, and fails in this way instead of the end. Counts the calls.
+/// Gives at most `step` bytes in each call, and fails in this way instead of the end. Counts the
+/// calls.
 struct Steps<'a> {
     bytes: &'a [u8],
     step: usize,
@@ -131,37 +142,54 @@ impl Read for Steps<'_> {
 
 fn batch(previous: i64, writes: usize) -> PlainBatch {
     let write = |index: usize| PlainRange::single(index.to_be_bytes());
-    let txns = vec![PlainTxn { snapshot: 0, marked: false, reads: Vec::new(), writes: (0..writes).map(write).collect() }];
+    let txns = vec![PlainTxn {
+        snapshot: 0,
+        marked: false,
+        reads: Vec::new(),
+        writes: (0..writes).map(write).collect(),
+    }];
     PlainBatch { previous, version: previous + 10, received: -1, txns }
 }
 
-/// A frame of a reader that gives a byte per call takes a call per byte, and one more only at the end of the input.
+/// A frame of a reader that gives a byte per call takes a call per byte, and one more only at the
+/// end of the input.
 #[test]
 fn one_call_per_piece() {
     let frame = batch_frame(&batch(0, 1_000), 2);
     for step in [1, 7, 4_096] {
         let calls = Cell::new(0);
-        let mut frames = read_frames(Global, StdSource::new(Steps { bytes: &frame, step, end: None, calls: &calls }));
+        let mut frames = read_frames(
+            Global,
+            StdSource::new(Steps { bytes: &frame, step, end: None, calls: &calls }),
+        );
         assert!(matches!(frames.next(), Ok(Some(_))));
-        let pieces = 4_u32.div_ceil(step.min(4) as u32) + (frame.len() as u32 - 4).div_ceil(step as u32);
+        let pieces =
+            4_u32.div_ceil(step.min(4) as u32) + (frame.len() as u32 - 4).div_ceil(step as u32);
         assert_eq!(calls.replace(0), pieces);
         assert!(matches!(frames.next(), Ok(None)));
         assert_eq!(calls.get(), 1);
     }
 }
 
-/// If reading fails after some frames, `upgrade` has written each of them, whatever the failure is called.
+/// If reading fails after some frames, `upgrade` has written each of them, whatever the failure is
+/// called.
 #[test]
 fn upgrade_writes_what_came_before_a_failed_read() {
     let frames: Vec<Vec<u8>> = (0..4).map(|index| batch_frame(&batch(10 * index, 3), 1)).collect();
-    let expected: Vec<Vec<u8>> = (0..4).map(|index| batch_frame(&batch(10 * index, 3), 2)).collect();
+    let expected: Vec<Vec<u8>> =
+        (0..4).map(|index| batch_frame(&batch(10 * index, 3), 2)).collect();
     for kind in [ErrorKind::WouldBlock, ErrorKind::TimedOut] {
         for complete in 0..=4 {
             for rest in [0, 1, 5, 30] {
                 let next = frames.get(complete).map_or(&[][..], |frame| &frame[..rest]);
                 let bytes = [frames[..complete].concat().as_slice(), next].concat();
                 let calls = Cell::new(0);
-                let mut reader = StdSource::new(Steps { bytes: &bytes, step: 9, end: Some(kind), calls: &calls });
+                let mut reader = StdSource::new(Steps {
+                    bytes: &bytes,
+                    step: 9,
+                    end: Some(kind),
+                    calls: &calls,
+                });
                 let mut sink = StdSink::new(Vec::new());
                 assert_eq!(upgrade(Global, &mut reader, &mut sink), Err(WireError::Read));
                 assert_eq!(sink.into_inner(), expected[..complete].concat());

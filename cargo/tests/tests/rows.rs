@@ -27,18 +27,28 @@ fn resolves(mut set: ConflictSet, rows: &[(&str, &str)]) {
 
 #[test]
 fn own_and_later_writes_do_not_count() {
-    resolves(set(WINDOW, MAX_LIMIT), &[("-1>0: R[a,c) W[b,c); R[c,d) W[a,d); R[c,d)", "0 committed committed conflict")]);
+    resolves(
+        set(WINDOW, MAX_LIMIT),
+        &[("-1>0: R[a,c) W[b,c); R[c,d) W[a,d); R[c,d)", "0 committed committed conflict")],
+    );
 }
 
-/// At 105 the batch also writes the range that the history conflicts with. At 106 the history alone rejects.
+/// At 105 the batch also writes the range that the history conflicts with. At 106 the history alone
+/// rejects.
 #[test]
 fn rejected_by_the_history_writes_nothing() {
     resolves(
         set(10, MAX_LIMIT),
         &[
             ("-1>100: W[a,b)", "100 committed"),
-            ("100>105: W[a,b); R[a,b) W[x,y) @80; R[a,b) W[x,y) @95; R[x,y) @105", "105 committed tooold conflict committed"),
-            ("105>106: R[a,b) W[x,y) @80; R[a,b) W[x,y) @100; R[x,y) @106", "106 tooold conflict committed"),
+            (
+                "100>105: W[a,b); R[a,b) W[x,y) @80; R[a,b) W[x,y) @95; R[x,y) @105",
+                "105 committed tooold conflict committed",
+            ),
+            (
+                "105>106: R[a,b) W[x,y) @80; R[a,b) W[x,y) @100; R[x,y) @106",
+                "106 tooold conflict committed",
+            ),
         ],
     );
 }
@@ -64,8 +74,9 @@ fn keys_one_by_one() {
     );
 }
 
-/// `try_resolve` of a set of limit 3. The refused batch at 200 isn't remembered, and the write at 100 is. At 9,000,000 that write has
-/// left the window. At last the batch that doesn't fit stops a set that resolves it.
+/// `try_resolve` of a set of limit 3. The refused batch at 200 isn't remembered, and the write at
+/// 100 is. At 9,000,000 that write has left the window. At last the batch that doesn't fit stops a
+/// set that resolves it.
 #[test]
 fn limit_three_refused() {
     let mut set = set(WINDOW, 3);
@@ -85,20 +96,41 @@ fn limit_three_refused() {
     assert_eq!(text_of(set.try_resolve(&batch("9000002>90000000").batch())), "2 ArenaFull");
 }
 
-/// Steps of a proxy and its batch, and after the arrow the answers that the step makes, each with its proxy.
+/// Steps of a proxy and its batch, and after the arrow the answers that the step makes, each with
+/// its proxy.
 type Row = &'static [&'static str];
 
 const ROWS: [Row; 7] = [
-    &["0 -1>0 -> 0 0 empty", "0 0>100: W[a,b) -> 0 100 committed", "0 100>200: R[a,b) @100 -> 0 200 committed"],
+    &[
+        "0 -1>0 -> 0 0 empty",
+        "0 0>100: W[a,b) -> 0 100 committed",
+        "0 100>200: R[a,b) @100 -> 0 200 committed",
+    ],
     &[
         "0 -1>0 -> 0 0 empty",
         "0 0>100: W[a,b) W[e,f) -> 0 100 committed",
         "0 100>200: W[c,d) @100; m R[a,b) R[c,d) R[e,f) @50 -> 0 200 committed conflict:0,2",
     ],
     &["0 -1>0 -> 0 0 empty", "1 0>100 -> 1 100 empty", "0 0>100 -> 0 100 never"],
-    &["0 -1>0 -> 0 0 empty", "0 100>200", "0 100>200", "0 0>100 -> 0 100 empty; 0 200 empty; 0 200 empty"],
-    &["0 -1>0 -> 0 0 empty", "0 150>300", "0 100>200", "0 0>100 -> 0 100 empty; 0 200 empty; 0 300 never"],
-    &["0 -1>0 -> 0 0 empty", "0 150>160", "1 100>200", "1 50>55", "0 0>100 -> 0 100 empty; 1 55 never; 1 200 empty; 0 160 never"],
+    &[
+        "0 -1>0 -> 0 0 empty",
+        "0 100>200",
+        "0 100>200",
+        "0 0>100 -> 0 100 empty; 0 200 empty; 0 200 empty",
+    ],
+    &[
+        "0 -1>0 -> 0 0 empty",
+        "0 150>300",
+        "0 100>200",
+        "0 0>100 -> 0 100 empty; 0 200 empty; 0 300 never",
+    ],
+    &[
+        "0 -1>0 -> 0 0 empty",
+        "0 150>160",
+        "1 100>200",
+        "1 50>55",
+        "0 0>100 -> 0 100 empty; 1 55 never; 1 200 empty; 0 160 never",
+    ],
     &[
         "0 -1>0 -> 0 0 empty",
         "0 0>100 -> 0 100 empty",
@@ -123,7 +155,15 @@ fn steps(row: Row) -> Vec<Step> {
     let step = |step: &'static str| {
         let (call, answers) = step.split_once(" -> ").unwrap_or((step, ""));
         let (proxy, text) = numbered(call);
-        Step { proxy, batch: batch(text), answers: answers.split("; ").filter(|answer| !answer.is_empty()).map(numbered).collect() }
+        Step {
+            proxy,
+            batch: batch(text),
+            answers: answers
+                .split("; ")
+                .filter(|answer| !answer.is_empty())
+                .map(numbered)
+                .collect(),
+        }
     };
     row.iter().map(|text| step(text)).collect()
 }
@@ -153,7 +193,8 @@ struct Service {
 
 impl Service {
     fn open(proxies: usize, capacity: usize) -> Self {
-        let (resolver, clients) = open(Global, proxies, capacity, WINDOW, MAX_LIMIT).expect("memory is ample");
+        let (resolver, clients) =
+            open(Global, proxies, capacity, WINDOW, MAX_LIMIT).expect("memory is ample");
         Service { resolver, clients }
     }
 
@@ -181,7 +222,8 @@ impl Service {
     }
 }
 
-/// The answers are taken after all batches were, so that a lane of one has one of them and the others are owed.
+/// The answers are taken after all batches were, so that a lane of one has one of them and the
+/// others are owed.
 #[test]
 fn rows_over_lanes_of_one() {
     for row in ROWS {
@@ -222,7 +264,8 @@ fn answers_over_two_lanes_of_one() {
     assert!(service.is_complete());
 }
 
-/// One batch of each of two proxies, a number of turns, the answers to each, and whether all is settled.
+/// One batch of each of two proxies, a number of turns, the answers to each, and whether all is
+/// settled.
 #[test]
 fn two_proxies_in_turns() {
     for (batches, turns, expected, is_complete) in [
@@ -246,7 +289,8 @@ fn two_proxies_in_turns() {
     }
 }
 
-/// Sends batches of each of two proxies that have to be held, with a turn after each. Returns the stop, if there is one.
+/// Sends batches of each of two proxies that have to be held, with a turn after each. Returns the
+/// stop, if there is one.
 fn stop_of_two(counts: [i64; 2]) -> Option<Stop> {
     let mut service = Service::open(2, 1);
     for (proxy, count) in counts.into_iter().enumerate() {

@@ -1,4 +1,5 @@
-//! The resolver over lanes: in one thread, so that each turn's answer is known, and with its clients in threads.
+//! The resolver over lanes: in one thread, so that each turn's answer is known, and with its
+//! clients in threads.
 
 use keyspace::Answer;
 use lane::{Refused, Taken};
@@ -22,7 +23,9 @@ fn chain(random: &mut Random, batches: usize) -> Vec<PlainBatch> {
     let mut previous = -1;
     let mut next = || {
         let version = previous + random.between(1, 100);
-        let txns = (0..random.index(4)).map(|_| space.txn(random, 2, (version - WINDOW - 20, version - 1))).collect();
+        let txns = (0..random.index(4))
+            .map(|_| space.txn(random, 2, (version - WINDOW - 20, version - 1)))
+            .collect();
         let batch = PlainBatch { previous, version, received: -1, txns };
         previous = version;
         batch
@@ -100,7 +103,9 @@ impl Service {
     /// Takes a turn. It takes a batch of the first proxy after the last one that has any.
     fn turn(&mut self) {
         let proxies = self.requested.len();
-        let next = (1..=proxies).map(|step| (self.last + step) % proxies).find(|proxy| !self.requested[*proxy].is_empty());
+        let next = (1..=proxies)
+            .map(|step| (self.last + step) % proxies)
+            .find(|proxy| !self.requested[*proxy].is_empty());
         let turn = self.resolver.turn().expect("nothing stops it");
         match next {
             Some(proxy) => {
@@ -123,12 +128,18 @@ impl Service {
 
     // All lanes are closed and empty, and nothing is owed.
     fn is_through(&self) -> bool {
-        self.closed.iter().all(|closed| *closed) && self.requested.iter().all(VecDeque::is_empty) && self.resolver.owed() == 0
+        self.closed.iter().all(|closed| *closed)
+            && self.requested.iter().all(VecDeque::is_empty)
+            && self.resolver.owed() == 0
     }
 
     fn settle(&mut self) {
         let account = self.resolver.settle(&mut self.clients);
-        let all_taken = self.received.iter().zip(&self.reference.answers).all(|(received, answers)| received == answers);
+        let all_taken = self
+            .received
+            .iter()
+            .zip(&self.reference.answers)
+            .all(|(received, answers)| received == answers);
         assert_eq!((account.complete, account.stop), (self.done && all_taken, None));
     }
 }
@@ -160,7 +171,11 @@ fn turns_and_accounts_in_one_thread() {
 }
 
 /// Sends these batches in order, with at most `share` of them unanswered, and returns the answers.
-fn run_client(mut client: Client, batches: Vec<PlainBatch>, share: u64) -> (Client, Vec<PlainAnswer>) {
+fn run_client(
+    mut client: Client,
+    batches: Vec<PlainBatch>,
+    share: u64,
+) -> (Client, Vec<PlainAnswer>) {
     let mut unsent: VecDeque<_> = batches.iter().map(PlainBatch::batch).collect();
     let mut answers: Vec<Answer> = Vec::new();
     let mut tries = 0;
@@ -203,7 +218,8 @@ fn turn_to_the_end(resolver: &mut Resolver) {
     }
 }
 
-/// Shuffles the batches in pieces no larger than the share, so that a client that keeps its share can always send the next one.
+/// Shuffles the batches in pieces no larger than the share, so that a client that keeps its share
+/// can always send the next one.
 fn disorder(batches: &mut [PlainBatch], share: u64, random: &mut Random) {
     let piece = 1 + random.index((share as usize).min(50));
     batches.chunks_mut(piece).for_each(|piece| random.shuffle(piece));
@@ -241,7 +257,8 @@ fn serve_threads(random: &mut Random, batches: usize) {
     assert!(resolver.settle(&mut clients).complete);
 }
 
-/// 1 to 8 clients, each in its own thread, receive the answers to their batches in the order of the chain, once.
+/// 1 to 8 clients, each in its own thread, receive the answers to their batches in the order of the
+/// chain, once.
 #[test]
 fn clients_in_threads_get_their_answers() {
     run("clients_in_threads_get_their_answers", count(500_000, 5_000), |random| {

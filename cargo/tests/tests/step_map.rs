@@ -35,7 +35,11 @@ impl QueryList for Queries {
     }
 
     fn query(&self, index: usize) -> RangeQuery<'_> {
-        RangeQuery { range: self.range(index), version: self.version(index), hash: self.hash(index) }
+        RangeQuery {
+            range: self.range(index),
+            version: self.version(index),
+            hash: self.hash(index),
+        }
     }
 }
 
@@ -49,7 +53,13 @@ fn written(space: &KeySpace, random: &mut Random) -> Vec<PlainRange> {
     if random.one_in(2) { tests::steps::united(ranges) } else { ranges.collect() }
 }
 
-fn write(map: &mut StepMap, steps: &mut Steps, ranges: &[PlainRange], version: i64, random: &mut Random) {
+fn write(
+    map: &mut StepMap,
+    steps: &mut Steps,
+    ranges: &[PlainRange],
+    version: i64,
+    random: &mut Random,
+) {
     let prepared = map.prepare(&lengths_of(ranges));
     if !steps.prepare(ranges.len()) {
         assert_eq!(prepared, Err(StepError::Full));
@@ -91,14 +101,19 @@ fn compare_at(map: &StepMap, steps: &Steps, random: &mut Random) {
 
 /// Asks for the ranges, at once and one by one, with versions up to one above all.
 fn ask(map: &StepMap, steps: &Steps, ranges: Vec<PlainRange>, version: i64, random: &mut Random) {
-    let queries = Queries(ranges.into_iter().map(|range| (range, random.between(-1, version + 1))).collect());
+    let queries =
+        Queries(ranges.into_iter().map(|range| (range, random.between(-1, version + 1))).collect());
     let mut answers = KitVec::new(Global);
     map.exceeds_each(&queries, &mut answers).expect("memory is ample");
     assert_eq!(answers.len(), queries.len());
     for ((range, version), answer) in queries.0.iter().zip(&answers) {
         let greatest = steps.greatest_in(range);
         assert_eq!(map.greatest_in(&range.range()), greatest, "{range:?}");
-        assert_eq!(map.exceeds(&range.range(), *version), !range.is_empty() && greatest > *version, "{range:?}");
+        assert_eq!(
+            map.exceeds(&range.range(), *version),
+            !range.is_empty() && greatest > *version,
+            "{range:?}"
+        );
         assert_eq!(*answer, !range.is_empty() && greatest > *version, "{range:?}");
     }
 }
@@ -144,7 +159,8 @@ fn step_map_is_boundaries_in_order() {
     });
 }
 
-/// Enough boundaries that nodes of the tree split, join and empty, at its front, its back and inside.
+/// Enough boundaries that nodes of the tree split, join and empty, at its front, its back and
+/// inside.
 #[test]
 fn large_step_map_is_boundaries_in_order() {
     run("large_step_map_is_boundaries_in_order", count(2_000_000, 40_000), |random| {
@@ -157,8 +173,13 @@ fn large_step_map_is_boundaries_in_order() {
         for version in 1..=writes {
             let at = if rising { 40 * version as u64 } else { random.below(keys) };
             let wide = random.pick(&[1, 1, 1, 2, 30, 3_000]);
-            let range = if random.one_in(2) { PlainRange::single(number(at)) } else { PlainRange::new(number(at), number(at + wide)) };
-            // The model's own write takes time in proportion to all boundaries, so wide ones are rare.
+            let range = if random.one_in(2) {
+                PlainRange::single(number(at))
+            } else {
+                PlainRange::new(number(at), number(at + wide))
+            };
+            // The model's own write takes time in proportion to all boundaries, so wide ones are
+            // rare.
             write(&mut map, &mut steps, &[range], version, random);
             if version % 500 == 0 {
                 steps.edge = version - random.between(0, 2_000).min(version);
@@ -173,7 +194,11 @@ fn large_step_map_is_boundaries_in_order() {
                 let singles = random.below(5);
                 let asked = |random: &mut Random| {
                     let at = random.below(keys);
-                    if random.below(4) < singles { PlainRange::single(number(at)) } else { PlainRange::new(number(at), number(at + 3)) }
+                    if random.below(4) < singles {
+                        PlainRange::single(number(at))
+                    } else {
+                        PlainRange::new(number(at), number(at + 3))
+                    }
                 };
                 ask(&map, &steps, (0..100).map(|_| asked(random)).collect(), version, random);
             }
@@ -194,7 +219,8 @@ fn filter_bounds_every_write() {
         let (mut keys, mut newest_range, mut newest_key) = (BTreeMap::new(), -1, -1);
         let calls = 10 + random.below(3_000) as i64;
         // Cells have several keys each only while ranges are rare and cells are few.
-        let (ranges, doublings) = (random.pick(&[10, 1_000, 1_000_000]), random.pick(&[20, 1_000, 1_000_000]));
+        let (ranges, doublings) =
+            (random.pick(&[10, 1_000, 1_000_000]), random.pick(&[20, 1_000, 1_000_000]));
         for version in 0..calls {
             if random.one_in(ranges) {
                 filter.write_range(version);
@@ -210,7 +236,10 @@ fn filter_bounds_every_write() {
                 *newest = version.max(*newest);
                 newest_key = newest_key.max(version);
             }
-            assert_eq!((filter.newest_range(), filter.is_useful()), (newest_range, newest_range < newest_key));
+            assert_eq!(
+                (filter.newest_range(), filter.is_useful()),
+                (newest_range, newest_range < newest_key)
+            );
             let asked = space.key(random);
             let written = keys.get(&asked).copied().unwrap_or(-1).max(newest_range);
             assert!((written..=version).contains(&filter.bound(&asked)), "{asked:?}");

@@ -4,7 +4,8 @@ use keyspace::{Answer, Verdict};
 use rattle_std::alloc::Global;
 use rattle_std::vec::Vec as KitVec;
 use replay_summary::{
-    Counted, Counts, Occupancy, Outcome, Summary, SummaryError, SummaryForm, Versions, summarize, summarize_all, summary_text, total,
+    Counted, Counts, Occupancy, Outcome, Summary, SummaryError, SummaryForm, Versions, summarize,
+    summarize_all, summary_text, total,
 };
 use std::collections::BTreeSet;
 use tests::cases::{count, run};
@@ -13,9 +14,16 @@ use tests::random::Random;
 
 /// The reply at a version with these numbers of entries.
 fn reply(version: i64, committed: usize, conflict: usize, too_old: usize) -> Answer {
-    let entries = [(Verdict::Conflict, conflict), (Verdict::TooOld, too_old), (Verdict::Committed, committed)];
+    let entries = [
+        (Verdict::Conflict, conflict),
+        (Verdict::TooOld, too_old),
+        (Verdict::Committed, committed),
+    ];
     let entry = |verdict| PlainEntry { verdict, places: Vec::new() };
-    let entries = entries.into_iter().flat_map(|(verdict, times)| (0..times).map(move |_| entry(verdict))).collect();
+    let entries = entries
+        .into_iter()
+        .flat_map(|(verdict, times)| (0..times).map(move |_| entry(verdict)))
+        .collect();
     Answer::Reply(PlainReply { version, entries }.reply())
 }
 
@@ -33,12 +41,21 @@ fn text(summaries: &[Summary], form: SummaryForm) -> String {
 }
 
 fn text_with(summaries: &[Summary], occupancy: Option<Occupancy>, form: SummaryForm) -> String {
-    String::from_utf8(summary_text(Global, summaries, occupancy, form).expect("memory is ample").into_std()).expect("the text is ASCII")
+    String::from_utf8(
+        summary_text(Global, summaries, occupancy, form).expect("memory is ample").into_std(),
+    )
+    .expect("the text is ASCII")
 }
 
 /// The answers to two proxies, in order of versions.
 fn two_proxies() -> Vec<Vec<Answer>> {
-    let first = vec![reply(0, 1, 0, 0), reply(100, 1, 1, 1), reply(100, 1, 1, 1), Answer::Never(100), reply(200, 1, 0, 0)];
+    let first = vec![
+        reply(0, 1, 0, 0),
+        reply(100, 1, 1, 1),
+        reply(100, 1, 1, 1),
+        Answer::Never(100),
+        reply(200, 1, 0, 0),
+    ];
     let second = vec![reply(50, 0, 0, 0), Answer::Held(70), reply(250, 0, 2, 0), Answer::Held(900)];
     vec![first, second]
 }
@@ -58,7 +75,16 @@ fn an_empty_reply_is_a_batch() {
 
 #[test]
 fn a_repeat_counts_no_transactions() {
-    let wanted = Summary { batches: 1, transactions: 6, committed: 3, conflict: 2, too_old: 1, repeats: 2, versions: versions(7, 7), ..Summary::empty() };
+    let wanted = Summary {
+        batches: 1,
+        transactions: 6,
+        committed: 3,
+        conflict: 2,
+        too_old: 1,
+        repeats: 2,
+        versions: versions(7, 7),
+        ..Summary::empty()
+    };
     assert_eq!(summarize(&[reply(7, 3, 2, 1), reply(7, 3, 2, 1), reply(7, 3, 2, 1)]), Some(wanted));
 }
 
@@ -67,7 +93,15 @@ fn a_repeat_counts_no_transactions() {
 fn never_and_held_are_no_replies() {
     let wanted = Summary { never: 1, held: 2, ..Summary::empty() };
     assert_eq!(summarize(&[Answer::Never(3), Answer::Held(5), Answer::Held(5)]), Some(wanted));
-    let wanted = Summary { batches: 1, transactions: 1, committed: 1, never: 1, held: 1, versions: versions(3, 3), ..Summary::empty() };
+    let wanted = Summary {
+        batches: 1,
+        transactions: 1,
+        committed: 1,
+        never: 1,
+        held: 1,
+        versions: versions(3, 3),
+        ..Summary::empty()
+    };
     assert_eq!(summarize(&[Answer::Never(3), reply(3, 1, 0, 0), Answer::Held(9)]), Some(wanted));
 }
 
@@ -85,7 +119,14 @@ fn the_total_of_two_proxies() {
         held: 0,
         versions: versions(0, 200),
     };
-    let second = Summary { batches: 2, transactions: 2, conflict: 2, held: 2, versions: versions(50, 250), ..Summary::empty() };
+    let second = Summary {
+        batches: 2,
+        transactions: 2,
+        conflict: 2,
+        held: 2,
+        versions: versions(50, 250),
+        ..Summary::empty()
+    };
     assert_eq!(summaries, [first, second]);
     let both = Summary {
         batches: 5,
@@ -111,7 +152,10 @@ fn a_counted_answer_has_24_bytes() {
 fn numbers_beyond_64_bits_are_refused() {
     let half = Summary { held: usize::MAX / 2 + 1, ..Summary::empty() };
     assert_eq!(total(&[half, half]), None);
-    assert_eq!(summary_text(Global, &[half, half], None, SummaryForm::Json), Err(SummaryError::Count));
+    assert_eq!(
+        summary_text(Global, &[half, half], None, SummaryForm::Json),
+        Err(SummaryError::Count)
+    );
     assert_eq!(total(&[half]), Some(half));
 }
 
@@ -119,12 +163,15 @@ fn numbers_beyond_64_bits_are_refused() {
 fn lines_of_words() {
     let summaries = summarized(two_proxies());
     let wanted = "\
-proxy 0: batches 3, transactions 5, committed 3, conflict 1, tooold 1, conflict rate 20.0 %, repeats 1, never 1, held 0, versions 0 to 200
-proxy 1: batches 2, transactions 2, committed 0, conflict 2, tooold 0, conflict rate 100.0 %, repeats 0, never 0, held 2, versions 50 to 250
-all: batches 5, transactions 7, committed 3, conflict 3, tooold 1, conflict rate 42.9 %, repeats 1, never 1, held 2, versions 0 to 250
-";
+        proxy 0: batches 3, transactions 5, committed 3, conflict 1, tooold 1, \
+        conflict rate 20.0 %, repeats 1, never 1, held 0, versions 0 to 200\n\
+        proxy 1: batches 2, transactions 2, committed 0, conflict 2, tooold 0, \
+        conflict rate 100.0 %, repeats 0, never 0, held 2, versions 50 to 250\n\
+        all: batches 5, transactions 7, committed 3, conflict 3, tooold 1, \
+        conflict rate 42.9 %, repeats 1, never 1, held 2, versions 0 to 250\n";
     assert_eq!(text(&summaries, SummaryForm::Words), wanted);
-    let wanted = "all: batches 0, transactions 0, committed 0, conflict 0, tooold 0, conflict rate none, repeats 0, never 0, held 0, versions none\n";
+    let wanted = "all: batches 0, transactions 0, committed 0, conflict 0, tooold 0, \
+        conflict rate none, repeats 0, never 0, held 0, versions none\n";
     assert_eq!(text(&[], SummaryForm::Words), wanted);
 }
 
@@ -133,17 +180,21 @@ fn one_line_of_json() {
     let summaries = summarized(two_proxies());
     let wanted = concat!(
         r#"{"proxies":["#,
-        r#"{"proxy":0,"batches":3,"transactions":5,"committed":3,"conflict":1,"tooold":1,"conflict_percent":20.0,"repeats":1,"never":1,"held":0,"#,
+        r#"{"proxy":0,"batches":3,"transactions":5,"committed":3,"conflict":1,"tooold":1,"#,
+        r#""conflict_percent":20.0,"repeats":1,"never":1,"held":0,"#,
         r#""versions":{"first":0,"last":200}},"#,
-        r#"{"proxy":1,"batches":2,"transactions":2,"committed":0,"conflict":2,"tooold":0,"conflict_percent":100.0,"repeats":0,"never":0,"held":2,"#,
+        r#"{"proxy":1,"batches":2,"transactions":2,"committed":0,"conflict":2,"tooold":0,"#,
+        r#""conflict_percent":100.0,"repeats":0,"never":0,"held":2,"#,
         r#""versions":{"first":50,"last":250}}],"#,
-        r#""batches":5,"transactions":7,"committed":3,"conflict":3,"tooold":1,"conflict_percent":42.9,"repeats":1,"never":1,"held":2,"#,
+        r#""batches":5,"transactions":7,"committed":3,"conflict":3,"tooold":1,"#,
+        r#""conflict_percent":42.9,"repeats":1,"never":1,"held":2,"#,
         r#""versions":{"first":0,"last":250}}"#,
         "\n"
     );
     assert_eq!(text(&summaries, SummaryForm::Json), wanted);
     let wanted = concat!(
-        r#"{"proxies":[],"batches":0,"transactions":0,"committed":0,"conflict":0,"tooold":0,"conflict_percent":null,"repeats":0,"never":0,"held":0,"#,
+        r#"{"proxies":[],"batches":0,"transactions":0,"committed":0,"conflict":0,"tooold":0,"#,
+        r#""conflict_percent":null,"repeats":0,"never":0,"held":0,"#,
         r#""versions":null}"#,
         "\n"
     );
@@ -161,16 +212,20 @@ fn how_full_a_resolver_was() {
     assert_eq!(occupancy, Occupancy { most_held: 5, boundaries: 7, most_boundaries: 9 });
 }
 
-/// It is said of the resolver after the lines of the proxies and of all, and after the members of all.
+/// It is said of the resolver after the lines of the proxies and of all, and after the members of
+/// all.
 #[test]
 fn the_resolver_is_last() {
     let summaries = summarized(two_proxies());
     let occupancy = Some(Occupancy { most_held: 12, boundaries: 1, most_boundaries: usize::MAX });
-    let wanted = text(&summaries, SummaryForm::Words) + "resolver: held at most 12, boundaries 1, at most 18446744073709551615\n";
+    let wanted = text(&summaries, SummaryForm::Words)
+        + "resolver: held at most 12, boundaries 1, at most 18446744073709551615\n";
     assert_eq!(text_with(&summaries, occupancy, SummaryForm::Words), wanted);
     let object = text(&summaries, SummaryForm::Json);
     let members = object.strip_suffix("}\n").expect("an object");
-    let wanted = format!("{members},\"most_held\":12,\"boundaries\":1,\"most_boundaries\":18446744073709551615}}\n");
+    let wanted = format!(
+        "{members},\"most_held\":12,\"boundaries\":1,\"most_boundaries\":18446744073709551615}}\n"
+    );
     assert_eq!(text_with(&summaries, occupancy, SummaryForm::Json), wanted);
 }
 
@@ -201,7 +256,8 @@ fn a_rate_is_rounded_up_from_the_middle() {
     }
 }
 
-/// Answers at few versions, so that many are repeats. The replies of a version may differ, and the first one counts.
+/// Answers at few versions, so that many are repeats. The replies of a version may differ, and the
+/// first one counts.
 fn any_answer(random: &mut Random) -> Answer {
     let version = random.between(0, 6);
     match random.below(6) {
@@ -229,7 +285,8 @@ fn counted_plainly(answers: &[Counted]) -> Summary {
         }
     }
     wanted.transactions = wanted.committed + wanted.conflict + wanted.too_old;
-    wanted.versions = seen.first().zip(seen.last()).and_then(|(first, last)| versions(*first, *last));
+    wanted.versions =
+        seen.first().zip(seen.last()).and_then(|(first, last)| versions(*first, *last));
     wanted
 }
 
@@ -240,7 +297,8 @@ fn summaries_are_plain_counts() {
         let received: Vec<_> = answers.iter().map(Counted::of).collect();
         let mut sorted = received.clone();
         sorted.sort_by_key(|answer| answer.version);
-        // The plain count takes the answers as they came: a stable sort keeps the first reply of each version.
+        // The plain count takes the answers as they came: a stable sort keeps the first reply of
+        // each version.
         assert_eq!(summarize(&sorted), Some(counted_plainly(&received)));
         1
     });

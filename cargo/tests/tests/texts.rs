@@ -50,13 +50,20 @@ fn refusals_of_structures() {
 #[test]
 fn stops() {
     printed(&[(SetStop::Memory, "1 Memory"), (SetStop::ArenaFull, "2 ArenaFull")]);
-    printed(&[(Stop::Memory, "1 Memory"), (Stop::GateFull, "2 GateFull"), (Stop::ArenaFull, "3 ArenaFull")]);
+    printed(&[
+        (Stop::Memory, "1 Memory"),
+        (Stop::GateFull, "2 GateFull"),
+        (Stop::ArenaFull, "3 ArenaFull"),
+    ]);
     printed(&[(OpenError::Memory, "1 Memory")]);
 }
 
 #[test]
 fn limits_of_values() {
-    printed(&[(KeyError::KeyLength, "key is longer than 10,001 bytes"), (KeyError::Inverted, "begin is after end")]);
+    printed(&[
+        (KeyError::KeyLength, "key is longer than 10,001 bytes"),
+        (KeyError::Inverted, "begin is after end"),
+    ]);
     printed(&[
         (LimitError::Version, "version or snapshot is outside its limits"),
         (LimitError::Count, "too many transactions or ranges"),

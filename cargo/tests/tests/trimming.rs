@@ -18,7 +18,8 @@ fn next_batch(space: &KeySpace, random: &mut Random, previous: i64, window: i64)
 /// Trims one of two sets before some of the batches. Returns how many batches there were.
 fn set_case(random: &mut Random) -> u64 {
     let space = KeySpace::drawn(random);
-    let (window, limit) = (random.pick(&[1, 20, 500, 1 << 40]), random.pick(&[9, 40, 1_000, MAX_LIMIT]));
+    let (window, limit) =
+        (random.pick(&[1, 20, 500, 1 << 40]), random.pick(&[9, 40, 1_000, MAX_LIMIT]));
     let made = || ConflictSet::new(Global, window, limit).expect("memory is ample");
     let (mut trimmed, mut other) = (made(), made());
     let often = random.pick(&[1, 2, 10]);
@@ -32,7 +33,10 @@ fn set_case(random: &mut Random) -> u64 {
         let (one, two) = (trimmed.try_resolve(&batch.batch()), other.try_resolve(&batch.batch()));
         assert_eq!(one.as_ref().map(PlainReply::of), two.as_ref().map(PlainReply::of));
         assert_eq!(trimmed.boundaries(), other.boundaries());
-        assert_eq!((trimmed.limit(), trimmed.version(), trimmed.edge()), (other.limit(), other.version(), other.edge()));
+        assert_eq!(
+            (trimmed.limit(), trimmed.version(), trimmed.edge()),
+            (other.limit(), other.version(), other.edge())
+        );
     }
     batches
 }

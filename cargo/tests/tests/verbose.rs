@@ -1,4 +1,5 @@
-//! What `replay --verbose` says of a failure: each finding with its complete line. Without a failure, that all batches are held.
+//! What `replay --verbose` says of a failure: each finding with its complete line. Without a
+//! failure, that all batches are held.
 
 use replay_program::{Extent, FileError, Files};
 use std::io::{Cursor, Error, ErrorKind, Read, Result as IoResult, Write};
@@ -99,23 +100,34 @@ const SHORT: &str = "failed: replay: proxy 0: wire 1 Short\n";
 #[test]
 fn findings_in_files() {
     let rows: [(&[&str], &str, &str); 12] = [
-        (&["none"], "failed: replay: proxy 0: cannot open\n", "  none can't be opened: check the name and the permissions\n"),
+        (
+            &["none"],
+            "failed: replay: proxy 0: cannot open\n",
+            "  none can't be opened: check the name and the permissions\n",
+        ),
         (
             &["cut"],
             SHORT,
             "  cut ends inside frame 2 at byte 31, 3 bytes too early: \
              record it again, or keep the frames before it with `head -c 31`\n",
         ),
-        (&["two\nlines"], SHORT, "  two?lines ends inside frame 1 at byte 0, 3 bytes too early: name a file of batches\n"),
+        (
+            &["two\nlines"],
+            SHORT,
+            "  two?lines ends inside frame 1 at byte 0, 3 bytes too early: \
+             name a file of batches\n",
+        ),
         (
             &["other"],
             "failed: replay: proxy 0: wire 3 Kind\n",
-            "  other has no frame of a batch as frame 2 at byte 31: record it again, or keep the frames before it with `head -c 31`\n",
+            "  other has no frame of a batch as frame 2 at byte 31: \
+             record it again, or keep the frames before it with `head -c 31`\n",
         ),
         (
             &["other at once"],
             "failed: replay: proxy 0: wire 3 Kind\n",
-            "  other at once has no frame of a batch as frame 1 at byte 0: name a file of batches\n",
+            "  other at once has no frame of a batch as frame 1 at byte 0: \
+             name a file of batches\n",
         ),
         (
             &["json"],
@@ -125,12 +137,14 @@ fn findings_in_files() {
         (
             &["replies"],
             "failed: replay: proxy 0: wire 3 Kind\n",
-            "  replies contains replies, not batches, from frame 1 at byte 0 on: give them to `--check`\n",
+            "  replies contains replies, not batches, from frame 1 at byte 0 on: \
+             give them to `--check`\n",
         ),
         (
             &["mixed"],
             "failed: replay: proxy 0: wire 3 Kind\n",
-            "  mixed contains replies, not batches, from frame 2 at byte 31 on: give them to `--check`\n",
+            "  mixed contains replies, not batches, from frame 2 at byte 31 on: \
+             give them to `--check`\n",
         ),
         (
             &["folder"],
@@ -145,7 +159,8 @@ fn findings_in_files() {
         (
             &["-"],
             SHORT,
-            "  - is standard input, which can't be read again: record it to a file, and replay that\n",
+            "  - is standard input, which can't be read again: \
+             record it to a file, and replay that\n",
         ),
         // The first of two such files.
         (
@@ -161,11 +176,14 @@ fn findings_in_files() {
     }
 }
 
-const ALL_HELD: &str = "  no batch follows version -1, so all are held: begin the chain with `batches opening --version 10`\n";
+const ALL_HELD: &str = "  no batch follows version -1, so all are held: \
+                        begin the chain with `batches opening --version 10`\n";
 const GATE_FULL: &str = "  too many batches wait for one that is missing: \
     make all files one chain, with rising versions in each file\n";
-const ARENA_FULL: &str = "  version 100 was reached with a limit of 3 boundaries: raise `--limit`, or use a smaller `--window`\n";
-const FIRST_FULL: &str = "  version 0 was reached with a limit of 1 boundaries: raise `--limit`, or use a smaller `--window`\n";
+const ARENA_FULL: &str = "  version 100 was reached with a limit of 3 boundaries: \
+                          raise `--limit`, or use a smaller `--window`\n";
+const FIRST_FULL: &str = "  version 0 was reached with a limit of 1 boundaries: \
+                          raise `--limit`, or use a smaller `--window`\n";
 
 /// One row per finding of a run, of each task.
 #[test]
@@ -177,10 +195,26 @@ fn findings_of_runs() {
         (&["--stream", "gap"], "failed: replay: stop 2 GateFull\n", GATE_FULL),
         (&["--limit", "3", "writes"], "failed: replay: stop 3 ArenaFull\n", ARENA_FULL),
         (&["--limit", "1", "first"], "failed: replay: stop 3 ArenaFull\n", FIRST_FULL),
-        (&["--limit", "3", "--explain", "writes"], "failed: replay: stop 3 ArenaFull\n", ARENA_FULL),
-        (&["--limit", "3", "--summary", "writes"], "failed: replay: stop 3 ArenaFull\n", ARENA_FULL),
-        (&["--limit", "3", "--summary", "--top", "2", "writes"], "failed: replay: stop 3 ArenaFull\n", ARENA_FULL),
-        (&["--limit", "3", "--check", "replies", "writes"], "failed: replay: stop 3 ArenaFull\n", ARENA_FULL),
+        (
+            &["--limit", "3", "--explain", "writes"],
+            "failed: replay: stop 3 ArenaFull\n",
+            ARENA_FULL,
+        ),
+        (
+            &["--limit", "3", "--summary", "writes"],
+            "failed: replay: stop 3 ArenaFull\n",
+            ARENA_FULL,
+        ),
+        (
+            &["--limit", "3", "--summary", "--top", "2", "writes"],
+            "failed: replay: stop 3 ArenaFull\n",
+            ARENA_FULL,
+        ),
+        (
+            &["--limit", "3", "--check", "replies", "writes"],
+            "failed: replay: stop 3 ArenaFull\n",
+            ARENA_FULL,
+        ),
     ];
     for (words, fixed, further) in rows {
         assert_eq!(reported(words), fixed, "{words:?}");
@@ -192,14 +226,17 @@ fn findings_of_runs() {
 /// A stream doesn't note the version that it has reached, so nothing is said of it.
 #[test]
 fn stream_says_no_version() {
-    assert_eq!(reported(&["--verbose", "--stream", "--limit", "3", "writes"]), "failed: replay: stop 3 ArenaFull\n");
+    assert_eq!(
+        reported(&["--verbose", "--stream", "--limit", "3", "writes"]),
+        "failed: replay: stop 3 ArenaFull\n"
+    );
 }
 
 const CUT: &str = "  cut ends inside frame 2 at byte 31, 3 bytes too early: \
     record it again, or keep the frames before it with `head -c 31`\n";
 
-/// Several resolvers: their files and a full gate are explained as those of one. They have no version in common, so nothing is said of
-/// a full arena. A file that isn't regular is not opened.
+/// Several resolvers: their files and a full gate are explained as those of one. They have no
+/// version in common, so nothing is said of a full arena. A file that isn't regular is not opened.
 #[test]
 fn several_resolvers() {
     let irregular = "failed: replay: proxy 0: not a regular file\n";
@@ -207,7 +244,11 @@ fn several_resolvers() {
         (&["cut"], SHORT, CUT),
         (&["--summary", "cut"], SHORT, CUT),
         (&["--check", "replies", "cut"], SHORT, CUT),
-        (&["json"], "failed: replay: proxy 0: wire 2 Long\n", "  json is JSON: run `batches encode`, and replay its output\n"),
+        (
+            &["json"],
+            "failed: replay: proxy 0: wire 2 Long\n",
+            "  json is JSON: run `batches encode`, and replay its output\n",
+        ),
         (&["late"], "failed: replay: stop 2 GateFull\nreplay: shard 0\n", ALL_HELD),
         (&["--summary", "gap"], "failed: replay: stop 2 GateFull\nreplay: shard 0\n", GATE_FULL),
         (&["--limit", "1", "first"], "failed: replay: stop 3 ArenaFull\nreplay: shard 1\n", ""),
@@ -244,7 +285,9 @@ fn output_that_fails() {
         &["--resolvers", "2", "--check", "replies", "first"],
     ];
     for words in rows {
-        for (verbose, expected) in [(false, "failed: ".to_owned()), (true, format!("failed: {OUTPUT}"))] {
+        for (verbose, expected) in
+            [(false, "failed: ".to_owned()), (true, format!("failed: {OUTPUT}"))]
+        {
             let further: &[&str] = if verbose { &["--verbose"] } else { &[] };
             let words: Vec<_> = ["replay"].iter().chain(words).chain(further).copied().collect();
             let (mut out, mut error) = (StdSink::new(Failing::after(5)), StdSink::new(Vec::new()));
@@ -256,12 +299,17 @@ fn output_that_fails() {
     }
 }
 
-/// Returns the line that all batches are held, of which one follows this version and none an earlier one.
+/// Returns the line that all batches are held, of which one follows this version and none an
+/// earlier one.
 fn held_from(version: i64) -> String {
-    format!("  no batch follows version -1, so all are held: begin the chain with `batches opening --version {version}`\n")
+    format!(
+        "  no batch follows version -1, so all are held: \
+         begin the chain with `batches opening --version {version}`\n"
+    )
 }
 
-/// Without a failure it is said if all batches are held, whatever the task and the number of resolvers.
+/// Without a failure it is said if all batches are held, whatever the task and the number of
+/// resolvers.
 #[test]
 fn all_batches_are_held() {
     let rows: [(&[&str], &str, i64); 12] = [
@@ -285,23 +333,38 @@ fn all_batches_are_held() {
     }
 }
 
-/// It is said of as many batches as a resolver holds, and of each file up to the first batch that begins a chain.
+/// It is said of as many batches as a resolver holds, and of each file up to the first batch that
+/// begins a chain.
 #[test]
 fn most_batches_are_held() {
     assert_eq!(reported(&["--verbose", "most"]), format!("done: {}", held_from(10)));
     assert_eq!(reported(&["--verbose", "late and first"]), "done: ");
 }
 
-/// Nothing more is said if a batch begins a chain, if a file can't be read again, or of a refused command line.
+/// Nothing more is said if a batch begins a chain, if a file can't be read again, or of a refused
+/// command line.
 #[test]
 fn nothing_further() {
-    for words in [&["first", "second"][..], &["second", "first"], &["held", "first", "--stream"], &["pipe"], &["held", "pipe"], &["nothing"]] {
+    for words in [
+        &["first", "second"][..],
+        &["second", "first"],
+        &["held", "first", "--stream"],
+        &["pipe"],
+        &["held", "pipe"],
+        &["nothing"],
+    ] {
         let verbose: Vec<_> = words.iter().chain(&["--verbose"]).copied().collect();
         assert_eq!(reported(&verbose), "done: ", "{words:?}");
     }
     assert_eq!(reported(&["--verbose", "--check", "replies", "first"]), "differs: ");
-    assert_eq!(reported(&["--verbose", "--check", "none", "first"]), "failed: replay: replies 0: cannot open\n");
-    assert!(reported(&["--verbose", "--top", "5", "first"]).starts_with("usage: error: --top is wanted with --summary\n"));
+    assert_eq!(
+        reported(&["--verbose", "--check", "none", "first"]),
+        "failed: replay: replies 0: cannot open\n"
+    );
+    assert!(
+        reported(&["--verbose", "--top", "5", "first"])
+            .starts_with("usage: error: --top is wanted with --summary\n")
+    );
 }
 
 /// If standard error fails, it was given a prefix of the text, and the status stays.

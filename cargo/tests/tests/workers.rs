@@ -4,7 +4,7 @@ use keyspace::{Answer, Batch};
 use lane::{Intake, Port, Taken, lane};
 use rattle_std::alloc::Global;
 use rattle_std::rt::HostRuntime;
-use replay_program::{AlwaysOpen, Assignment, LineFilter, Finished, Form, Style, Unshared, work};
+use replay_program::{AlwaysOpen, Assignment, Finished, Form, LineFilter, Style, Unshared, work};
 use resolver::Client;
 use std::thread;
 use tests::playing::{file_of, file_of_versions, reader};
@@ -19,12 +19,16 @@ fn connect() -> (Client, Intake<Batch>, Port<Answer>) {
 
 /// Works as proxy 0 with a share of 4.
 fn worked(client: Client, file: Vec<u8>) -> Finished {
-    let style = Style { form: Form::Words, filter: LineFilter { quiet: false, only: None, least: i64::MIN, below: None } };
+    let style = Style {
+        form: Form::Words,
+        filter: LineFilter { quiet: false, only: None, least: i64::MIN, below: None },
+    };
     let assignment = Assignment { proxy: 0, share: 4, style };
     work(&HostRuntime::new(), Global, assignment, client, reader(file), &Unshared(AlwaysOpen))
 }
 
-/// Writes what a worker returns: the lines of its answers, whether one was lost, the fault of its file and the batch unsent.
+/// Writes what a worker returns: the lines of its answers, whether one was lost, the fault of its
+/// file and the batch unsent.
 fn returned(finished: &Finished) -> String {
     let mut out = StdSink::new(Vec::new());
     finished.lines.iter().for_each(|line| line.text.print(&mut out).expect("a vector takes all"));
@@ -41,11 +45,14 @@ fn returned(finished: &Finished) -> String {
     text
 }
 
-/// Works on a file with two answers in the reply lane, which is closed. Compares what the worker returns after their lines, and whether
-/// it closes its lane. It sends nothing.
+/// Works on a file with two answers in the reply lane, which is closed. Compares what the worker
+/// returns after their lines, and whether it closes its lane. It sends nothing.
 fn returns(file: Vec<u8>, expected: &str, closes: bool) {
     let (client, mut requests, mut replies) = connect();
-    assert!(replies.send(Answer::Never(1)).is_ok() && replies.send(Answer::Held(2)).is_ok(), "the lane has room");
+    assert!(
+        replies.send(Answer::Never(1)).is_ok() && replies.send(Answer::Held(2)).is_ok(),
+        "the lane has room"
+    );
     replies.close();
     let finished = worked(client, file);
     assert_eq!(returned(&finished).strip_prefix("0 1 never\n0 2 held\n"), Some(expected));

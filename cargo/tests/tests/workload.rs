@@ -12,7 +12,9 @@ use workload_program::{Random, Shape, USAGE, draw_batch, draw_range, read_words,
 const SHAPES: [Shape; 2] = [Shape::SkipListTest, Shape::Points];
 
 fn words(text: &str) -> Vec<KitString> {
-    text.split_whitespace().map(|word| KitString::from_str(Global, word).expect("memory is ample")).collect()
+    text.split_whitespace()
+        .map(|word| KitString::from_str(Global, word).expect("memory is ample"))
+        .collect()
 }
 
 /// The frame of each drawn batch decodes to that batch.
@@ -55,8 +57,15 @@ fn arguments_within_limits() {
 fn begins_vary() {
     for shape in SHAPES {
         let mut random = Random::new(1);
-        let begins: BTreeSet<_> =
-            (0..100).map(|_| draw_range(Global, &mut random, shape).expect("memory is ample").begin.as_bytes().to_vec()).collect();
+        let begins: BTreeSet<_> = (0..100)
+            .map(|_| {
+                draw_range(Global, &mut random, shape)
+                    .expect("memory is ample")
+                    .begin
+                    .as_bytes()
+                    .to_vec()
+            })
+            .collect();
         assert!(begins.len() > 90, "{shape:?}: {}", begins.len());
     }
 }
@@ -122,7 +131,8 @@ fn flushed(text: &str, room: usize) -> (u8, usize) {
     (status, out.into_inner().passed)
 }
 
-/// A frame has 31 bytes, 13 more per transaction, and 36 per range. Of a run that fails nothing is flushed.
+/// A frame has 31 bytes, 13 more per transaction, and 36 per range. Of a run that fails nothing is
+/// flushed.
 #[test]
 fn all_output_is_flushed() {
     for (text, room, expected) in [
@@ -146,7 +156,10 @@ fn all_output_is_flushed() {
 #[test]
 fn batches_vary() {
     let mut out = StdSink::new(Vec::new());
-    assert_eq!(run(Global, &words("workload skiplisttest 2 1"), &mut out, &mut HoldsBack::sink(0)), 0);
+    assert_eq!(
+        run(Global, &words("workload skiplisttest 2 1"), &mut out, &mut HoldsBack::sink(0)),
+        0
+    );
     let file = out.into_inner();
     assert_eq!(file.len(), 232);
     assert_ne!(file[44..116], file[160..232]);

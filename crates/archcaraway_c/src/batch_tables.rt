@@ -198,7 +198,8 @@ impl BatchTables {
     pub fn drop_last(&mut self)
         requires tables { AreTables self.old.buffer.items self.old.spans.items self.old.rows.items }
         ensures tables { AreTables self.new.buffer.items self.new.spans.items self.new.rows.items }
-        ensures reported { txns_of_tables self.new.buffer.items self.new.spans.items self.new.rows.items
+        ensures reported { txns_of_tables self.new.buffer.items self.new.spans.items
+            self.new.rows.items
             ≡ take (length self.old.rows.items - 1)
             (txns_of_tables self.old.buffer.items self.old.spans.items self.old.rows.items) }
         ensures rows { self.new.rows.items

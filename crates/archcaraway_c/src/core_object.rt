@@ -147,7 +147,8 @@ impl CoreObject {
     /// all of these are still owed. `Wire` is `Memory` here, or `Long` for a reply that exceeds a
     /// frame; the reply to a batch that has a frame doesn't exceed one.
     pub fn give(&mut self, proxy: u32, buffer: &mut [u8]) -> Result<Given, Refusal>
-        ensures reported { IfOk result (λ given. Reports given buffer.new (next_owed proxy self.old)) }
+        ensures reported { IfOk result (λ given.
+            Reports given buffer.new (next_owed proxy self.old)) }
         ensures taken { IfOk result (λ _. still_owed proxy self.new
             ≡ drop 1 (still_owed proxy self.old)) }
         ensures refused { IfErr result

@@ -50,7 +50,8 @@ pub fn write_answer(
 
 // Writes the frame of a reply to the front of the buffer, and returns what is given.
 fn give_reply(alloc: Global, reply: &Reply, buffer: &mut [u8]) -> Result<Given, Refusal>
-    ensures reported { IfOk result (λ given. Reports given buffer.new (Some (Answer.Reply reply.now))) }
+    ensures reported { IfOk result (λ given.
+        Reports given buffer.new (Some (Answer.Reply reply.now))) }
     ensures refused { IfErr result
         (λ refusal. WriteRefuses (Some (Answer.Reply reply.now)) (length buffer.old) refusal) }
 {

@@ -24,8 +24,8 @@ struct Grammar {
     depth: usize,
 }
 
-/// Returns the index of the first token of a text that JSON doesn't have there, or the length of the
-/// text if it ends too early. The scratch has room for the text, so this takes no memory.
+/// Returns the index of the first token of a text that JSON doesn't have there, or the length of
+/// the text if it ends too early. The scratch has room for the text, so this takes no memory.
 pub fn fault_in(alloc: Global, text: &[u8], scratch: &mut Scratch) -> usize {
     let mut grammar = Grammar::new();
     let mut at = 0;

@@ -35,8 +35,8 @@ impl FileProgress {
     /// Counts so many bytes more. A failed write changes nothing.
     pub fn advance<E: Sink>(&mut self, error: &mut E, bytes: usize)
         ensures length { progress_length self.new ≡ progress_length self.old }
-        ensures reported { ReportsText (E.given error.old) (E.given error.new) (E.failures error.old)
-            (E.failures error.new) }
+        ensures reported { ReportsText (E.given error.old) (E.given error.new)
+            (E.failures error.old) (E.failures error.new) }
         ensures quiet { progress_length self.old ≡ None → error.new ≡ error.old }
     {
         self.done = self.done.saturating_add(bytes as u64);
@@ -56,8 +56,8 @@ impl FileProgress {
 
     /// Ends the line of the progress, if anything was printed.
     pub fn finish<E: Sink>(&self, error: &mut E)
-        ensures reported { ReportsText (E.given error.old) (E.given error.new) (E.failures error.old)
-            (E.failures error.new) }
+        ensures reported { ReportsText (E.given error.old) (E.given error.new)
+            (E.failures error.old) (E.failures error.new) }
         ensures quiet { progress_length self.now ≡ None → error.new ≡ error.old }
     {
         if self.length.is_some() && self.reported > 0 {

@@ -44,17 +44,21 @@ pub(crate) fn of_text(
 const ANSWERS: &str = "\
 => none | none | none
 0000001b 01 ffffffffffffffff 0000000000000000 ffffffffffffffff 0000 \
-     0000002e 01 0000000000000000 0000000000000064 ffffffffffffffff 0001 0000000000000000 00 0000 0001 0001 61 0001 62 \
+     0000002e 01 0000000000000000 0000000000000064 ffffffffffffffff 0001 0000000000000000 00 \
+     0000 0001 0001 61 0001 62 \
      => -1>0 received -1 | 0>100 received -1; W[61,62) @0 | none
-0000001b 01 ffffffffffffffff 0000000000000000 ffffffffffffffff 0000 00 => -1>0 received -1 | 1 Short | 1 Short
+0000001b 01 ffffffffffffffff 0000000000000000 ffffffffffffffff 0000 00 => -1>0 received -1 | \
+     1 Short | 1 Short
 0000001b 01 ffffffffffffffff 0000000000000000 ffffffffffffffff 0000 \
      00000001 02 \
-     0000002e 01 0000000000000000 0000000000000064 ffffffffffffffff 0001 0000000000000000 00 0000 0001 0001 61 0001 62 \
+     0000002e 01 0000000000000000 0000000000000064 ffffffffffffffff 0001 0000000000000000 00 \
+     0000 0001 0001 61 0001 62 \
      => -1>0 received -1 | 3 Kind | 3 Kind";
 
 // What is answered if the reader fails after the first frame.
 const FAILED: &str = "\
-0000001b 01 ffffffffffffffff 0000000000000000 ffffffffffffffff 0000 => -1>0 received -1 | 12 Read | 12 Read";
+0000001b 01 ffffffffffffffff 0000000000000000 ffffffffffffffff 0000 => -1>0 received -1 | 12 \
+     Read | 12 Read";
 
 #[test]
 fn answers_of_frames(rt: HostRuntime) -> Result<(), Fail> {
@@ -68,7 +72,8 @@ fn answers_of_frames(rt: HostRuntime) -> Result<(), Fail> {
 
 // The frame of `-1>0`, then a length of 30 and 29 bytes.
 const SHORT_SECOND: &str = "\
-0000001b 01 ffffffffffffffff 0000000000000000 ffffffffffffffff 0000 0000001e 0101010101010101010101010101010101010101010101010101010101 \
+0000001b 01 ffffffffffffffff 0000000000000000 ffffffffffffffff 0000 0000001e \
+     0101010101010101010101010101010101010101010101010101010101 \
      => -1>0 received -1 | 1 Short | 1 Short";
 
 #[test]

@@ -192,7 +192,8 @@ fn write_prepared(steps: &mut StepMap, txns: &Txns, spans: &[UnitedSpan], versio
 // Returns the united range at an index, or none where there is none.
 fn range_at<'a>(txns: &'a Txns, spans: &[UnitedSpan], index: usize) -> Option<HashedRange<'a>>
     requires spanned { (united : List Range) × AreSpanned (ranges_in txns.now) spans.now united }
-    ensures range { MatchOption result (length spans.now ≤ index) (λ range. (span : span_type.UnitedSpan)
+    ensures range { MatchOption result (length spans.now ≤ index) (λ range.
+        (span : span_type.UnitedSpan)
         × (slice_get spans.now index ≡ Some span) × Spans (ranges_in txns.now) span range) }
 {
     match spans.get(index) {

@@ -1,7 +1,7 @@
 //! What all shards have answered together.
 
-ghost use Rattle.std.specs.Prelude.{◌≡◌, ◌<◌, ◌≤◌, ◌↔◌, ℕ, [], IfOk, IfSome, IsTrue, List, Some, length};
-ghost use Rattle.std.specs.Prelude.{map, slice_get, true, vec_capacity, vec_len};
+ghost use Rattle.std.specs.Prelude.{◌≡◌, ◌<◌, ◌≤◌, ◌↔◌, ℕ, [], IfOk, IfSome, IsTrue, List, Some};
+ghost use Rattle.std.specs.Prelude.{length, map, slice_get, true, vec_capacity, vec_len};
 ghost use Rattle.std.specs.List.{All, AllZip};
 ghost use Rattle.replay_output.specs.Line.{IsLineOf, answers_of};
 ghost use Rattle.replay_shards.specs.Answered.{AreAnswersTogether, AreKept};
@@ -31,8 +31,8 @@ pub struct Combined {
     pub stop: Option<ShardStop>,
 }
 
-/// Combines what the shards have answered: of each proxy by version, never by position. The runs are
-/// of the same proxies.
+/// Combines what the shards have answered: of each proxy by version, never by position. The runs
+/// are of the same proxies.
 ///
 /// If memory is refused for the lines of a proxy, that proxy has a loss and no lines.
 pub fn combine_runs(alloc: Global, style: Style, runs: Vec<ShardRun>, room: Room) -> Combined

@@ -57,7 +57,8 @@ pub fn run_shards<
     gatekeepers: Vec<Arc<G, Global>>,
 ) -> Result<Vec<ShardRun>, StartError>
     requires as_many { vec_len gatekeepers ≡ vec_len each }
-    requires proxies { All (λ clips. (1 ≤ vec_len clips) × (vec_len clips ≤ MAX_PROXIES)) each.items }
+    requires proxies { All (λ clips.
+        (1 ≤ vec_len clips) × (vec_len clips ≤ MAX_PROXIES)) each.items }
     requires fresh { All AreFresh (map vec_items each.items) }
     ensures runs { IfOk result (λ runs. (points : List (List ℕ)) (files : List (Option (List ℕ)))
         → AreClipsOfShards S.remaining points files (map vec_items each.items)

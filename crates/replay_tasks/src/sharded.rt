@@ -1,5 +1,5 @@
-//! All that follows the opening of the files with several resolvers: their batches are resolved by a
-//! resolver per shard, and the combined answers printed.
+//! All that follows the opening of the files with several resolvers: their batches are resolved by
+//! a resolver per shard, and the combined answers printed.
 
 ghost use Rattle.std.specs.Prelude.{◌≡◌, ◌≢◌, ◌<◌, ℕ, List, Option, map, true, vec_items};
 ghost use Rattle.std.specs.List.{All};
@@ -47,9 +47,9 @@ pub fn replay_sharded_over<
     out: &mut O,
     error: &mut E,
 ) -> Ended
-    // For each shard, one log of the reference resolver takes the clips of each file's batches, once, in
-    // order, and no others; the text is the lines of the combined answers. If no proxy sends two
-    // different batches of one version, the transactions that it reports as committed are
+    // For each shard, one log of the reference resolver takes the clips of each file's batches,
+    // once, in order, and no others; the text is the lines of the combined answers. If no proxy
+    // sends two different batches of one version, the transactions that it reports as committed are
     // serializable.
     ensures done { (files : List (Option (List ℕ)))
         → All (ReadTheFiles S.remaining files) (map vec_items sharded.readers.items)

@@ -19,14 +19,16 @@ fn short_second_frame(rt: HostRuntime) -> Result<(), Fail> {
 }
 
 // The frames of the first run, and the second of them in the second version of the form.
-const EMPTY_BATCH: &[u8; 31] =
-    b"\0\0\0\x1b\x01\xff\xff\xff\xff\xff\xff\xff\xff\0\0\0\0\0\0\0\0\xff\xff\xff\xff\xff\xff\xff\xff\0\0";
+const EMPTY_BATCH: &[u8; 31] = b"\0\0\0\x1b\x01\xff\xff\xff\xff\xff\xff\xff\xff\0\0\0\0\0\0\0\0\
+      \xff\xff\xff\xff\xff\xff\xff\xff\0\0";
 
 const ONE_WRITE: &[u8; 50] =
-    b"\0\0\0\x2e\x01\0\0\0\0\0\0\0\0\0\0\0\0\0\0\0\x64\xff\xff\xff\xff\xff\xff\xff\xff\0\x01\0\0\0\0\0\0\0\0\0\0\0\0\x01\0\x01a\0\x01b";
+    b"\0\0\0\x2e\x01\0\0\0\0\0\0\0\0\0\0\0\0\0\0\0\x64\xff\xff\xff\xff\xff\xff\xff\xff\
+      \0\x01\0\0\0\0\0\0\0\0\0\0\0\0\x01\0\x01a\0\x01b";
 
 const ONE_WRITE_2: &[u8; 51] =
-    b"\0\0\0\x2f\x03\0\0\0\0\0\0\0\0\0\0\0\0\0\0\0\x64\xff\xff\xff\xff\xff\xff\xff\xff\0\x01\0\0\0\0\0\0\0\0\0\0\0\0\x01\0\0\x01a\0\x01b";
+    b"\0\0\0\x2f\x03\0\0\0\0\0\0\0\0\0\0\0\0\0\0\0\x64\xff\xff\xff\xff\xff\xff\xff\xff\
+      \0\x01\0\0\0\0\0\0\0\0\0\0\0\0\x01\0\0\x01a\0\x01b";
 
 fn joined(alloc: Global, second: &[u8]) -> Result<Vec<u8>, Unmade> {
     let mut file = Vec::new(alloc);

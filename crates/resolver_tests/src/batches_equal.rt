@@ -15,7 +15,8 @@ fn forty(alloc: Global) -> Result<Vec<Batch>, Unmade> {
     for version in 0..40_i64 {
         let previous = version.saturating_sub(1);
         let text = format!(in alloc;
-            "{previous}>{version}: R[b,c) R[m,p) W[b,d) @{version}; R[b,c) W[x,y) @{version}; m R[q,r) W[c,e) W[h,k) @{version}"
+            "{previous}>{version}: R[b,c) R[m,p) W[b,d) @{version}; R[b,c) W[x,y) @{version}; \
+             m R[q,r) W[c,e) W[h,k) @{version}"
         )?;
         batches
             .push(batch(alloc, text.as_str())?)

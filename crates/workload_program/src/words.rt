@@ -24,7 +24,8 @@ Writes the frames of one chain of batches to standard output. The same words giv
 
 // The line where the words are refused.
 const EXPECTED: &str =
-    "workload: SHAPE (skiplisttest or points), BATCHES (1 to 65536) and TRANSACTIONS (1 to 2500) are expected\n";
+    "workload: SHAPE (skiplisttest or points), BATCHES (1 to 65536) and TRANSACTIONS (1 to 2500) \
+     are expected\n";
 
 /// Reads the words, of which the first is the program's name. Returns `None` where they aren't as
 /// expected.

@@ -1,4 +1,5 @@
-//! Decodes a file of batch frames, resolves the batches in one thread, and prints how long each took.
+//! Decodes a file of batch frames, resolves the batches in one thread, and prints how long each
+//! took.
 
 use conflict::ConflictSet;
 use keyspace::{Batch, WINDOW};
@@ -65,7 +66,8 @@ fn round(bytes: &[u8]) -> Round {
 fn main() {
     let words: Vec<String> = env::args().collect();
     let bytes = fs::read(&words[1]).expect("the first word names a file");
-    let count = words.get(2).map_or(3, |word| word.parse().expect("the second word is a number of rounds"));
+    let count =
+        words.get(2).map_or(3, |word| word.parse().expect("the second word is a number of rounds"));
     let rounds: Vec<Round> = (0..count).map(|_| round(&bytes)).collect();
     let least = |seconds: fn(&Round) -> f64| rounds.iter().map(seconds).fold(f64::MAX, f64::min);
     println!(

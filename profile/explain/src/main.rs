@@ -1,4 +1,5 @@
-//! Resolves the batches of a file of frames, explains every conflict, and prints how long each took and what the kept batches take.
+//! Resolves the batches of a file of frames, explains every conflict, and prints how long each took
+//! and what the kept batches take.
 
 use conflict::ConflictSet;
 use explanations::{History, ProcessedBatch};
@@ -45,11 +46,14 @@ impl Found {
     }
 }
 
-/// Returns of each transaction how many read ranges are to be explained: none if it isn't in conflict.
+/// Returns of each transaction how many read ranges are to be explained: none if it isn't in
+/// conflict.
 fn reads_in_conflict(batch: &Batch, reply: &Reply) -> Vec<usize> {
     let entries = reply.entries.as_slice().iter().enumerate();
     let reads = |index| batch.txns.txn(index).reads.len();
-    entries.map(|(index, entry)| if entry.verdict == Verdict::Conflict { reads(index) } else { 0 }).collect()
+    entries
+        .map(|(index, entry)| if entry.verdict == Verdict::Conflict { reads(index) } else { 0 })
+        .collect()
 }
 
 /// Returns how much memory the process has in use, in bytes.
@@ -90,7 +94,8 @@ fn main() {
         explaining += start.elapsed().as_secs_f64();
     }
     println!(
-        "{count} batches of {} bytes each in memory, {} conflicts, {} of {} read ranges explained, {} further writes",
+        "{count} batches of {} bytes each in memory, {} conflicts, {} of {} read ranges \
+         explained, {} further writes",
         kept / count,
         found.conflicts,
         found.explained,
@@ -98,7 +103,8 @@ fn main() {
         found.further
     );
     println!(
-        "resolve {resolving:.3} s, push {pushing:.3} s, explain {explaining:.3} s, {:.1} us per read range",
+        "resolve {resolving:.3} s, push {pushing:.3} s, explain {explaining:.3} s, {:.1} us per \
+         read range",
         1e6 * explaining / found.asked as f64
     );
 }

@@ -77,7 +77,8 @@ impl Mistake {
             Mistake::FilterOfCheck => "--quiet, --only and --versions are wanted without --check",
             Mistake::CheckOfStream => "--stream is wanted without --check",
             Mistake::Summary => {
-                "--summary is wanted without --check, --stream, --frames, --quiet, --only and --versions"
+                "--summary is wanted without --check, --stream, --frames, --quiet, --only and \
+                 --versions"
             }
             Mistake::Explain => {
                 "--explain is wanted without --check, --stream, --summary and --frames"
@@ -95,7 +96,8 @@ impl Mistake {
             Mistake::RecordsAlone => "--replies OUT is wanted with --stream",
             Mistake::Records => "--replies OUT is wanted once a file",
             Mistake::SummaryFile => {
-                "--summary-to is wanted without --check, --stream, --summary, --explain and --frames"
+                "--summary-to is wanted without --check, --stream, --summary, --explain and \
+                 --frames"
             }
             Mistake::Resolvers => {
                 "--resolvers above 1 is wanted without --stream, --explain, --top and --report-all"

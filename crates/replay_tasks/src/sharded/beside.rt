@@ -20,8 +20,8 @@ use std::sync::Wait;
 use std::thread::Threads;
 use wire::{Sink, Source};
 
-/// Replays as [`replay_sharded_over`](crate::replay_sharded_over) does, and writes the summary of all
-/// combined answers, as [`replay_and_summarize_over`](crate::replay_and_summarize_over) does.
+/// Replays as [`replay_sharded_over`](crate::replay_sharded_over) does, and writes the summary of
+/// all combined answers, as [`replay_and_summarize_over`](crate::replay_and_summarize_over) does.
 pub fn replay_and_summarize_sharded_over<
     S: Source + Send + Drop + 'static,
     G: Gatekeeper + ShareKeeper + Send + Sync + Drop + 'static,

@@ -20,9 +20,9 @@ use std::sync::Wait;
 use std::thread::Threads;
 use wire::{Sink, Source};
 
-/// Replays as [`replay_sharded_over`](crate::replay_sharded_over) does, and prints the summary of all
-/// combined answers to `out`, as [`summarize_over`](crate::summarize_over) does. No ranges are listed:
-/// no resolver knows the writes of all shards.
+/// Replays as [`replay_sharded_over`](crate::replay_sharded_over) does, and prints the summary of
+/// all combined answers to `out`, as [`summarize_over`](crate::summarize_over) does. No ranges are
+/// listed: no resolver knows the writes of all shards.
 pub fn summarize_sharded_over<
     S: Source + Send + Drop + 'static,
     G: Gatekeeper + ShareKeeper + Send + Sync + Drop + 'static,
@@ -41,7 +41,8 @@ pub fn summarize_sharded_over<
     ensures done { (files : List (Option (List ℕ)))
         → All (ReadTheFiles S.remaining files) (map vec_items sharded.readers.items)
         → result.status ≡ Status.Done
-        → IsSummarizedByShards form sharded.points options files (O.given out.old) (O.given out.new) }
+        → IsSummarizedByShards form sharded.points options files (O.given out.old)
+        (O.given out.new) }
     ensures quiet { result.status ≡ Status.Done → Keeps (E.given error.old) (E.given error.new) }
     ensures failed { (files : List (Option (List ℕ)))
         → All (ReadTheFiles S.remaining files) (map vec_items sharded.readers.items)
