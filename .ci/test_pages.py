@@ -5,7 +5,7 @@ import unittest
 from pathlib import Path
 
 TOP = Path(__file__).resolve().parent.parent
-MOST, LONG, FRONT = 200, 150, 20
+MOST, LONG, FRONT = 199, 150, 20
 MOST_OF_A_RECORD = 60
 
 
