@@ -7,8 +7,8 @@
 //! the answers to each proxy are combined by version. [`Combined`] has their lines, what failed,
 //! and the stop of the first shard that met one.
 //!
-//! In reading order: `running`, `readers`, `runs`, `shard_run`, `combined`, `room`. What became of
-//! all files is `IsResolvedByShards`, in `specs/Sharded.antt`. The run of one shard is
+//! In reading order: `sharded_run`, `readers`, `runs`, `shard_run`, `combined`, `room`. What became
+//! of all files is `IsResolvedByShards`, in `specs/Sharded.antt`. The run of one shard is
 //! `IsRunOfShard`, in `specs/Runs.antt`.
 #![tactic(auto)]
 

@@ -5,9 +5,9 @@
 //! turns the resolver takes all answers, prints them and passes them on.
 //!
 //! In reading order: `progress`, `sender`, `recorder`, `outlet`, `threads`, `streamed`, `proxies`,
-//! `running`. What a sender has done is `HasSent`, in `specs/Sender.antt`, and what a recorder has
-//! done is `HasRecorded`, in `specs/Recorder.antt`. What became of all files is `IsStreamed`, in
-//! `specs/Streaming.antt`.
+//! `stream_run`. What a sender has done is `HasSent`, in `specs/Sender.antt`, and what a recorder
+//! has done is `HasRecorded`, in `specs/Recorder.antt`. What became of all files is `IsStreamed`,
+//! in `specs/Streaming.antt`.
 #![tactic(auto)]
 
 mod outlet;

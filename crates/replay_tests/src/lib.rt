@@ -2,10 +2,10 @@
 //! alone.
 //!
 //! `verdicts`, `reports`, `batches`, `options`, `proxies` and `files` are the worked rows, played
-//! over memory by `runs`, each a test of its row's name. `meeting` holds back two proxies that wait
-//! for each other. `words` looks at the command line, and `lines` at a writer that fails. The tests
-//! of `memory` and `sorting` pass whichever one growth is refused; `.ci/refused-memory` refuses
-//! each in turn.
+//! over memory by `runs`, each a test of its row's name. `meeting_proxies` holds back two proxies
+//! that wait for each other. `words` looks at the command line, and `lines` at a writer that fails.
+//! The tests of `memory` and `sort_memory` pass whichever one growth is refused;
+//! `.ci/refused-memory` refuses each in turn.
 //!
 //! The contract of `replay_over` also lets a program through that always stops with `Memory`. Each
 //! test that wants a line refuses it, `empty_batch` first; so does `gate_full_through_replay`,

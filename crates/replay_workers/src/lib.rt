@@ -9,12 +9,11 @@
 //! workers may send, and a [`ShareKeeper`] whose batch goes first where all have used up their
 //! share.
 //!
-//! In reading order: `running`, `threads`, `worker`, `batches`, `asking`, `inbox`, `ends`,
-//! `gatekeeper`, `watch`, `outcome`, `rest`. What became of the files is `IsRun`, in
+//! In reading order: `workers_run`, `threads`, `worker`, `batches`, `reporting_batches`, `inbox`,
+//! `ends`, `gatekeeper`, `watch`, `outcome`, `rest`. What became of the files is `IsRun`, in
 //! `specs/Run.antt`, and of streams `IsRunOver`. How full the resolver was is `IsOccupancyOf`, in
-//! `specs/Occupied.antt`. What one worker has done is `HasWorked`, in
-//! `specs/Worker.antt`. Which batches are resolved for those of a file is `resolved_for`, in
-//! `specs/Reporting.antt`.
+//! `specs/Occupied.antt`. What one worker has done is `HasWorked`, in `specs/Worker.antt`. Which
+//! batches are resolved for those of a file is `resolved_for`, in `specs/Reporting.antt`.
 #![tactic(auto)]
 
 mod batches;

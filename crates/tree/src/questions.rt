@@ -72,8 +72,8 @@ fn leaf_answer<P: Bound, Q: Bound, const N: usize>(
     requires from_head { IfSome (all_heads_of nodes.now hint.leaf)
         (IsHeadFor (P.bytes question.now.from) (P.target question.now.from)
         hint.common_prefix_len from_head) }
-    ensures answered { IsAnswer (P.below question.now.from) (Q.below question.now.to)
-        question.now.version hint.clear
+    ensures answered { IsAnswer (P.below question.now.from) (Q.below question.now.to) question.now.version
+        hint.clear
         (items_in nodes.now 0 hint.leaf) result }
 {
     let node = nodes.header_ref(hint.leaf);
