@@ -47,7 +47,7 @@ impl BatchTables {
         })
     }
 
-    /// Copies a transaction behind the others. If memory is refused, or the keys would have more
+    /// Copies a transaction after the others. If memory is refused, or the keys would have more
     /// than 4 GiB, the tables are as before.
     pub fn put(
         &mut self,
@@ -85,7 +85,7 @@ impl BatchTables {
         Ok(())
     }
 
-    // Copies a transaction behind the others. If memory is refused, some of it may be there.
+    // Copies a transaction after the others. If memory is refused, some of it may be there.
     fn append(
         &mut self,
         snapshot: i64,
@@ -130,7 +130,7 @@ impl BatchTables {
         Ok(())
     }
 
-    /// Copies the transactions of other tables behind these. If memory is refused, or the keys
+    /// Copies the transactions of other tables after these. If memory is refused, or the keys
     /// would have more than 4 GiB, the tables are as before.
     pub fn put_all(&mut self, other: &BatchTables) -> Result<(), AllocError>
         requires tables { AreTables self.old.buffer.items self.old.spans.items self.old.rows.items }
@@ -161,7 +161,7 @@ impl BatchTables {
         Ok(())
     }
 
-    // Copies the transactions of other tables behind these. If memory is refused, some of them may
+    // Copies the transactions of other tables after these. If memory is refused, some of them may
     // be there.
     fn append_all(&mut self, other: &BatchTables) -> Result<(), AllocError>
         requires tables { AreTables self.old.buffer.items self.old.spans.items self.old.rows.items }
@@ -227,7 +227,7 @@ fn first_span(rows: &[Row], index: usize) -> usize
     }
 }
 
-// Appends where the ranges lie in a buffer that has so many bytes before these. If memory is
+// Appends where the ranges lie in a buffer that has this many bytes before these. If memory is
 // refused, some of them may be there.
 fn push_ranges(
     before: usize,

@@ -143,7 +143,7 @@ impl CoreObject {
     }
 
     /// Gives the proxy the oldest answer owed to it, and writes the frame of a reply to the front
-    /// of the buffer. The core is as before but for the answers that it owes, and after a refusal
+    /// of the buffer. Nothing changes in the core except the answers that it owes. After a refusal
     /// all of these are still owed. `Wire` is `Memory` here, or `Long` for a reply that exceeds a
     /// frame; the reply to a batch that has a frame doesn't exceed one.
     pub fn give(&mut self, proxy: u32, buffer: &mut [u8]) -> Result<Given, Refusal>

@@ -69,7 +69,7 @@ verdict_name verdict = verdict_word verdict []
 abbrev pub IsVersion : List ℕ → ℤ → Type 0
 IsVersion text version = IsNumeral 10 (without_leading_sign text) × FitsSigned w64 version × (signed_digits_value 10 text ≡ version)
 
--- the text of an end of a range of versions: empty, if the end is left out
+-- the text of an end of a range of versions: empty, if the end is omitted
 abbrev pub IsEnd : List ℕ → Option ℤ → Type 0
 IsEnd text None = text ≡ []
 IsEnd text (Some version) = IsVersion text version
