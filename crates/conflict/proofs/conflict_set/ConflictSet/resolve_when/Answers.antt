@@ -5,7 +5,7 @@ use Rattle.std.proofs.lemmas.Int.{to_z-of_z}
 use Rattle.keyspace.specs.Judged.{edge}
 use Rattle.stepmap.specs.Boundary.{AreUpTo}
 use Rattle.stepmap.specs.StepMap.{Steps}
-use Rattle.conflict.specs.ConflictSet.{SetState, IsSet, stop_after}
+use Rattle.conflict.specs.ConflictSet.{SetState, IsSet}
 use Rattle.conflict.specs.Calls.{Detects, Fails}
 use Rattle.conflict.specs.declared.error.SetStop.{SetStop}
 use Rattle.conflict.proofs.Edges.{edge_rises, at_most, from_least}
