@@ -58,7 +58,7 @@ judge_in_batch-requires-clause-ranked c =
 -- memory is refused before anything is written
 pub returns-in_err-entries-clause-fails : goal.returns-in_err-entries-clause-fails
 returns-in_err-entries-clause-fails c =
-    if_err _ _ c.from_residual-in_err-entries.result c.from_residual-in_err-entries.ensures.1
+    if_err _ _ c.from_residual.result c.from_residual.ensures.1
     (λ stop is. unchanged c.args.when_full c.args.window c.args.steps.now c.args.batch.now stop is)
 
 pub returns-in_err-reset-clause-fails : goal.returns-in_err-reset-clause-fails

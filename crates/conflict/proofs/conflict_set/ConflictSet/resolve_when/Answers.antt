@@ -136,10 +136,11 @@ returns-in-Some-clause-stops c =
     sym (ap (λ (s : SetState). s.stop) c.self.view_is) ∙ c.in-Some.is in
     let is_some = λ (none : c.args.self.now.stop ≡ None). none-some c.in-Some.stop (sym none ∙ stopped) in
     record {
-      stopped = subst (λ o. IfSome o (λ was. (c.in-Some.stop ≡ was) × (_ ≡ c.args.self.now))) (sym stopped) (refl, c.self.view_is);
+      stopped = subst (λ o. IfSome o (λ was. (c.in-Some.stop ≡ was) × (c.args.self.now ≡ c.args.self.now))) (sym stopped)
+          (refl, refl);
       now = λ none. absurd (is_some none);
       map = λ none. absurd (is_some none);
-      refused = λ refuse full. c.self.view_is;
-      resolved = ap (λ (s : SetState). s.resolved) c.self.view_is;
-      window = ap (λ (s : SetState). s.window) c.self.view_is;
+      refused = λ refuse full. refl;
+      resolved = refl;
+      window = refl;
     }
