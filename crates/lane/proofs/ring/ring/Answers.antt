@@ -1,5 +1,0 @@
-use Rattle.lane.proofs.RingRule.{begins}
-use Rattle.lane.proofs.ring.ring.Goals as goal
-
-pub vacant-requires : goal.vacant-requires
-vacant-requires g c = begins _ c.requires.some
