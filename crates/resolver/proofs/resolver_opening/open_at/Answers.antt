@@ -1,5 +1,4 @@
 use Rattle.std.proofs.Common.{ℕ, ℤ, w64, to_z, of_z, [], sym, ap, subst, ◌∙◌}
-use Rattle.std.specs.Prelude.{negsuc, ◌≤ℤ◌}
 use Rattle.std.proofs.lemmas.Int.{to_z-of_z}
 use Rattle.resolver.specs.Core.{CoreState}
 use Rattle.resolver.specs.Stands.{Stands}

@@ -2,6 +2,7 @@ use Rattle.std.proofs.Common.{
   rules,
   ◌≡◌,
   ℕ,
+  ◌<◌,
   ◌++◌,
   List,
   [],
