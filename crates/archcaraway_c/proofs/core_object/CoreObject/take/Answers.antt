@@ -1,4 +1,4 @@
-use Rattle.std.proofs.Common.{◌≡◌, refl, ap, sym, subst, ◌∙◌}
+use Rattle.std.proofs.Common.{◌≡◌, None, refl, ap, sym, subst, ◌∙◌}
 use Rattle.std.specs.Prelude.{Result, Ok, Err, OnOk, IfOk, IfErr}
 use Rattle.std.proofs.lemmas.Result.{on_ok_weaker}
 use Rattle.resolver.specs.Core.{Continues}
@@ -21,7 +21,10 @@ returns-clause-admitted c =
     (on_ok _ c.admit.result (λ x is. c.admit.ensures.admits.adds.stands continues))
 
 pub returns-clause-continues : goal.returns-clause-continues
-returns-clause-continues c = on_ok_weaker c.admit.result (λ both. both.1) c.admit.ensures.admits.adds.«open»
+returns-clause-continues c =
+    on_ok_weaker c.admit.result
+    (λ (both : (c.self.inside.core.stop ≡ None) × (c.admit.new.self.stop ≡ None)). both.1)
+    c.admit.ensures.admits.adds.«open»
 
 pub returns-clause-same : goal.returns-clause-same
 returns-clause-same c =
