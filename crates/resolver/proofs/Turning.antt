@@ -321,7 +321,7 @@ same_Err : {x y : Stop} → ◌≡◌ {A = Result Turn Stop} (Err x) (Err y) →
 same_Err is = cc
 
 -- the step of a turn, once answers were handed out and lanes closed
-module _ {old mid given new : ResolverState} (h : IsDelivery mid given) (k : ClosedOver given new) where
+module _ (old mid given new : ResolverState) (h : IsDelivery mid given) (k : ClosedOver given new) where
   steps_for : (taken : Option ℕ) → StepsFor taken old mid → StepsFor taken old new
   steps_for (Some proxy) took = TakesFrom-on h k proxy took
   steps_for None (inl finishes) = inl (Finishes-on h k finishes)

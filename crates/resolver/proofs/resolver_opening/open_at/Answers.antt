@@ -25,7 +25,9 @@ returns-clause-opens c =
       no_stop = none;
       version = version_opened c.args.version c.new.result stands none c.requires.least_version;
       next = c.new.ensures.next;
-      window = ap (λ (core : CoreState). core.set.window) c.new.ensures.core ∙ new.window;
+      window =
+          ap (λ (core : CoreState). core.set.window) c.new.ensures.core ∙ new.window
+          ∙ to_z-of_z w64 c.args.window c.ranges.window;
       limit = ap (λ (core : CoreState). core.set.map.limit) c.new.ensures.core ∙ new.limit;
       proxies = connected.client_count;
       same = subst (λ lanes. AreClients lanes c.in-Ok.clients.items) (sym c.new.ensures.lanes) connected.same;

@@ -1,4 +1,4 @@
-use Rattle.std.proofs.Common.{rules, ◌≡◌, Result, refl, sym, ap, ◌∙◌, Ok, Err, subst, arith}
+use Rattle.std.proofs.Common.{rules, ◌≡◌, false, Result, refl, sym, ap, ◌∙◌, Ok, Err, subst, arith}
 use Rattle.std.specs.Prelude.{IsSome, is_some}
 use Rattle.std.proofs.lemmas.Grind.{common_steps}
 use Rattle.resolver.specs.declared.stop.Stop.{Stop}
@@ -39,7 +39,7 @@ returns-in_err-proxy-clause-turns g c =
     let steps : TurnSteps taken_by c.from_residual.result old new =
     subst (λ (r : Result Turn Stop). TurnSteps taken_by r old new)
     (sym (residual_is c.from_residual.result met c.from_residual.ensures.1))
-    (steps_on h k c.self.inside.closed (Err met) step.steps) in
+    (steps_on old c.step-stepped.new.self c.deliver.new.self new h k false (Err met) step.steps) in
     let stopped : IsSome old.core.stop → TakesNoStep old new =
     λ some. stopped_on h k (c.step-stepped.ensures.stopped some) in
     record {
@@ -96,7 +96,7 @@ returns-clause-turns g c =
     let is = result_is g c in
     let steps : TurnSteps taken_by (Ok c.match-branch-2.result) old new =
     subst (λ did. TurnSteps taken_by (Ok did) old new) (sym is)
-    (steps_on h k c.self.inside.closed (Ok taken) step.steps) in
+    (steps_on old c.step-stepped.new.self c.deliver.new.self new h k c.self.inside.closed (Ok taken) step.steps) in
     record {
       steps = steps;
       stopped = λ some. absurd (not_some old.core.stop step.«open» some);

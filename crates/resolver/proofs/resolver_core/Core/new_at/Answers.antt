@@ -31,6 +31,6 @@ returns-clause-new c =
           c.in_ok-set.ensures.remembers (c.in-Ok.ensures.kept set.window));
       «open» = refl;
       proxies = ap length c.in-Ok-new.ensures.empty ∙ length-replicate c.args.proxies _;
-      window = c.in_ok-set.ensures.window;
+      window = c.in_ok-set.ensures.window ∙ to_z-of_z w64 c.args.window c.ranges.window;
       limit = c.in_ok-set.ensures.limit;
     }
