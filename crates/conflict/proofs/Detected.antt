@@ -1,8 +1,7 @@
 -- What the judging of a batch and the writing of what it commits ensure together.
-use Rattle.std.proofs.Common.{◌≡◌, ℕ, ◌+◌, ◌*◌, ◌<◌, ◌≤◌, List, [], ◌++◌, length, map, Err, refl, sym, ap, subst, ◌∙◌, arith, inl, inr, ◌⊎◌}
+use Rattle.std.proofs.Common.{◌≡◌, ℕ, ◌+◌, ◌*◌, ◌<◌, ◌≤◌, List, [], ◌++◌, length, map, Err, refl, sym, ap, subst, ◌∙◌, arith, inl, inr}
 use Rattle.std.specs.Prelude.{ℤ, ◌≤ℤ◌, Result, Ok, IsErrAnd, IfErr}
 use Rattle.std.proofs.lemmas.Bool.{cases_lt}
-use Rattle.keys.specs.declared.range.Range.{Range}
 use Rattle.keyspace.specs.declared.batch.Batch.{Batch}
 use Rattle.keyspace.specs.declared.reply.Entry.{Entry}
 use Rattle.keyspace.specs.declared.reply.Reply.{Reply}
@@ -31,9 +30,9 @@ use Rattle.conflict.specs.Union.{IsUnion}
 use Rattle.conflict.proofs.UnionWritten.{count, over_limit}
 
 -- what holds of the error of a call holds where it is handed on
-pub if_err : {T E : Type 0} (P Q : E → Type 0) (r : Result T E) → ((e : E) → P e → Q e) → IsErrAnd r P → IfErr r Q
-if_err P Q (Ok value) gives is = tt
-if_err P Q (Err e) gives is = gives e is
+pub if_err : {T E : Type 0} (P Q : E → Type 0) (r : Result T E) → IsErrAnd r P → ((e : E) → P e → Q e) → IfErr r Q
+if_err P Q (Ok value) is gives = tt
+if_err P Q (Err e) is gives = gives e is
 
 -- where a step map isn't full, there is room
 pub room_unless : {X : Type 0} (n : ℕ) (m : Steps) → (¬ HasRoomFor n m → X) → ¬ X → HasRoomFor n m

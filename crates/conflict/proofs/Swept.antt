@@ -1,6 +1,6 @@
 -- After a batch was written and the sweep went on, there are few boundaries, or fewer than before.
 use Rattle.std.proofs.Common.{◌≡◌, ℕ, ◌+◌, ◌*◌, ◌≤◌, List, length, refl, sym, subst, ◌∙◌, arith, ◌⊎◌, inl, inr}
-use Rattle.std.specs.Prelude.{ℤ, Option, Some, None, IsSomeAnd, Result, Ok, Err, OnErr}
+use Rattle.std.specs.Prelude.{ℤ, Option, Some, None, IsSomeAnd}
 use Rattle.keys.specs.declared.range.Range.{Range}
 use Rattle.keyspace.specs.Writes.{Write}
 use Rattle.stepmap.specs.StepMap.{Round, Steps}
@@ -10,10 +10,6 @@ use Rattle.stepmap.specs.Uniting.{Unites}
 use Rattle.stepmap.specs.declared.step_map.SweepEnd.{SweepEnd}
 use Rattle.stepmap.specs.declared.step_map.SweepEnd.TheVariants as end
 use Rattle.conflict.specs.ConflictSet.{IsSwept}
-
-pub on_err : {T E X : Type 0} (r : Result T E) → X → OnErr r X
-on_err (Ok value) x = tt
-on_err (Err error) x = x
 
 module _ (edge : ℤ) (before mid now : Steps) (ws : List Write) (ranges : List Range) (n : ℕ)
     (united : (united : List Range) × Unites united ranges × (length united ≡ n)) where

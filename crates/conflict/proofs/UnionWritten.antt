@@ -3,7 +3,6 @@ use Rattle.std.proofs.Common.{◌≡◌, ℕ, ◌+◌, ◌*◌, ◌<◌, List, [
 use Rattle.std.proofs.lemmas.List.{length-map}
 use Rattle.std.specs.Prelude.{ℤ, ◌≤ℤ◌}
 use Rattle.std.specs.List.{AllZip}
-use Rattle.std.specs.Prelude.{Result, Err, IsErrAnd}
 use Rattle.keys.specs.Key.{IsBefore}
 use Rattle.keyspace.specs.Writes.{Write, at_version}
 use Rattle.keys.specs.declared.range.Range.{Range}
@@ -13,10 +12,7 @@ use Rattle.stepmap.specs.Counting.{live_count}
 use Rattle.stepmap.specs.Laws.{CountedAlong}
 use Rattle.conflict.specs.declared.union.UnitedSpan.{UnitedSpan}
 use Rattle.conflict.specs.Union.{AreSpanned, IsUnion}
-use Rattle.stepmap.specs.declared.error.StepError.{StepError}
-use Rattle.stepmap.specs.declared.error.StepError.TheVariants as step
-use Rattle.conflict.specs.declared.error.SetStop.TheVariants.{Memory, ArenaFull}
-use Rattle.conflict.specs.ConflictSet.{stop_of, IsOverLimit}
+use Rattle.conflict.specs.ConflictSet.{IsOverLimit}
 use Rattle.conflict.proofs.Spanned.{begins_same, ends_same, spanned_count}
 
 -- ranges with the same begin and the same end
@@ -86,20 +82,3 @@ module _ (ranges : List Range) (spans : List UnitedSpan) (each : List (ℕ × �
   over_limit along limit edge version ws late over =
       let counted = along edge version ws written late in
       omega (arith, one.unites.few, count, counted, over)
-
--- a set stops for its limit where its step map is full
-pub full_of : (e : StepError) → ArenaFull ≡ stop_of e → e ≡ step.Full
-full_of step.Full same = refl
-full_of step.Memory same = cc
-
--- and for memory where its step map is refused some
-pub memory_of : (e : StepError) → Memory ≡ stop_of e → e ≡ step.Memory
-memory_of step.Memory same = refl
-memory_of step.Full same = cc
-
-pub memory_not_full : (e : StepError) → e ≡ step.Memory → ¬ (e ≡ step.Full)
-memory_not_full step.Memory is full = absurd (cc)
-memory_not_full step.Full is full = absurd (cc)
-
-pub of_err : {T E : Type 0} (P : E → Type 0) {r : Result T E} {e : E} → r ≡ Err e → IsErrAnd r P → P e
-of_err {T} {E} P {r} {e} is said = subst (λ (x : Result T E). IsErrAnd x P) is said

@@ -1,5 +1,5 @@
 -- What the calls that resolve a batch ensure, a field for each fact. This project's own.
-use Rattle.std.specs.Prelude.{◌≡◌, ℤ, ◌⊎◌, List, ◌++◌, Some, None, IfSome}
+use Rattle.std.specs.Prelude.{◌≡◌, ℤ, ◌⊎◌, List, ◌++◌, None, IfSome}
 use Rattle.keys.specs.declared.range.Range.{Range}
 use Rattle.keyspace.specs.declared.batch.Batch.{Batch}
 use Rattle.keyspace.specs.declared.reply.Reply.{Reply}

@@ -2,9 +2,7 @@ use Rattle.std.proofs.Common.{rules, w64, to_z, of_z, SFits, ◌≡◌, ◌+◌,
 use Rattle.std.specs.Prelude.{ℤ, ◌≤ℤ◌}
 use Rattle.std.proofs.lemmas.Bool.{cases_lt}
 use Rattle.std.proofs.lemmas.Int.{to_z-of_z}
-use Rattle.keys.specs.declared.range.Range.{Range}
 use Rattle.keys.proofs.callers.Booleans.{not_both_ways}
-use Rattle.keyspace.specs.declared.reply.Entry.{Entry}
 use Rattle.keyspace.specs.BatchRanges.{ranges_in}
 use Rattle.keyspace.specs.Writes.{Write, at_version, committed, writes_of}
 use Rattle.keyspace.specs.Judge.{judge_txns}
@@ -13,16 +11,16 @@ use Rattle.stepmap.specs.StepMap.{Steps, lengths}
 use Rattle.stepmap.specs.Covers.{MapCovers}
 use Rattle.stepmap.specs.Rooted.{Ends, Rooted}
 use Rattle.stepmap.specs.Counting.{live_count}
-use Rattle.stepmap.specs.Laws.{IsWriting, IsWritten}
+use Rattle.stepmap.specs.Laws.{IsWriting}
 use Rattle.stepmap.specs.Limit.{HasRoomFor, made_room, prepared}
 use Rattle.stepmap.specs.Sweeping.{rest, after_sweep}
-use Rattle.stepmap.specs.Uniting.{Unites}
 use Rattle.stepmap.specs.declared.error.StepError.TheVariants as step
 use Rattle.stepmap.specs.declared.step_map.TheConstants.{MAX_LIMIT}
+use Rattle.conflict.specs.declared.when_full.WhenFull.TheVariants.{Refuse}
 use Rattle.conflict.specs.ConflictSet.{IsSwept, raised, HasRoomToWrite}
 use Rattle.conflict.specs.InBatch.{in_batches}
 use Rattle.conflict.specs.Pace.{after_writes, with_written, IsPaced}
-use Rattle.conflict.specs.Union.{AreSpanned, IsUnion}
+use Rattle.conflict.specs.Union.{IsUnion}
 use Rattle.conflict.proofs.Detected.{if_err, room_unless, unchanged, right, has_room, refuses, stops}
 use Rattle.conflict.proofs.Edges.{edge_passed, edge_below}
 use Rattle.conflict.proofs.JudgedBatch.{length-in_batches, changed_entire}
@@ -32,8 +30,8 @@ use Rattle.conflict.proofs.UnionWritten.{count, each_count, apart, ready_same}
 use Rattle.conflict.proofs.detect.detect_conflicts.Goals.{After-spans-spans, After-write_spans}
 use Rattle.conflict.proofs.detect.detect_conflicts.Goals as goal
 
-pub judge_by_history-entries-requires : goal.judge_by_history-entries-requires
-judge_by_history-entries-requires c =
+pub judge_by_history-requires : goal.judge_by_history-requires
+judge_by_history-requires c =
     let given = c.edge_at-edge.result in
     let fits : SFits w64 given = search rules in
     let version_fits : SFits w64 c.args.batch.now.version = search rules in
@@ -60,27 +58,23 @@ judge_in_batch-requires-clause-ranked c =
 -- memory is refused before anything is written
 pub returns-in_err-entries-clause-fails : goal.returns-in_err-entries-clause-fails
 returns-in_err-entries-clause-fails c =
-    if_err _ _ c.from_residual-in_err-entries.result
+    if_err _ _ c.from_residual.result c.from_residual.ensures.1
     (λ stop is. unchanged c.args.when_full c.args.window c.args.steps.now c.args.batch.now stop is)
-    c.from_residual-in_err-entries.ensures.1
 
 pub returns-in_err-reset-clause-fails : goal.returns-in_err-reset-clause-fails
 returns-in_err-reset-clause-fails c =
-    if_err _ _ c.from_residual-in_err-reset.result
+    if_err _ _ c.from_residual-in_err-reset.result c.from_residual-in_err-reset.ensures.1
     (λ stop is. unchanged c.args.when_full c.args.window c.args.steps.now c.args.batch.now stop is)
-    c.from_residual-in_err-reset.ensures.1
 
 pub returns-in_err-judge_in_batch-clause-fails : goal.returns-in_err-judge_in_batch-clause-fails
 returns-in_err-judge_in_batch-clause-fails c =
-    if_err _ _ c.from_residual-in_err-judge_in_batch.result
+    if_err _ _ c.from_residual-in_err-judge_in_batch.result c.from_residual-in_err-judge_in_batch.ensures.1
     (λ stop is. unchanged c.args.when_full c.args.window c.args.steps.now c.args.batch.now stop is)
-    c.from_residual-in_err-judge_in_batch.ensures.1
 
 pub returns-in_err-gather-clause-fails : goal.returns-in_err-gather-clause-fails
 returns-in_err-gather-clause-fails c =
-    if_err _ _ c.from_residual-in_err-gather.result
+    if_err _ _ c.from_residual-in_err-gather.result c.from_residual-in_err-gather.ensures.1
     (λ stop is. unchanged c.args.when_full c.args.window c.args.steps.now c.args.batch.now stop is)
-    c.from_residual-in_err-gather.ensures.1
 
 -- the edge, as it is passed on
 edge_is : (c : After-spans-spans) → to_z w64 (of_z w64 c.edge_at-edge.result) ≡ edge c.args.window c.args.batch.now
@@ -181,24 +175,25 @@ returns-in_err-prepare-clause-fails c =
     ap length c.lengths.ensures.lengths
     ∙ each_count (ranges_in b.txns) spans each (committed b.txns entries) (union here) in
     let error = c.in_err-prepare.field-0.0 in
-    let full : (Err error ≡ Err step.Full) ↔ ¬ HasRoomFor n (made_room n (raised e steps)) =
-    subst (λ (m : Steps). (Err error ≡ Err step.Full) ↔ ¬ HasRoomFor n (made_room n m)) up
-    (subst (λ n. (Err error ≡ Err step.Full) ↔ ¬ HasRoomFor n (made_room n c.raise.new.self)) many c.in_err-prepare.ensures.full) in
-    let determined = λ refuse. c.is_refused.ensures.fits refuse
-    (λ refused. not_both_ways c.is_refused.result refused c.if-is_refused.false) in
-    if_err _ _ c.from_residual-in_err-prepare.result
-    (λ stop same. stops c.args.window b steps entries (judged here) c.one_reply.ensures.only c.counts.ensures.along (late here) spans each
-    (union here) c.args.when_full c.prepare.new.self error stop same
+    let none : error ≡ step.Full → ¬ HasRoomFor n (made_room n (raised e steps)) = λ same.
+    subst (λ (m : Steps). ¬ HasRoomFor n (made_room n m)) up
+    (subst (λ n. ¬ HasRoomFor n (made_room n c.raise.new.self)) many (c.in_err-prepare.ensures.full.0 (ap Err same))) in
+    let full : ¬ HasRoomFor n (made_room n (raised e steps)) → error ≡ step.Full = λ none.
+    let is_full = c.in_err-prepare.ensures.full.1 (subst (λ n. ¬ HasRoomFor n (made_room n c.raise.new.self)) (sym many)
+    (subst (λ (m : Steps). ¬ HasRoomFor n (made_room n m)) (sym up) none)) in
+    cc in
+    let fits : c.args.when_full ≡ Refuse → HasRoomFor n (made_room n (raised e steps)) = λ refuse.
+    subst (λ e. HasRoomFor n (made_room n (raised e steps))) is
+    (c.is_refused.ensures.fits refuse (λ refused. not_both_ways c.is_refused.result refused c.if-is_refused.false)) in
+    if_err _ _ c.from_residual-in_err-prepare.result c.from_residual-in_err-prepare.ensures.1
+    (λ stop same. stops c.args.window b steps entries (judged here) c.one_reply.ensures.only c.counts.ensures.along (late here)
+    spans each (union here) c.args.when_full c.prepare.new.self error stop same
     (λ ws covers. c.in_err-prepare.ensures.covers ws (c.raise.ensures.covers ws covers))
     (λ ws rooted. c.in_err-prepare.ensures.rooted ws (c.raise.ensures.rooted ws rooted))
-    (c.in_err-prepare.ensures.limit ∙ ap (λ (m : Steps). m.limit) up)
-    (λ refuse. subst (λ e. HasRoomFor n (made_room n (raised e steps))) is (determined refuse))
-    (λ same. full.0 (ap Err same))
-    (λ none. let same = full.1 none in cc)
+    (c.in_err-prepare.ensures.limit ∙ ap (λ (m : Steps). m.limit) up) fits none full
     (λ same ws rooted. subst (λ n. steps.limit < 1 + 2 * (live_count e ws + n)) many
     (subst (λ (m : Steps). m.limit < 1 + 2 * (live_count m.edge ws + length c.lengths.result.now)) up
     (c.in_err-prepare.ensures.bound (ap Err same) ws (c.raise.ensures.rooted ws rooted)))))
-    c.from_residual-in_err-prepare.ensures.1
 
 pub write_spans-requires-clause-spanned : goal.write_spans-requires-clause-spanned
 write_spans-requires-clause-spanned c =
@@ -275,6 +270,14 @@ pub overflow_add-spans : goal.overflow_add-spans
 overflow_add-spans c =
     let at = goal.at.overflow_add-spans c in
     omega (arith, few at.After-write_spans (union at.After-spans-spans))
+
+-- there are as many entries as transactions
+pub new-requires-2-clause-few : goal.new-requires-2-clause-few
+new-requires-2-clause-few c =
+    let here = (goal.at.new-requires-2-clause-few c).After-spans-spans in
+    let as_entries : c.new.result ≡ c.judge_in_batch.new.entries =
+    c.new.ensures.items ∙ sym c.deref.ensures.value ∙ items here in
+    omega (arith, ap length as_entries, entry_count here, c.args.batch.now.few)
 
 pub returns-clause-detects : goal.returns-clause-detects
 returns-clause-detects c =

@@ -5,7 +5,7 @@ use Rattle.std.proofs.lemmas.Int.{to_z-of_z}
 use Rattle.keyspace.specs.Judged.{edge}
 use Rattle.stepmap.specs.Boundary.{AreUpTo}
 use Rattle.stepmap.specs.StepMap.{Steps}
-use Rattle.conflict.specs.ConflictSet.{SetState, IsSet, stop_after}
+use Rattle.conflict.specs.ConflictSet.{SetState, IsSet}
 use Rattle.conflict.specs.Calls.{Detects, Fails}
 use Rattle.conflict.specs.declared.error.SetStop.{SetStop}
 use Rattle.conflict.proofs.Edges.{edge_rises, at_most, from_least}
@@ -136,10 +136,11 @@ returns-in-Some-clause-stops c =
     sym (ap (λ (s : SetState). s.stop) c.self.view_is) ∙ c.in-Some.is in
     let is_some = λ (none : c.args.self.now.stop ≡ None). none-some c.in-Some.stop (sym none ∙ stopped) in
     record {
-      stopped = subst (λ o. IfSome o (λ was. (c.in-Some.stop ≡ was) × (_ ≡ c.args.self.now))) (sym stopped) (refl, c.self.view_is);
+      stopped = subst (λ o. IfSome o (λ was. (c.in-Some.stop ≡ was) × (c.args.self.now ≡ c.args.self.now))) (sym stopped)
+          (refl, refl);
       now = λ none. absurd (is_some none);
       map = λ none. absurd (is_some none);
-      refused = λ refuse full. c.self.view_is;
-      resolved = ap (λ (s : SetState). s.resolved) c.self.view_is;
-      window = ap (λ (s : SetState). s.window) c.self.view_is;
+      refused = λ refuse full. refl;
+      resolved = refl;
+      window = refl;
     }
