@@ -3,8 +3,6 @@ use Rattle.std.proofs.Common.{◌≡◌, ℕ, length, List, [], ◌∷◌, ◌++
 use Rattle.std.specs.Prelude.{ℤ, ◌⊎◌, IsSome}
 use Rattle.keyspace.specs.Run.{Step, Take, Finish}
 use Rattle.resolver.specs.declared.stop.Stop.{Stop}
-use Rattle.resolver.specs.declared.turn.Turn.{Turn}
-use Rattle.resolver.specs.declared.turn.Turn.TheVariants as turn
 use Rattle.resolver.specs.Owed.{owed_to}
 use Rattle.resolver.specs.Core.{CoreState}
 use Rattle.resolver.specs.Stands.{Stands}

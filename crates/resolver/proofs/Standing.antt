@@ -23,7 +23,7 @@ use Rattle.std.proofs.Common.{
   arith,
   drop,
 }
-use Rattle.std.specs.Prelude.{ℤ, option_to_list}
+use Rattle.std.specs.Prelude.{ℤ, option_to_list, Result, Err, IfSome}
 use Rattle.std.proofs.lemmas.Bool.{cases_Bool, eqb-true, eqb-false}
 use Rattle.std.proofs.lemmas.List.{get_or-set_other, length-set}
 use Rattle.keyspace.specs.declared.answer.Answer.{Answer}
@@ -33,6 +33,7 @@ use Rattle.resolver.specs.declared.stop.Stop.{Stop}
 use Rattle.resolver.specs.Owed.{owed_to, given_oldest}
 use Rattle.resolver.specs.Core.{CoreState, Given, IsPrefix, IsIn, MadeBetween, StopsIn, StopsAtLimit, made_to}
 use Rattle.resolver.specs.Stands.{StoppedIn, StandsBy, given_also}
+use Rattle.resolver.specs.CoreCalls.{AddsStep}
 
 run_from-more : (window : ℤ) (log : List Step) (x : Step) (s : State)
     → run_from window (log ++ x ∷ []) s ≡ step window x (run_from window log s)
@@ -48,6 +49,19 @@ run-more window log x = run_from-more window log x start
 pub IsIn-standing : (stop : Option Stop) (log : List Step) (given : Given) (core : CoreState) → stop ≡ None
     → StandsBy stop log given core → IsIn (run core.set.window log) given core
 IsIn-standing stop log given core none = subst (λ s. StandsBy s log given core) none
+
+-- a core that was stopped before takes no step
+pub AddsStep-stopped : {T : Type 0} (x : Step) (met : Stop) (core : CoreState) → core.stop ≡ Some met
+    → AddsStep {T = T} x (Err met) core core
+AddsStep-stopped {T} x met core stopped = record {
+  stands = λ running. absurd cc;
+  «open» = tt;
+  stops = stopped;
+  stopped =
+      subst (λ s. IfSome s (λ m. (◌≡◌ {A = Result T Stop} (Err met) (Err m)) × (core ≡ core))) (sym stopped)
+      (refl, refl);
+  continues = record { window = refl; limit = refl; proxies = refl };
+}
 
 module _ (window : ℤ) (log : List Step) (x : Step) (given : Given) (new : CoreState)
     (same : new.set.window ≡ window) where

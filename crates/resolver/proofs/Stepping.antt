@@ -31,7 +31,7 @@ use Rattle.std.proofs.Common.{
   inr,
   arith,
 }
-use Rattle.std.specs.Prelude.{ℤ, ◌⊎◌, slice_get, IsSome, Result, Ok}
+use Rattle.std.specs.Prelude.{ℤ, ◌⊎◌, slice_get, IsSome, IfSome, Result, Err}
 use Rattle.std.specs.Vec.{with_items}
 use Rattle.std.specs.declared.vec.Vec.{Vec}
 use mathlib.Core.Bool.{beq}
@@ -59,7 +59,9 @@ use Rattle.resolver.specs.Lanes.{
   IsLookedThrough,
 }
 use Rattle.resolver.specs.OpeningLog.{log_from}
-use Rattle.resolver.specs.Resolver.{StandsOverFrom, TakesFrom, Finishes, TakesNoStep, IsThrough}
+use Rattle.resolver.specs.declared.stop.Stop.{Stop}
+use Rattle.resolver.specs.Resolver.{ResolverState, StandsOverFrom, TakesFrom, Finishes, TakesNoStep, IsThrough}
+use Rattle.resolver.specs.Turns.{TurnSteps}
 use Rattle.resolver.specs.Observed.{HasSeen, ObservesStep}
 use Rattle.resolver.specs.Parts.{
   ProxyLanesView,
@@ -96,6 +98,7 @@ use Rattle.resolver.proofs.FromVersion.{log_from-more}
 use Rattle.resolver.proofs.Logged.{stands_taken, stands_finished, stands_same}
 use Rattle.resolver.proofs.Observing.{seen_more}
 use Rattle.resolver.proofs.SeenSteps.{step_taken, step_finished, step_none, observes_nothing}
+use Rattle.resolver.proofs.callers.Later.{lanes_same}
 
 -- an intake that hasn't changed goes on
 intake_same : {T : Type 0} (v : _) → IntakeContinues {T = T} v v
@@ -351,9 +354,6 @@ pub none_of : {T : Type 0} (o : Option T) → ((x : T) → o ≡ Some x → ⊥)
 none_of None not = refl
 none_of (Some x) not = absurd (not x refl)
 
-pub ok_some : {E : Type 0} (p q : ℕ) → ◌≡◌ {A = Result (Option ℕ) E} (Ok (Some p)) (Ok (Some q)) → p ≡ q
-ok_some p q is = cc is
-
 pub same_bools : (a b : Bool) → beq a b ≡ true → a ≡ b
 same_bools true true is = refl
 same_bools true false is = sym is
@@ -367,6 +367,30 @@ other_than_false false false is not = sym not
 
 pub continue_itself : (b : CoreState) → Continues b b
 continue_itself b = record { window = refl; limit = refl; proxies = refl }
+
+-- no stop has been met before, by the parts
+pub was_running : {r s : ResolverState} → r ≡ s → r.core.stop ≡ None → s.core.stop ≡ None
+was_running is running = sym (ap (λ (x : ResolverState). x.core.stop) is) ∙ running
+
+-- the step if a stop had been met before
+pub steps_stopped : (met : Stop) (r : ResolverState) → r.core.stop ≡ Some met
+    → TurnSteps {T = Option ℕ} (λ taken. taken) (Err met) r r
+steps_stopped met r stopped = record {
+  log = tt;
+  stop_met = λ running. absurd cc;
+  stop = stopped;
+  stop_stays =
+      subst (λ s. IfSome s (λ m. ◌≡◌ {A = Result (Option ℕ) Stop} (Err met) (Err m))) (sym stopped) refl;
+  no_stop = tt;
+  looked_through = tt;
+  passed = tt;
+  next = tt;
+  next_stays = tt;
+  gate_full = λ running. absurd cc;
+  arena_full = λ running. absurd cc;
+  lanes = lanes_same r.lanes;
+  continues = continue_itself r.core;
+}
 
 -- A batch of a proxy was taken and admitted.
 module _ (old new : Parts) (first proxy : ℕ) (batch : Batch)

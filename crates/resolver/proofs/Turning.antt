@@ -321,7 +321,7 @@ same_Err : {x y : Stop} → ◌≡◌ {A = Result Turn Stop} (Err x) (Err y) →
 same_Err is = cc
 
 -- the step of a turn, once answers were handed out and lanes closed
-module _ {old mid given new : ResolverState} (h : IsDelivery mid given) (k : ClosedOver given new) where
+module _ (old mid given new : ResolverState) (h : IsDelivery mid given) (k : ClosedOver given new) where
   steps_for : (taken : Option ℕ) → StepsFor taken old mid → StepsFor taken old new
   steps_for (Some proxy) took = TakesFrom-on h k proxy took
   steps_for None (inl finishes) = inl (Finishes-on h k finishes)
@@ -332,6 +332,10 @@ module _ {old mid given new : ResolverState} (h : IsDelivery mid given) (k : Clo
 
   next_on : new.next ≡ mid.next
   next_on = k.next ∙ h.same.next
+
+  -- the lanes from which nothing was taken before the batch of this proxy, looked through
+  abbrev passed_by : List Lanes → ℕ → Type 0
+  passed_by lanes proxy = Each (λ passed l m. ComesBefore old.next passed proxy → IsLookedThrough l m) old.lanes lanes
 
   continues_on : Continues old.core mid.core → Continues old.core new.core
   continues_on c = record {
@@ -352,17 +356,19 @@ module _ {old mid given new : ResolverState} (h : IsDelivery mid given) (k : Clo
         no_stop = stop_on ∙ s.no_stop;
         looked_through =
             subst (λ t. IfNone t (Each (λ _ l m. IsLookedThrough l m) old.lanes new.lanes)) is
-            (if_none _ _ (all_looked_on h k) taken s.looked_through);
+            (if_none (Each (λ _ l m. IsLookedThrough l m) old.lanes mid.lanes)
+            (Each (λ _ l m. IsLookedThrough l m) old.lanes new.lanes) (all_looked_on h k) taken s.looked_through);
         passed =
-            subst (λ t. IfSome t (λ proxy.
-            Each (λ passed l m. ComesBefore old.next passed proxy → IsLookedThrough l m) old.lanes new.lanes)) is
-            (if_some _ _ (λ proxy. looked_on h k (λ p. ComesBefore old.next p proxy)) taken s.passed);
+            subst (λ t. IfSome t (passed_by new.lanes)) is
+            (if_some (passed_by mid.lanes) (passed_by new.lanes)
+            (λ proxy. looked_on h k (λ p. ComesBefore old.next p proxy)) taken s.passed);
         next =
             subst (λ t. IfSome t (λ proxy. new.next ≡ proxy + 1)) is
-            (if_some _ _ (λ proxy after. next_on ∙ after) taken s.next);
+            (if_some (λ proxy. mid.next ≡ proxy + 1) (λ proxy. new.next ≡ proxy + 1)
+            (λ proxy after. next_on ∙ after) taken s.next);
         next_stays =
             subst (λ t. IfNone t (new.next ≡ old.next)) is
-            (if_none _ _ (λ stays. next_on ∙ stays) taken s.next_stays);
+            (if_none (mid.next ≡ old.next) (new.next ≡ old.next) (λ stays. next_on ∙ stays) taken s.next_stays);
         gate_full = λ running full. absurd cc;
         arena_full = λ running full. absurd cc;
         lanes = lanes_on h k s.lanes;

@@ -1,4 +1,5 @@
-use Rattle.std.proofs.Common.{[], ◌∷◌, List, subst, sym}
+use Rattle.std.proofs.Common.{[], ◌∷◌, List, subst, sym, rules, arith}
+use Rattle.std.proofs.lemmas.Grind.{common_steps}
 use Rattle.std.specs.Prelude.{All}
 use Rattle.keyspace.specs.declared.TheConstants.{WINDOW}
 use Rattle.resolver.specs.declared.client.Client.{Client}
@@ -6,6 +7,16 @@ use Rattle.resolver.specs.Resolver.{IsNewClient}
 use Rattle.proved_callers.specs.Served.{AreServing}
 use Rattle.proved_callers.proofs.TwoProxies.{serving_opened}
 use Rattle.proved_callers.proofs.served_proxies.serve_two.Goals as goal
+
+pub open-requires-clause-settings : goal.open-requires-clause-settings
+open-requires-clause-settings c = record {
+  least_proxies = first_of (search rules, grind (arith, common_steps));
+  most_proxies = first_of (search rules, grind (arith, common_steps));
+  least_window = first_of (search rules, grind (arith, common_steps));
+  most_window = first_of (search rules, grind (arith, common_steps));
+  least_limit = first_of (search rules, grind (arith, common_steps));
+  most_limit = first_of (search rules, grind (arith, common_steps));
+}
 
 pub serve-requires : goal.serve-requires
 serve-requires c =

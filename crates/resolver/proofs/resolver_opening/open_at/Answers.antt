@@ -1,10 +1,9 @@
-use Rattle.std.proofs.Common.{rules, ℕ, ℤ, w64, to_z, of_z, [], sym, ap, subst, ◌∙◌}
-use Rattle.std.specs.Prelude.{negsuc, ◌≤ℤ◌}
+use Rattle.std.proofs.Common.{ℕ, ℤ, w64, to_z, of_z, [], sym, ap, subst, ◌∙◌}
 use Rattle.std.proofs.lemmas.Int.{to_z-of_z}
 use Rattle.resolver.specs.Core.{CoreState}
 use Rattle.resolver.specs.Stands.{Stands}
 use Rattle.resolver.specs.OpeningLog.{opening_log}
-use Rattle.resolver.specs.Resolver.{StandsOverFrom}
+use Rattle.resolver.specs.Resolver.{StandsOverFrom, AreClients}
 use Rattle.resolver.proofs.FromVersion.{version_opened}
 use Rattle.resolver.proofs.resolver_opening.open_at.Goals as goal
 
@@ -19,15 +18,18 @@ returns-clause-opens c =
     (subst (λ (n : ℕ). Stands core (opening_log n (to_z w64 (of_z w64 c.args.version))) (λ _. []))
     (sym new.proxies) new.stands)) in
     let none = ap (λ (core : CoreState). core.stop) c.new.ensures.core ∙ new.«open» in
+    let connected = c.in-Ok.ensures.connected in
     record {
       stands = stands;
       resolving = record { log = []; stands = stands };
       no_stop = none;
       version = version_opened c.args.version c.new.result stands none c.requires.least_version;
-      next = search rules;
-      window = search rules;
-      limit = search rules;
-      proxies = search rules;
-      same = search rules;
-      new_clients = search rules;
+      next = c.new.ensures.next;
+      window =
+          ap (λ (core : CoreState). core.set.window) c.new.ensures.core ∙ new.window
+          ∙ to_z-of_z w64 c.args.window c.ranges.window;
+      limit = ap (λ (core : CoreState). core.set.map.limit) c.new.ensures.core ∙ new.limit;
+      proxies = connected.client_count;
+      same = subst (λ lanes. AreClients lanes c.in-Ok.clients.items) (sym c.new.ensures.lanes) connected.same;
+      new_clients = connected.new_clients;
     }

@@ -1,8 +1,19 @@
 use Rattle.std.proofs.Common.{rules, ℤ, pos, negsuc, ◌≤ℤ◌, FitsSigned, w64, arith, refl, inr}
+use Rattle.std.proofs.lemmas.Grind.{common_steps}
 use Rattle.std.proofs.Common.{sym, subst, ◌∙◌}
 use Rattle.std.proofs.lemmas.Int.{ints, to_z-of_z}
 use Rattle.archcaraway_c.specs.Numbers.{AreSetNumbers}
 use Rattle.archcaraway_c.proofs.core_object.CoreObject.new_at.Goals as goal
+
+pub new_at-requires-clause-settings : goal.new_at-requires-clause-settings
+new_at-requires-clause-settings c = record {
+  least_proxies = first_of (search rules, grind (arith, common_steps));
+  most_proxies = first_of (search rules, grind (arith, common_steps));
+  least_window = first_of (search rules, grind (arith, common_steps));
+  most_window = first_of (search rules, grind (arith, common_steps));
+  least_limit = first_of (search rules, grind (arith, common_steps));
+  most_limit = first_of (search rules, grind (arith, common_steps));
+}
 
 pub returns-in_default-clause-refused : goal.returns-in_default-clause-refused
 returns-in_default-clause-refused c =

@@ -1,6 +1,8 @@
-use Rattle.std.proofs.Common.{◌≡◌, refl, ap, sym, subst, ◌∙◌}
-use Rattle.std.specs.Prelude.{Result, Ok, Err, OnOk, IfErr}
-use Rattle.archcaraway_c.specs.CoreObject.{CoreParts, IsGateFull, StopsAt}
+use Rattle.std.proofs.Common.{◌≡◌, None, refl, ap, sym, subst, ◌∙◌}
+use Rattle.std.specs.Prelude.{Result, Ok, Err, OnOk, IfOk, IfErr}
+use Rattle.std.proofs.lemmas.Result.{on_ok_weaker}
+use Rattle.resolver.specs.Core.{Continues}
+use Rattle.archcaraway_c.specs.CoreObject.{CoreParts, Admits, IsGateFull, StopsAt}
 use Rattle.archcaraway_c.proofs.core_object.CoreObject.take.Goals as goal
 
 on_err : {T E : Type 0} (P Q : E → Type 0) (r : Result T E) → ((e : E) → r ≡ Err e → P e → Q e) → IfErr r P → IfErr r Q
@@ -10,6 +12,24 @@ on_err P Q (Err e) f p = f e refl p
 on_ok : {T E : Type 0} (X : Type 0) (r : Result T E) → ((x : T) → r ≡ Ok x → X) → OnOk r X
 on_ok X (Ok x) f = f x refl
 on_ok X (Err e) f = tt
+
+pub returns-clause-admitted : goal.returns-clause-admitted
+returns-clause-admitted c =
+    let continues = ap (λ (parts : CoreParts). parts.core.stop) c.self.view_is ∙ c.requires.continues in
+    subst (λ (parts : CoreParts). IfOk c.admit.result (λ _.
+    Admits parts.core c.args.proxy c.args.batch c.admit.new.self)) c.self.view_is
+    (on_ok _ c.admit.result (λ x is. c.admit.ensures.admits.adds.stands continues))
+
+pub returns-clause-continues : goal.returns-clause-continues
+returns-clause-continues c =
+    on_ok_weaker c.admit.result
+    (λ (both : (c.self.inside.core.stop ≡ None) × (c.admit.new.self.stop ≡ None)). both.1)
+    c.admit.ensures.admits.adds.«open»
+
+pub returns-clause-same : goal.returns-clause-same
+returns-clause-same c =
+    subst (λ (parts : CoreParts). Continues parts.core c.admit.new.self) c.self.view_is
+    c.admit.ensures.admits.adds.continues
 
 pub returns-clause-room : goal.returns-clause-room
 returns-clause-room c =

@@ -1,16 +1,19 @@
-use Rattle.std.proofs.Common.{rules, ◌≡◌, ℕ, ◌+◌, ◌<◌, length, None, Err, sym, ap, subst, ◌∙◌, refl, inl, inr, true, false}
+use Rattle.std.proofs.Common.{◌≡◌, ℕ, ◌+◌, ◌<◌, length, Option, Some, None, Result, Err, sym, ap, subst, ◌∙◌, refl, inl, inr, true, false}
 use Rattle.std.specs.Prelude.{◌<ℤ◌}
+use Rattle.std.proofs.lemmas.Bool.{false≢true}
 use Rattle.chain.specs.declared.gate.TheConstants.{MAX_HELD}
 use Rattle.std.specs.Vec.{with_items}
 use Rattle.keyspace.specs.Run.{run}
-use Rattle.resolver.specs.declared.stop.Stop.TheVariants.{GateFull, ArenaFull}
+use Rattle.resolver.specs.declared.stop.Stop.{Stop}
+use Rattle.resolver.specs.declared.stop.Stop.TheVariants.{Memory, GateFull, ArenaFull}
 use Rattle.resolver.specs.Core.{Continues, StopsAtLimit}
 use Rattle.resolver.specs.Lanes.{Each, LanesContinue, IsLookedThrough, ComesBefore, all_ended, sent_to}
 use Rattle.resolver.specs.OpeningLog.{log_from}
 use Rattle.resolver.specs.Observed.{ObservesStep}
 use Rattle.resolver.specs.Resolver.{ResolverState, StandsOverFrom, TakesFrom, Finishes, TakesNoStep}
+use Rattle.resolver.specs.Turns.{TurnSteps}
 use Rattle.resolver.specs.Parts.{Parts, resolver_of, lanes_of, AreParts, FindsOne, FindsNone}
-use Rattle.resolver.proofs.Stops.{same_stop, IfErr-always}
+use Rattle.resolver.proofs.Stops.{residual_is, same_error, none_stays, not_some}
 use Rattle.resolver.proofs.Stepping.{
   none_of,
   same_bools,
@@ -24,6 +27,8 @@ use Rattle.resolver.proofs.Stepping.{
   takes_when,
   takes_over,
   stops_at_limit,
+  steps_stopped,
+  was_running,
   replies_taken,
   lanes_taken,
   passed_taken,
@@ -130,22 +135,24 @@ invariant_of-self-in-Some-take_from g c =
     parts_taken (admitted_old g c) (admitted_new g c) c.self.inside.next c.in-Some-take_from.proxy c.in-Some-take_from.batch
     (admitted_found g c) c.self.invariant (admitted_running g c) c.admit_observed.ensures.admits.adds.continues refl refl refl
 
-pub returns-in_err-admit_observed-in-Some-take_from-clause-steps : goal.returns-in_err-admit_observed-in-Some-take_from-clause-steps
-returns-in_err-admit_observed-in-Some-take_from-clause-steps g c = record {
-  log = search rules;
-  stop_met =
-      IfErr-always c.from_residual.result (λ _. inl (c.in-Some-take_from.proxy, stopped_takes g c));
-  stop = search rules;
-  stop_stays = search rules;
-  no_stop = search rules;
-  looked_through = search rules;
-  passed = search rules;
-  next = search rules;
-  next_stays = search rules;
+-- the step, if a stop was met as the batch was admitted
+admitted_stop : (g : Over) (c : goal.After-from_residual g)
+    → TurnSteps {T = Option ℕ} (λ taken. taken) (Err c.in_err-admit_observed-in-Some-take_from.field-0.0)
+    c.args.self.now (resolver_of (stopped_new g c))
+admitted_stop g c = record {
+  log = tt;
+  stop_met = λ _. inl (c.in-Some-take_from.proxy, stopped_takes g c);
+  stop = c.in_err-admit_observed-in-Some-take_from.ensures.admits.adds.stops;
+  stop_stays = none_stays c.args.self.now.core.stop _ (was_running c.self.view_is (stopped_running g c));
+  no_stop = tt;
+  looked_through = tt;
+  passed = tt;
+  next = tt;
+  next_stays = tt;
   gate_full =
       λ running is.
       let stop = c.in_err-admit_observed-in-Some-take_from.field-0.0 in
-      let met = same_stop c.from_residual.result stop GateFull c.from_residual.ensures.1 is in
+      let met = same_error stop GateFull is in
       let full = (c.admit_observed.ensures.admits.gate_full (stopped_running g c)).0 (c.in_err-admit_observed-in-Some-take_from.was ∙ ap Err met) in
       let took = takes_when (stopped_old g c) (stopped_new g c) c.self.inside.next c.in-Some-take_from.proxy c.in-Some-take_from.batch
       (stopped_found g c) c.self.invariant (stopped_running g c) c.admit_observed.ensures.admits.adds.continues refl refl refl (λ b. (c.self.inside.core.version <ℤ b.previous) × (length c.self.inside.core.held ≡ MAX_HELD)) full
@@ -156,7 +163,7 @@ returns-in_err-admit_observed-in-Some-take_from-clause-steps g c = record {
   arena_full =
       λ running is version log s.
       let stop = c.in_err-admit_observed-in-Some-take_from.field-0.0 in
-      let met = same_stop c.from_residual.result stop ArenaFull c.from_residual.ensures.1 is in
+      let met = same_error stop ArenaFull is in
       let limit = c.self.inside.core.set.map.limit in
       let window = c.self.inside.core.set.window in
       let given = sent_to (lanes_of (stopped_new g c).all_lanes) in
@@ -183,6 +190,12 @@ returns-in_err-admit_observed-in-Some-take_from-clause-steps g c = record {
       (stopped_found g c) c.self.invariant (stopped_running g c) c.admit_observed.ensures.admits.adds.continues refl refl refl);
 }
 
+pub returns-in_err-admit_observed-in-Some-take_from-clause-steps : goal.returns-in_err-admit_observed-in-Some-take_from-clause-steps
+returns-in_err-admit_observed-in-Some-take_from-clause-steps g c =
+    let stop = c.in_err-admit_observed-in-Some-take_from.field-0.0 in
+    subst (λ (r : Result (Option ℕ) Stop). TurnSteps (λ taken. taken) r c.args.self.now (resolver_of (stopped_new g c)))
+    (sym (residual_is c.from_residual.result stop c.from_residual.ensures.1)) (admitted_stop g c)
+
 pub returns-in_err-admit_observed-in-Some-take_from-clause-replies : goal.returns-in_err-admit_observed-in-Some-take_from-clause-replies
 returns-in_err-admit_observed-in-Some-take_from-clause-replies g c =
     subst (λ (r : ResolverState). Each (λ p l m. m.replies ≡ l.replies) r.lanes (lanes_of (stopped_new g c).all_lanes)) c.self.view_is
@@ -197,22 +210,21 @@ returns-in_ok-admit_observed-in-Some-take_from-clause-replies g c =
 
 pub returns-in_ok-admit_observed-in-Some-take_from-clause-steps : goal.returns-in_ok-admit_observed-in-Some-take_from-clause-steps
 returns-in_ok-admit_observed-in-Some-take_from-clause-steps g c = record {
-  log =
-      admitted_takes g c;
-  stop_met = search rules;
-  stop = search rules;
-  stop_stays = search rules;
-  no_stop = search rules;
-  looked_through = search rules;
+  log = admitted_takes g c;
+  stop_met = tt;
+  stop = tt;
+  stop_stays = none_stays c.args.self.now.core.stop _ (was_running c.self.view_is (admitted_running g c));
+  no_stop = c.in_ok-admit_observed-in-Some-take_from.ensures.admits.adds.«open».1;
+  looked_through = tt;
   passed =
       subst (λ (r : ResolverState). Each (λ q l m. ComesBefore r.next q c.in-Some-take_from.proxy → IsLookedThrough l m) r.lanes
       (lanes_of (admitted_new g c).all_lanes)) c.self.view_is
       (passed_taken (admitted_old g c) (admitted_new g c) c.self.inside.next c.in-Some-take_from.proxy c.in-Some-take_from.batch
       (admitted_found g c) c.self.invariant (admitted_running g c) c.admit_observed.ensures.admits.adds.continues refl refl refl);
-  next = search rules;
-  next_stays = search rules;
-  gate_full = search rules;
-  arena_full = search rules;
+  next = refl;
+  next_stays = tt;
+  gate_full = λ running is. absurd cc;
+  arena_full = λ running is. absurd cc;
   lanes =
       subst (λ (r : ResolverState). Each (λ p l m. LanesContinue l m) r.lanes (lanes_of (admitted_new g c).all_lanes)) c.self.view_is
       (lanes_taken (admitted_old g c) (admitted_new g c) c.self.inside.next c.in-Some-take_from.proxy c.in-Some-take_from.batch
@@ -383,18 +395,18 @@ returns-then-ended-self-clause-steps g c = record {
   log =
       inr (subst (λ r. TakesNoStep r (resolver_of (same_new g c))) c.self.view_is
       (takes_no_step (same_old g c) (same_new g c) (same_found g c) c.self.invariant (same_running g c) (same_continues g c) refl refl refl refl (same_all g c)));
-  stop_met = search rules;
-  stop = search rules;
-  stop_stays = search rules;
-  no_stop = search rules;
+  stop_met = tt;
+  stop = tt;
+  stop_stays = none_stays c.args.self.now.core.stop _ (was_running c.self.view_is (same_running g c));
+  no_stop = same_running g c;
   looked_through =
       subst (λ (r : ResolverState). Each (λ p l m. IsLookedThrough l m) r.lanes (lanes_of (same_new g c).all_lanes)) c.self.view_is
       (all_looked (same_old g c) (same_new g c) (same_found g c) c.self.invariant (same_running g c) (same_continues g c) refl refl);
-  passed = search rules;
-  next = search rules;
-  next_stays = search rules;
-  gate_full = search rules;
-  arena_full = search rules;
+  passed = tt;
+  next = tt;
+  next_stays = ap (λ (r : ResolverState). r.next) c.self.view_is;
+  gate_full = λ running is. absurd cc;
+  arena_full = λ running is. absurd cc;
   lanes =
       subst (λ (r : ResolverState). Each (λ p l m. LanesContinue l m) r.lanes (lanes_of (same_new g c).all_lanes)) c.self.view_is
       (lanes_looked (same_old g c) (same_new g c) (same_found g c) c.self.invariant (same_running g c) (same_continues g c) refl refl);
@@ -403,20 +415,28 @@ returns-then-ended-self-clause-steps g c = record {
       (continues_looked (same_old g c) (same_new g c) (same_found g c) c.self.invariant (same_running g c) (same_continues g c) refl refl);
 }
 
-pub returns-in_err-finish-in-None-clause-steps : goal.returns-in_err-finish-in-None-clause-steps
-returns-in_err-finish-in-None-clause-steps g c = record {
-  log = search rules;
-  stop_met =
-      IfErr-always c.from_residual-in_err-finish-in-None.result (λ _. inr (refused_finishes g c));
-  stop = search rules;
-  stop_stays = search rules;
-  no_stop = search rules;
-  looked_through = search rules;
-  passed = search rules;
-  next = search rules;
-  next_stays = search rules;
-  gate_full = search rules;
-  arena_full = search rules;
+-- the step, if a stop was met as the core was finished
+refused_stop : (g : Over) (c : goal.After-from_residual-in_err-finish-in-None g)
+    → TurnSteps {T = Option ℕ} (λ taken. taken) (Err c.in_err-finish-in-None.field-0.0) c.args.self.now
+    (resolver_of (refused_new g c))
+refused_stop g c = record {
+  log = tt;
+  stop_met = λ _. inr (refused_finishes g c);
+  stop = c.in_err-finish-in-None.ensures.adds.stops;
+  stop_stays = none_stays c.args.self.now.core.stop _ (was_running c.self.view_is (refused_running g c));
+  no_stop = tt;
+  looked_through = tt;
+  passed = tt;
+  next = tt;
+  next_stays = tt;
+  gate_full = λ running is.
+      let met = same_error c.in_err-finish-in-None.field-0.0 GateFull is in
+      let memory : c.in_err-finish-in-None.field-0.0 ≡ Memory = c.in_err-finish-in-None.ensures.memory (refused_running g c) in
+      absurd cc;
+  arena_full = λ running is.
+      let met = same_error c.in_err-finish-in-None.field-0.0 ArenaFull is in
+      let memory : c.in_err-finish-in-None.field-0.0 ≡ Memory = c.in_err-finish-in-None.ensures.memory (refused_running g c) in
+      absurd cc;
   lanes =
       subst (λ (r : ResolverState). Each (λ p l m. LanesContinue l m) r.lanes (lanes_of (refused_new g c).all_lanes)) c.self.view_is
       (lanes_looked (refused_old g c) (refused_new g c) (refused_found g c) c.self.invariant (refused_running g c) (refused_continues g c) refl refl);
@@ -425,22 +445,28 @@ returns-in_err-finish-in-None-clause-steps g c = record {
       (continues_looked (refused_old g c) (refused_new g c) (refused_found g c) c.self.invariant (refused_running g c) (refused_continues g c) refl refl);
 }
 
+pub returns-in_err-finish-in-None-clause-steps : goal.returns-in_err-finish-in-None-clause-steps
+returns-in_err-finish-in-None-clause-steps g c =
+    let stop = c.in_err-finish-in-None.field-0.0 in
+    subst (λ (r : Result (Option ℕ) Stop). TurnSteps (λ taken. taken) r c.args.self.now (resolver_of (refused_new g c)))
+    (sym (residual_is c.from_residual-in_err-finish-in-None.result stop c.from_residual-in_err-finish-in-None.ensures.1))
+    (refused_stop g c)
+
 pub returns-in_ok-finish-in-None-clause-steps : goal.returns-in_ok-finish-in-None-clause-steps
 returns-in_ok-finish-in-None-clause-steps g c = record {
-  log =
-      inl (finished_finishes g c);
-  stop_met = search rules;
-  stop = search rules;
-  stop_stays = search rules;
-  no_stop = search rules;
+  log = inl (finished_finishes g c);
+  stop_met = tt;
+  stop = tt;
+  stop_stays = none_stays c.args.self.now.core.stop _ (was_running c.self.view_is (finished_running g c));
+  no_stop = c.in_ok-finish-in-None.ensures.adds.«open».1;
   looked_through =
       subst (λ (r : ResolverState). Each (λ p l m. IsLookedThrough l m) r.lanes (lanes_of (finished_new g c).all_lanes)) c.self.view_is
       (all_looked (finished_old g c) (finished_new g c) (finished_found g c) c.self.invariant (finished_running g c) (finished_continues g c) refl refl);
-  passed = search rules;
-  next = search rules;
-  next_stays = search rules;
-  gate_full = search rules;
-  arena_full = search rules;
+  passed = tt;
+  next = tt;
+  next_stays = ap (λ (r : ResolverState). r.next) c.self.view_is;
+  gate_full = λ running is. absurd cc;
+  arena_full = λ running is. absurd cc;
   lanes =
       subst (λ (r : ResolverState). Each (λ p l m. LanesContinue l m) r.lanes (lanes_of (finished_new g c).all_lanes)) c.self.view_is
       (lanes_looked (finished_old g c) (finished_new g c) (finished_found g c) c.self.invariant (finished_running g c) (finished_continues g c) refl refl);
@@ -448,6 +474,38 @@ returns-in_ok-finish-in-None-clause-steps g c = record {
       subst (λ (r : ResolverState). Continues r.core (resolver_of (finished_new g c)).core) c.self.view_is
       (continues_looked (finished_old g c) (finished_new g c) (finished_found g c) c.self.invariant (finished_running g c) (finished_continues g c) refl refl);
 }
+
+-- a stop had been met before
+pub returns-in-Some-clause-steps : goal.returns-in-Some-clause-steps
+returns-in-Some-clause-steps g c =
+    let met : c.args.self.now.core.stop ≡ Some c.in-Some.stop =
+    sym (ap (λ (r : ResolverState). r.core.stop) c.self.view_is) ∙ sym c.stop.ensures.stop ∙ c.in-Some.is in
+    steps_stopped c.in-Some.stop c.args.self.now met
+
+pub returns-in-Some-clause-stopped : goal.returns-in-Some-clause-stopped
+returns-in-Some-clause-stopped g c = λ some. refl
+
+pub returns-in_err-admit_observed-in-Some-take_from-clause-stopped :
+    goal.returns-in_err-admit_observed-in-Some-take_from-clause-stopped
+returns-in_err-admit_observed-in-Some-take_from-clause-stopped g c = λ some.
+    absurd (not_some c.args.self.now.core.stop (was_running c.self.view_is (stopped_running g c)) some)
+
+pub returns-in_ok-admit_observed-in-Some-take_from-clause-stopped :
+    goal.returns-in_ok-admit_observed-in-Some-take_from-clause-stopped
+returns-in_ok-admit_observed-in-Some-take_from-clause-stopped g c = λ some.
+    absurd (not_some c.args.self.now.core.stop (was_running c.self.view_is (admitted_running g c)) some)
+
+pub returns-then-ended-self-clause-stopped : goal.returns-then-ended-self-clause-stopped
+returns-then-ended-self-clause-stopped g c = λ some.
+    absurd (not_some c.args.self.now.core.stop (was_running c.self.view_is (same_running g c)) some)
+
+pub returns-in_err-finish-in-None-clause-stopped : goal.returns-in_err-finish-in-None-clause-stopped
+returns-in_err-finish-in-None-clause-stopped g c = λ some.
+    absurd (not_some c.args.self.now.core.stop (was_running c.self.view_is (refused_running g c)) some)
+
+pub returns-in_ok-finish-in-None-clause-stopped : goal.returns-in_ok-finish-in-None-clause-stopped
+returns-in_ok-finish-in-None-clause-stopped g c = λ some.
+    absurd (not_some c.args.self.now.core.stop (was_running c.self.view_is (finished_running g c)) some)
 
 pub returns-then-ended-self-clause-replies : goal.returns-then-ended-self-clause-replies
 returns-then-ended-self-clause-replies g c =
@@ -470,6 +528,12 @@ returns-in_ok-admit_observed-in-Some-take_from-clause-still_open g c = λ _.
     some_after (admitted_old g c) (admitted_new g c) c.self.inside.next c.in-Some-take_from.proxy
     c.in-Some-take_from.batch (admitted_found g c) c.self.invariant (admitted_running g c) c.admit_observed.ensures.admits.adds.continues refl
     refl refl
+
+pub returns-then-ended-self-clause-still_open : goal.returns-then-ended-self-clause-still_open
+returns-then-ended-self-clause-still_open g c = λ some. absurd (false≢true some)
+
+pub returns-in_ok-finish-in-None-clause-still_open : goal.returns-in_ok-finish-in-None-clause-still_open
+returns-in_ok-finish-in-None-clause-still_open g c = λ some. absurd (false≢true some)
 
 pub returns-in-Some-clause-sees : goal.returns-in-Some-clause-sees
 returns-in-Some-clause-sees g c = step_unchanged (g.O.Observer.has_seen c.args.observer.now) c.args.self.now

@@ -1,5 +1,6 @@
-use Rattle.std.proofs.Common.{rules, ◌≡◌, Result, refl, sym, ap, ◌∙◌, Ok, Err, subst}
+use Rattle.std.proofs.Common.{rules, ◌≡◌, false, Result, refl, sym, ap, ◌∙◌, Ok, Err, subst, arith}
 use Rattle.std.specs.Prelude.{IsSome, is_some}
+use Rattle.std.proofs.lemmas.Grind.{common_steps}
 use Rattle.resolver.specs.declared.stop.Stop.{Stop}
 use Rattle.resolver.specs.declared.turn.Turn.{Turn}
 use Rattle.resolver.specs.Parts.{Parts}
@@ -21,7 +22,7 @@ use Rattle.resolver.proofs.Turning.{
 }
 use Rattle.resolver.proofs.Resolving.{resolving_turned, resolving_stopped}
 use Rattle.resolver.proofs.HeldShares.{beyond_share}
-use Rattle.resolver.proofs.Stops.{residual_is}
+use Rattle.resolver.proofs.Stops.{residual_is, not_some}
 use Rattle.resolver.proofs.resolver.Resolver.turn_observed.Given.{Over}
 use Rattle.resolver.proofs.resolver.Resolver.turn_observed.Goals as goal
 use Rattle.resolver.proofs.resolver.Resolver.turn_observed.Goals.{Joined-branch-2, in-Some, in-None, in-None-2}
@@ -38,7 +39,7 @@ returns-in_err-proxy-clause-turns g c =
     let steps : TurnSteps taken_by c.from_residual.result old new =
     subst (λ (r : Result Turn Stop). TurnSteps taken_by r old new)
     (sym (residual_is c.from_residual.result met c.from_residual.ensures.1))
-    (steps_on h k c.self.inside.closed (Err met) step.steps) in
+    (steps_on old c.step-stepped.new.self c.deliver.new.self new h k false (Err met) step.steps) in
     let stopped : IsSome old.core.stop → TakesNoStep old new =
     λ some. stopped_on h k (c.step-stepped.ensures.stopped some) in
     record {
@@ -47,8 +48,8 @@ returns-in_err-proxy-clause-turns g c =
       resolving = λ version before.
           resolving_stopped version old new before old.core.stop (stop_met_on h k step.steps.stop_met) stopped;
       owed = full_on h k c.step-stepped.ensures.replies;
-      closed = search rules;
-      done = search rules;
+      closed = k.closed;
+      done = first_of (search rules, grind (arith, common_steps));
       beyond_share = λ running is version before.
           let full = steps.gate_full running is in
           beyond_share version old new steps.lanes.count steps.continues.window k.count running before full.0 full.1
@@ -95,14 +96,14 @@ returns-clause-turns g c =
     let is = result_is g c in
     let steps : TurnSteps taken_by (Ok c.match-branch-2.result) old new =
     subst (λ did. TurnSteps taken_by (Ok did) old new) (sym is)
-    (steps_on h k c.self.inside.closed (Ok taken) step.steps) in
+    (steps_on old c.step-stepped.new.self c.deliver.new.self new h k c.self.inside.closed (Ok taken) step.steps) in
     record {
       steps = steps;
-      stopped = search rules;
+      stopped = λ some. absurd (not_some old.core.stop step.«open» some);
       resolving = λ version before.
           resolving_turned version old new before (taken_by c.match-branch-2.result) steps.log;
       owed = full_on h k c.step-stepped.ensures.replies;
-      closed = search rules;
+      closed = k.closed;
       done =
           let inside = c.self.inside in
           let parts : Parts = record { core = inside.core; all_lanes = inside.all_lanes.items; next = inside.next; finished = inside.finished; closed = inside.closed } in
@@ -117,5 +118,5 @@ returns-clause-turns g c =
                 (closed_by parts new c.self.invariant c.self.view_is k.closed)
                 (λ proxy some. step.still_open (ap is_some some)) (both.1, both.2)),
           );
-      beyond_share = search rules;
+      beyond_share = λ running full. absurd cc;
     }

@@ -1,10 +1,21 @@
-use Rattle.std.proofs.Common.{rules, ◌++◌, ◌∷◌, [], Some, sym, subst}
+use Rattle.std.proofs.Common.{rules, ◌≡◌, ◌++◌, ◌∷◌, [], length, Some, sym, ap, subst, ◌∙◌, arith}
+use Rattle.std.proofs.lemmas.Grind.{common_steps}
 use Rattle.keyspace.specs.Run.{Take, run}
 use Rattle.resolver.specs.Core.{CoreState, StopsAtLimit}
 use Rattle.resolver.specs.Stands.{StoppedIn}
 use Rattle.resolver.proofs.Observing.{seen_more, seen_stopped}
-use Rattle.resolver.proofs.Standing.{IsIn-standing, StandsBy-more, StoppedIn-more, MadeBetween-stopped, StopsAtLimit-stopped}
+use Rattle.resolver.proofs.Standing.{IsIn-standing, StandsBy-more, StoppedIn-more, MadeBetween-stopped, StopsAtLimit-stopped, AddsStep-stopped}
 use Rattle.resolver.proofs.resolver_core.Core.admit_observed.Goals as goal
+
+pub returns-in-Some-clause-admits : goal.returns-in-Some-clause-admits
+returns-in-Some-clause-admits g c =
+    let met : c.args.self.now.stop ≡ Some c.in-Some.stop =
+    sym (ap (λ (core : CoreState). core.stop) c.self.view_is) ∙ c.in-Some.is in
+    record {
+      adds = AddsStep-stopped (Take c.args.proxy c.args.batch) c.in-Some.stop c.args.self.now met;
+      gate_full = λ running. absurd cc;
+      arena_full = λ running. absurd cc;
+    }
 
 pub returns-in-Err-clause-admits : goal.returns-in-Err-clause-admits
 returns-in-Err-clause-admits g c =
@@ -19,12 +30,18 @@ returns-in-Err-clause-admits g c =
             (StoppedIn-more old.set.window log x given (record met { stop = stop }) c.take-taken.ensures.advances.continues.window
             (MadeBetween-stopped stop given met _ _
             (c.in-Err.ensures.advances.err (run old.set.window log) given (IsIn-standing old.stop log given old none stands))));
-        «open» = search rules;
-        stops = search rules;
-        stopped = search rules;
-        continues = search rules;
+        «open» = first_of (search rules, grind (arith, common_steps));
+        stops = first_of (search rules, grind (arith, common_steps));
+        stopped = first_of (search rules, grind (arith, common_steps));
+        continues =
+            let k = c.take-taken.ensures.advances.continues in
+            record {
+              window = ap (λ (core : CoreState). core.set.window) c.self-2.view_is ∙ k.window;
+              limit = ap (λ (core : CoreState). core.set.map.limit) c.self-2.view_is ∙ k.limit;
+              proxies = ap (λ (core : CoreState). length core.owed) c.self-2.view_is ∙ k.proxies;
+            };
       };
-      gate_full = search rules;
+      gate_full = first_of (search rules, grind (arith, common_steps));
       arena_full = λ none is log given stands.
           let state = run old.set.window log in
           subst (λ (core : CoreState). StopsAtLimit old.set.map.limit old.set.window c.args.proxy c.args.batch state given
@@ -50,13 +67,13 @@ returns-in_default-taken-clause-admits g c =
             StandsBy-more old.set.window log (Take c.args.proxy c.args.batch) given new c.take-taken.ensures.advances.continues.window
             new.stop c.in_default-taken.ensures.«open»
             (c.in_default-taken.ensures.advances.ok (run old.set.window log) given (IsIn-standing old.stop log given old none stands));
-        «open» = search rules;
-        stops = search rules;
-        stopped = search rules;
-        continues = search rules;
+        «open» = first_of (search rules, grind (arith, common_steps));
+        stops = first_of (search rules, grind (arith, common_steps));
+        stopped = first_of (search rules, grind (arith, common_steps));
+        continues = c.take-taken.ensures.advances.continues;
       };
-      gate_full = search rules;
-      arena_full = search rules;
+      gate_full = first_of (search rules, grind (arith, common_steps));
+      arena_full = first_of (search rules, grind (arith, common_steps));
     }
 
 pub returns-in_default-taken-clause-seen : goal.returns-in_default-taken-clause-seen

@@ -3,9 +3,10 @@ use Rattle.std.proofs.lemmas.Int.{to_z-of_z, ints}
 use Rattle.std.proofs.lemmas.Result.{on_ok_weaker}
 use Rattle.keyspace.specs.Found.{found}
 use Rattle.keyspace.specs.Run.{State, answer}
-use Rattle.resolver.specs.Core.{IsIn}
+use Rattle.resolver.specs.declared.stop.Stop.TheVariants.{GateFull, ArenaFull}
+use Rattle.resolver.specs.Core.{CoreState, IsIn}
 use Rattle.resolver.proofs.Admitting.{admit-repeat, admit-process, less_from_test}
-use Rattle.resolver.proofs.Stops.{OnOk-always}
+use Rattle.resolver.proofs.Stops.{OnOk-always, OnErr-always, memory_alone}
 use Rattle.resolver.proofs.resolver_core.Core.answer.Given.{Over}
 use Rattle.resolver.proofs.resolver_core.Core.answer.Goals as goal
 
@@ -36,13 +37,15 @@ returns-then-batch-self-clause-answers g c = record {
         (ap (λ v. answer proxy (found state.processed proxy v) state) (to_z-of_z w64 b.version fits)
         ∙ sym admitted)
         (ok state given are)) c.repeat.ensures.advances.ok;
-    err = search rules;
-    continues = search rules;
+    err = c.repeat.ensures.advances.err;
+    continues = c.repeat.ensures.advances.continues;
   };
-  «open» = search rules;
-  held = search rules;
-  not_gate = search rules;
-  arena_full = search rules;
+  «open» =
+      OnOk-always c.repeat.result (ap (λ (k : CoreState). k.stop) c.repeat.ensures.others ∙ c.requires.«open»);
+  held = ap (λ (k : CoreState). k.held) c.repeat.ensures.others;
+  not_gate = λ is. let memory = memory_alone c.repeat.result GateFull c.repeat.ensures.memory is in cc;
+  arena_full = λ is state given are.
+      let memory = memory_alone c.repeat.result ArenaFull c.repeat.ensures.memory is in absurd cc;
 }
 
 pub returns-else-batch-self-clause-answers : goal.returns-else-batch-self-clause-answers
@@ -54,13 +57,13 @@ returns-else-batch-self-clause-answers g c = record {
         let admitted = admit-process window c.args.proxy c.args.batch state (next g c ∙ are.version) in
         subst (λ s. IsIn s given c.process.new.self) (sym admitted) (ok state given are))
         c.process.ensures.answers.advances.ok;
-    err = search rules;
-    continues = search rules;
+    err = c.process.ensures.answers.advances.err;
+    continues = c.process.ensures.answers.advances.continues;
   };
-  «open» = search rules;
-  held = search rules;
-  not_gate = search rules;
-  arena_full = search rules;
+  «open» = c.process.ensures.answers.«open»;
+  held = c.process.ensures.answers.held;
+  not_gate = c.process.ensures.answers.not_gate;
+  arena_full = c.process.ensures.answers.arena_full;
 }
 
 pub returns-then-batch-self-clause-shows : goal.returns-then-batch-self-clause-shows
@@ -74,7 +77,7 @@ returns-then-batch-self-clause-shows g c = record {
       let admitted = admit-repeat c.args.self.now.set.window c.args.proxy c.args.batch state
       (omega (arith, ints, is, are.version, below)) in
       subst (λ (s : State). g.O.Observer.has_seen c.args.observer.now s.processed) (sym admitted) seen);
-  unseen = search rules;
+  unseen = OnErr-always c.repeat.result (λ processed seen. seen);
 }
 
 pub returns-else-batch-self-clause-shows : goal.returns-else-batch-self-clause-shows
@@ -84,5 +87,5 @@ returns-else-batch-self-clause-shows g c = record {
       let admitted = admit-process c.args.self.now.set.window c.args.proxy c.args.batch state (next g c ∙ are.version) in
       subst (λ (s : State). g.O.Observer.has_seen c.process.new.observer s.processed) (sym admitted)
       (sees state given are seen)) c.process.ensures.shows.seen;
-  unseen = search rules;
+  unseen = c.process.ensures.shows.unseen;
 }

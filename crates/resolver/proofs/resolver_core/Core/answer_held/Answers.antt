@@ -1,8 +1,10 @@
 use Rattle.std.proofs.Common.{rules, w64, SFits, ◌<◌, length, sym, ap, subst, ◌∙◌, arith}
 use Rattle.std.proofs.lemmas.Int.{to_z-of_z}
+use Rattle.std.proofs.lemmas.Grind.{common_steps}
 use Rattle.keyspace.specs.declared.answer.Answer.TheVariants as reported
 use Rattle.keyspace.specs.Leaving.{Held}
 use Rattle.keyspace.specs.Run.{Finish, step}
+use Rattle.conflict.specs.ConflictSet.{SetState}
 use Rattle.resolver.specs.Owed.{owed_also}
 use Rattle.resolver.specs.Core.{CoreState, core_of, IsIn}
 use Rattle.resolver.proofs.Stops.{OnErr-always}
@@ -43,13 +45,20 @@ invariant_of-self c =
 
 pub returns-in_err-reserve-clause-advances : goal.returns-in_err-reserve-clause-advances
 returns-in_err-reserve-clause-advances c = record {
-  ok = search rules;
+  ok = first_of (search rules, grind (arith, common_steps));
   err =
       OnErr-always c.from_residual.result (λ state given are.
       let d = (goal.at.returns-in_err-reserve-clause-advances c).In-Some in
       MadeBetween-finish c.args.self.now.set.window (old d) (now d) c.loop-proxy.invariant state given
       (subst (IsIn state given) (sym c.self.view_is) are) _ c.reserve.ensures.same);
-  continues = search rules;
+  continues =
+      let t = c.loop-proxy.invariant in
+      record {
+        window = ap (λ (set : SetState). set.window) t.set ∙ ap (λ (k : CoreState). k.set.window) c.self.view_is;
+        limit = ap (λ (set : SetState). set.map.limit) t.set ∙ ap (λ (k : CoreState). k.set.map.limit) c.self.view_is;
+        proxies =
+            ap length c.reserve.ensures.same ∙ t.proxies ∙ ap (λ (k : CoreState). length k.owed) c.self.view_is;
+      };
 }
 
 pub push-requires-clause-known : goal.push-requires-clause-known
@@ -80,6 +89,12 @@ returns-clause-advances c = record {
       (sym c.in_default.ensures.unchanged)
       (IsIn-finish window _ core c.loop-proxy.invariant state given
       (subst (IsIn state given) (sym c.self.view_is) are) c.in_default.ensures.none);
-  err = search rules;
-  continues = search rules;
+  err = tt;
+  continues =
+      let t = c.loop-proxy.invariant in
+      record {
+        window = ap (λ (set : SetState). set.window) t.set ∙ ap (λ (k : CoreState). k.set.window) c.self.view_is;
+        limit = ap (λ (set : SetState). set.map.limit) t.set ∙ ap (λ (k : CoreState). k.set.map.limit) c.self.view_is;
+        proxies = t.proxies ∙ ap (λ (k : CoreState). length k.owed) c.self.view_is;
+      };
 }

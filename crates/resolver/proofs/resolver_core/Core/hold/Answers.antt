@@ -8,6 +8,7 @@ use Rattle.keyspace.specs.Leaving.{Held}
 use Rattle.keyspace.specs.Run.{State, hold}
 use Rattle.resolver.specs.Core.{CoreState, Given, IsIn, core_of}
 use Rattle.resolver.proofs.Admitting.{admit-ahead}
+use Rattle.resolver.proofs.Stops.{OnErr-always}
 use Rattle.resolver.proofs.resolver_core.Core.hold.Goals.{in-Ok, in-Err}
 use Rattle.resolver.proofs.resolver_core.Core.hold.Goals as goal
 
@@ -54,6 +55,10 @@ returns-clause-advances c =
           (omega (arith, ints, are.version, c.requires.ahead)) in
           subst (λ s. IsIn s given (record before { held = c.hold.new.self })) (sym ahead)
           (IsIn-held state given before h c.hold.new.self same was)) held;
-      err = search rules;
-      continues = search rules;
+      err = OnErr-always c.match-hold.result (ap (λ (k : CoreState). k.owed) c.self.view_is);
+      continues = record {
+        window = ap (λ (k : CoreState). k.set.window) c.self.view_is;
+        limit = ap (λ (k : CoreState). k.set.map.limit) c.self.view_is;
+        proxies = ap (λ (k : CoreState). length k.owed) c.self.view_is;
+      };
     }

@@ -1,6 +1,7 @@
-use Rattle.std.proofs.Common.{rules, w64, to_z, of_z, [], None, sym, subst}
+use Rattle.std.proofs.Common.{w64, to_z, of_z, [], length, None, refl, sym, ap, subst, ◌∙◌}
 use Rattle.std.specs.Prelude.{negsuc, ◌≤ℤ◌}
 use Rattle.std.proofs.lemmas.Int.{to_z-of_z}
+use Rattle.std.proofs.lemmas.List.{length-replicate}
 use Rattle.keyspace.specs.Run.{run}
 use Rattle.resolver.specs.Core.{core_of, IsIn}
 use Rattle.resolver.specs.OpeningLog.{opening_log}
@@ -28,8 +29,8 @@ returns-clause-new c =
           c.new-2.ensures.empty c.in-Ok-new.ensures.empty v
           (subst (λ x. negsuc 0 ≤ℤ x) (sym same) c.requires.least_version)
           c.in_ok-set.ensures.remembers (c.in-Ok.ensures.kept set.window));
-      «open» = search rules;
-      proxies = search rules;
-      window = search rules;
-      limit = search rules;
+      «open» = refl;
+      proxies = ap length c.in-Ok-new.ensures.empty ∙ length-replicate c.args.proxies _;
+      window = c.in_ok-set.ensures.window ∙ to_z-of_z w64 c.args.window c.ranges.window;
+      limit = c.in_ok-set.ensures.limit;
     }

@@ -2,6 +2,7 @@ use Rattle.std.proofs.Common.{
   rules,
   ◌≡◌,
   ℕ,
+  ◌<◌,
   ◌++◌,
   List,
   [],
@@ -20,6 +21,10 @@ use Rattle.std.proofs.Common.{
 }
 use Rattle.std.specs.Prelude.{ℤ, ◌<ℤ◌, ◌≤ℤ◌}
 use Rattle.std.proofs.lemmas.Int.{to_z-of_z, ints}
+use Rattle.std.proofs.lemmas.Grind.{common_steps}
+use Rattle.std.specs.List.{All}
+use Rattle.keyspace.specs.Leaving.{Held}
+use Rattle.resolver.specs.declared.stop.Stop.TheVariants.{GateFull, ArenaFull}
 use Rattle.keyspace.specs.declared.answer.Answer.TheVariants as reported
 use Rattle.keyspace.specs.declared.reply.Reply.{Reply}
 use Rattle.keyspace.specs.Writes.{Write, writes, writes_of}
@@ -33,22 +38,72 @@ use Rattle.resolver.specs.Core.{CoreState, Given, core_of, IsIn, kept_also}
 use Rattle.resolver.proofs.Answered.{length-owed_also}
 use Rattle.resolver.proofs.Growing.{made_then}
 use Rattle.resolver.proofs.Kept.{kept_also_past}
-use Rattle.resolver.proofs.Stops.{set_is_full}
+use Rattle.resolver.proofs.Stops.{set_is_full, set_not_gate, same_stop, OnErr-always}
 use Rattle.resolver.proofs.Processing.{absent_later, IsCore-later, IsIn-process, over_processed}
 use Rattle.resolver.proofs.resolver_core.Core.process.Given.{Over}
 use Rattle.resolver.proofs.resolver_core.Core.process.Goals as goal
 use Rattle.resolver.proofs.resolver_core.Core.process.Goals.{In-Ok}
 
+pub returns-in_err-reserve-clause-answers : goal.returns-in_err-reserve-clause-answers
+returns-in_err-reserve-clause-answers g c = record {
+  advances = record {
+    ok = first_of (search rules, grind (arith, common_steps));
+    err = OnErr-always c.from_residual.result (c.reserve.ensures.same ∙ ap (λ (k : CoreState). k.owed) c.self.view_is);
+    continues = record {
+      window = ap (λ (k : CoreState). k.set.window) c.self.view_is;
+      limit = ap (λ (k : CoreState). k.set.map.limit) c.self.view_is;
+      proxies = ap length c.reserve.ensures.same ∙ ap (λ (k : CoreState). length k.owed) c.self.view_is;
+    };
+  };
+  «open» = first_of (search rules, grind (arith, common_steps));
+  held = ap (λ (k : CoreState). k.held) c.self.view_is;
+  not_gate = first_of (search rules, grind (arith, common_steps));
+  arena_full = first_of (search rules, grind (arith, common_steps));
+}
+
+pub returns-in_err-reserve-clause-shows : goal.returns-in_err-reserve-clause-shows
+returns-in_err-reserve-clause-shows g c = record {
+  seen = first_of (search rules, grind (arith, common_steps));
+  unseen = OnErr-always c.from_residual.result (λ processed seen. seen);
+}
+
+-- the core is in order where its conflict set has stopped
+pub invariant_of-self-in-Err : goal.invariant_of-self-in-Err
+invariant_of-self-in-Err g c =
+    let running = c.self.invariant.takes_more (ap (λ (k : CoreState). k.stop) c.self.view_is ∙ c.requires.«open») in
+    let known = c.self.invariant.remembers in
+    let map = c.in-Err.ensures.stops.map running in
+    record {
+      takes_more = λ none. absurd cc;
+      resolved = λ _.
+          subst (λ v. v ≤ℤ c.self.inside.version) (sym c.in-Err.ensures.stops.resolved)
+          (c.self.invariant.resolved running);
+      remembers = (
+        known.0,
+        record { covers = map.covers known.0 known.1.covers; rooted = map.rooted known.0 known.1.rooted },
+      );
+      known =
+          subst (λ n. All (λ (h : Held). h.0 < n) c.self.inside.gate) (sym (ap length c.in_ok-reserve.ensures.same))
+          c.self.invariant.known;
+      past = c.self.invariant.past;
+    }
+
 pub returns-in-Err-clause-answers : goal.returns-in-Err-clause-answers
 returns-in-Err-clause-answers g c = record {
   advances = record {
-    ok = search rules;
-    err = search rules;
-    continues = search rules;
+    ok = tt;
+    err = c.in_ok-reserve.ensures.same ∙ ap (λ (k : CoreState). k.owed) c.self.view_is;
+    continues =
+        let running = c.self.invariant.takes_more (ap (λ (k : CoreState). k.stop) c.self.view_is ∙ c.requires.«open») in
+        record {
+          window = c.in-Err.ensures.stops.window ∙ ap (λ (k : CoreState). k.set.window) c.self.view_is;
+          limit = (c.in-Err.ensures.stops.map running).limit ∙ ap (λ (k : CoreState). k.set.map.limit) c.self.view_is;
+          proxies = ap length c.in_ok-reserve.ensures.same ∙ ap (λ (k : CoreState). length k.owed) c.self.view_is;
+        };
   };
-  «open» = search rules;
-  held = search rules;
-  not_gate = search rules;
+  «open» = tt;
+  held = ap (λ (k : CoreState). k.held) c.self.view_is;
+  not_gate = λ is. set_not_gate c.in-Err.stop (cc (is, c.from-stop.ensures));
   arena_full = λ is state given are.
       let full = set_is_full c.in-Err.stop (cc (is, c.from-stop.ensures)) in
       let was = subst (IsIn state given) (sym c.self.view_is) are in
@@ -70,6 +125,9 @@ returns-in-Err-clause-answers g c = record {
             (over_processed set.map.limit set.window state c.args.proxy batch over);
       };
 }
+
+pub returns-in-Err-clause-shows : goal.returns-in-Err-clause-shows
+returns-in-Err-clause-shows g c = record { seen = tt; unseen = λ processed seen. seen }
 
 module _ (g : Over) (c : In-Ok g) where
   -- the core before
@@ -109,6 +167,13 @@ module _ (g : Over) (c : In-Ok g) where
   remembers_some =
       let old = c.self.invariant.remembers in
       (old.0 ++ writes_of c.args.batch c.in-Ok.reply, remembers old.0 old.1)
+
+  -- the set has the same window and limit
+  window_same : c.resolve.new.self.window ≡ c.args.self.now.set.window
+  window_same = c.in-Ok.ensures.resolves.window ∙ ap (λ (k : CoreState). k.set.window) c.self.view_is
+
+  limit_same : c.resolve.new.self.map.limit ≡ c.args.self.now.set.map.limit
+  limit_same = c.in-Ok.ensures.resolves.map.limit ∙ ap (λ (k : CoreState). k.set.map.limit) c.self.view_is
 
   -- no reply is kept of a version above the batch's, once its own is kept
   past : (now : ℤ) → now ≡ c.args.batch.version → (received : ℤ) (proxy : ℕ) (v : ℤ) (reply : Reply)
@@ -187,13 +252,84 @@ returns-clause-answers g c = record {
               c.push.ensures.answers
               ∙ ap (owed_also c.args.proxy (reported.Reply reply)) c.in_ok-reserve.ensures.same;
         });
-    err = search rules;
-    continues = search rules;
+    err = tt;
+    continues =
+        let d = (goal.at.returns-clause-answers g c).In-Ok in
+        record {
+          window = window_same g d;
+          limit = limit_same g d;
+          proxies =
+              ap length c.push.ensures.answers
+              ∙ length-owed_also c.args.proxy (reported.Reply c.in-Ok.reply) c.reserve.new.self.answers
+              ∙ ap length c.in_ok-reserve.ensures.same ∙ ap (λ (k : CoreState). length k.owed) c.self.view_is;
+        };
   };
-  «open» = search rules;
-  held = search rules;
-  not_gate = search rules;
-  arena_full = search rules;
+  «open» = ap (λ (k : CoreState). k.stop) c.self.view_is ∙ c.requires.«open»;
+  held = ap (λ (k : CoreState). k.held) c.self.view_is;
+  not_gate = λ is. cc;
+  arena_full = λ is. absurd cc;
+}
+
+pub returns-in_err-keep-clause-answers : goal.returns-in_err-keep-clause-answers
+returns-in_err-keep-clause-answers g c =
+    let d = (goal.at.returns-in_err-keep-clause-answers g c).In-Ok in
+    record {
+      advances = record {
+        ok = first_of (search rules, grind (arith, common_steps));
+        err =
+            OnErr-always c.from_residual-in_err-keep.result
+            (c.in_ok-reserve.ensures.same ∙ ap (λ (k : CoreState). k.owed) c.self.view_is);
+        continues = record {
+          window = window_same g d;
+          limit = limit_same g d;
+          proxies = ap length c.in_ok-reserve.ensures.same ∙ ap (λ (k : CoreState). length k.owed) c.self.view_is;
+        };
+      };
+      «open» = first_of (search rules, grind (arith, common_steps));
+      held = ap (λ (k : CoreState). k.held) c.self.view_is;
+      not_gate = λ is.
+          let met = same_stop c.from_residual-in_err-keep.result c.in_err-keep.field-0.0 GateFull
+          c.from_residual-in_err-keep.ensures.1 is in
+          let memory = c.in_err-keep.ensures.memory in
+          cc (met, memory);
+      arena_full = λ is state given are.
+          let met = same_stop c.from_residual-in_err-keep.result c.in_err-keep.field-0.0 ArenaFull
+          c.from_residual-in_err-keep.ensures.1 is in
+          let memory = c.in_err-keep.ensures.memory in
+          absurd (cc (met, memory));
+    }
+
+pub returns-in_err-keep-clause-shows : goal.returns-in_err-keep-clause-shows
+returns-in_err-keep-clause-shows g c = record {
+  seen = first_of (search rules, grind (arith, common_steps));
+  unseen = OnErr-always c.from_residual-in_err-keep.result (λ processed seen. seen);
+}
+
+pub returns-in_err-see-clause-answers : goal.returns-in_err-see-clause-answers
+returns-in_err-see-clause-answers g c =
+    let d = (goal.at.returns-in_err-see-clause-answers g c).In-Ok in
+    record {
+      advances = record {
+        ok = first_of (search rules, grind (arith, common_steps));
+        err =
+            OnErr-always c.from_residual-in_err-see.result
+            (c.in_ok-reserve.ensures.same ∙ ap (λ (k : CoreState). k.owed) c.self.view_is);
+        continues = record {
+          window = window_same g d;
+          limit = limit_same g d;
+          proxies = ap length c.in_ok-reserve.ensures.same ∙ ap (λ (k : CoreState). length k.owed) c.self.view_is;
+        };
+      };
+      «open» = first_of (search rules, grind (arith, common_steps));
+      held = ap (λ (k : CoreState). k.held) c.self.view_is;
+      not_gate = first_of (search rules, grind (arith, common_steps));
+      arena_full = first_of (search rules, grind (arith, common_steps));
+    }
+
+pub returns-in_err-see-clause-shows : goal.returns-in_err-see-clause-shows
+returns-in_err-see-clause-shows g c = record {
+  seen = first_of (search rules, grind (arith, common_steps));
+  unseen = OnErr-always c.from_residual-in_err-see.result c.in_err-see.ensures.unseen;
 }
 
 pub see-requires : goal.see-requires
@@ -209,5 +345,5 @@ returns-clause-shows g c = record {
       subst (λ (reply : Reply). g.O.Observer.has_seen c.see.new.self
       (state.processed ++ record { proxy = c.args.proxy; batch = c.args.batch; reply = reply } ∷ []))
       (judged g d state given was) (c.in_ok-see.ensures.seen state.processed seen);
-  unseen = search rules;
+  unseen = tt;
 }

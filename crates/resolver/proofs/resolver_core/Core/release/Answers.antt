@@ -1,9 +1,10 @@
-use Rattle.std.proofs.Common.{rules, ◌≡◌, w64, SFits, None, Err, sym, ap, subst, ◌∙◌, arith}
+use Rattle.std.proofs.Common.{rules, ◌≡◌, length, w64, SFits, None, Err, sym, ap, subst, ◌∙◌, arith}
 use Rattle.std.proofs.lemmas.Int.{to_z-of_z, ints}
+use Rattle.std.proofs.lemmas.Grind.{common_steps}
 use Rattle.keyspace.specs.Leaving.{Held, next_due}
 use Rattle.keyspace.specs.Laws.{Leaves}
 use Rattle.keyspace.specs.Run.{State, admit, leave, leave_all}
-use Rattle.resolver.specs.declared.stop.Stop.TheVariants.{ArenaFull}
+use Rattle.resolver.specs.declared.stop.Stop.TheVariants.{GateFull, ArenaFull}
 use Rattle.resolver.specs.Core.{CoreState, Given, core_of, IsIn, Continues, StopsIn}
 use Rattle.resolver.proofs.Growing.{Grows, grows_leave, grows_leave_all, MadeBetween-grown}
 use Rattle.resolver.proofs.Stops.{OnErr-always, same_stop}
@@ -90,7 +91,7 @@ answer-requires-clause-known g c =
 
 pub returns-in_err-answer-clause-advances : goal.returns-in_err-answer-clause-advances
 returns-in_err-answer-clause-advances g c = record {
-  ok = search rules;
+  ok = first_of (search rules, grind (arith, common_steps));
   err =
       OnErr-always c.from_residual.result (λ state given are.
       let d = (goal.at.returns-in_err-answer-clause-advances g c).In-Some in
@@ -100,8 +101,16 @@ returns-in_err-answer-clause-advances g c = record {
       MadeBetween-grown state s (leave_all window state) given (before g d) c.answer.new.self r.are
       c.in_err-answer.ensures.answers.advances.err (grows_leave r.turns window state)
       (subst (Grows s) r.same (grows_leave_all window s)));
-  continues = search rules;
+  continues =
+      let d = (goal.at.returns-in_err-answer-clause-advances g c).In-Some in
+      Continues-then c.args.self.now (without g d) c.answer.new.self (continues g d)
+      c.answer.ensures.answers.advances.continues;
 }
+
+pub returns-in_err-answer-clause-not_gate : goal.returns-in_err-answer-clause-not_gate
+returns-in_err-answer-clause-not_gate g c = λ is.
+    c.in_err-answer.ensures.answers.not_gate
+    (ap Err (same_stop c.from_residual.result c.in_err-answer.field-0.0 GateFull c.from_residual.ensures.1 is))
 
 pub returns-in_err-answer-clause-arena_full : goal.returns-in_err-answer-clause-arena_full
 returns-in_err-answer-clause-arena_full g c = λ is state given are.
@@ -118,6 +127,13 @@ returns-in_err-answer-clause-arena_full g c = λ is state given are.
     (subst (λ w. StopsIn set.map.limit w s c.in-Some.proxy c.in-Some.batch given new) (continues g d).window
     (subst (λ n. StopsIn n c.self.inside.set.window s c.in-Some.proxy c.in-Some.batch given new)
     (continues g d).limit stops))
+
+pub loop-proxy-smaller : goal.loop-proxy-smaller
+loop-proxy-smaller g c =
+    let held = ap length c.answer.ensures.answers.held in
+    let is = ap (λ (core : CoreState). length core.held) c.self.view_is in
+    let fewer = c.in-Some.ensures.fewer in
+    omega (arith, held, is, fewer)
 
 pub loop-proxy-preserved : goal.loop-proxy-preserved
 loop-proxy-preserved g c =
@@ -142,7 +158,7 @@ loop-proxy-preserved g c =
 
 pub returns-in_err-answer-clause-shows : goal.returns-in_err-answer-clause-shows
 returns-in_err-answer-clause-shows g c = record {
-  seen = search rules;
+  seen = first_of (search rules, grind (arith, common_steps));
   seen_between =
       OnErr-always c.from_residual.result (λ state given are.
       let d = (goal.at.returns-in_err-answer-clause-shows g c).In-Some in
@@ -178,8 +194,10 @@ returns-clause-advances g c = record {
       subst (λ hs. IsIn (leave_all window state) given (record (last g d) { held = hs })) (sym c.in_default.ensures.unchanged)
       (IsIn-reached window state given (last g d) (g.O.Observer.has_seen c.args.observer.now)
       (g.O.Observer.has_seen c.loop-proxy.observer) (reached_last g d state given are) (none g d));
-  err = search rules;
-  continues = search rules;
+  err = tt;
+  continues =
+      let now = subst (Continues c.args.self.now) (sym c.self.view_is) c.loop-proxy.invariant.continues in
+      record { window = now.window; limit = now.limit; proxies = now.proxies };
 }
 
 pub returns-clause-shows : goal.returns-clause-shows
@@ -188,5 +206,5 @@ returns-clause-shows g c = record {
       let d = (goal.at.returns-clause-shows g c).In_default in
       seen_reached c.args.self.now.set.window state given (last g d) (g.O.Observer.has_seen c.args.observer.now)
       (g.O.Observer.has_seen c.loop-proxy.observer) (reached_last g d state given are) (none g d);
-  seen_between = search rules;
+  seen_between = tt;
 }

@@ -1,11 +1,37 @@
 use Rattle.std.proofs.Common.{rules, w64, length, sym, ap, subst, ◌∙◌, arith}
+use Rattle.std.proofs.lemmas.Grind.{common_steps}
 use Rattle.std.proofs.lemmas.Int.{to_z-of_z}
 use Rattle.keyspace.specs.Found.{found, reply_or_never}
 use Rattle.chain.specs.Replies.{reply_of}
 use Rattle.resolver.specs.Owed.{owed_also}
-use Rattle.resolver.specs.Core.{IsIn}
-use Rattle.resolver.proofs.Answered.{IsIn-answer}
+use Rattle.resolver.specs.Core.{CoreState, IsIn}
+use Rattle.resolver.proofs.Answered.{IsIn-answer, length-owed_also}
+use Rattle.resolver.proofs.Stops.{OnErr-always}
 use Rattle.resolver.proofs.resolver_core.Core.repeat.Goals as goal
+
+pub returns-in_err-reserve-clause-advances : goal.returns-in_err-reserve-clause-advances
+returns-in_err-reserve-clause-advances c = record {
+  ok = first_of (search rules, grind (arith, common_steps));
+  err = OnErr-always c.from_residual.result (c.reserve.ensures.same ∙ ap (λ (k : CoreState). k.owed) c.self.view_is);
+  continues = record {
+    window = ap (λ (k : CoreState). k.set.window) c.self.view_is;
+    limit = ap (λ (k : CoreState). k.set.map.limit) c.self.view_is;
+    proxies = ap length c.reserve.ensures.same ∙ ap (λ (k : CoreState). length k.owed) c.self.view_is;
+  };
+}
+
+pub returns-in_err-answer-clause-advances : goal.returns-in_err-answer-clause-advances
+returns-in_err-answer-clause-advances c = record {
+  ok = first_of (search rules, grind (arith, common_steps));
+  err =
+      OnErr-always c.from_residual-in_err-answer.result
+      (c.reserve.ensures.same ∙ ap (λ (k : CoreState). k.owed) c.self.view_is);
+  continues = record {
+    window = ap (λ (k : CoreState). k.set.window) c.self.view_is;
+    limit = ap (λ (k : CoreState). k.set.map.limit) c.self.view_is;
+    proxies = ap length c.reserve.ensures.same ∙ ap (λ (k : CoreState). length k.owed) c.self.view_is;
+  };
+}
 
 pub returns-clause-advances : goal.returns-clause-advances
 returns-clause-advances c = record {
@@ -21,6 +47,13 @@ returns-clause-advances c = record {
       (omega (arith, proxies))
       (c.push.ensures.answers ∙ ap (λ a. owed_also proxy a c.reserve.new.self.answers) is
       ∙ ap (owed_also proxy (found state.processed proxy c.args.version)) c.in_ok-reserve.ensures.same);
-  err = search rules;
-  continues = search rules;
+  err = tt;
+  continues = record {
+    window = ap (λ (k : CoreState). k.set.window) c.self.view_is;
+    limit = ap (λ (k : CoreState). k.set.map.limit) c.self.view_is;
+    proxies =
+        ap length c.push.ensures.answers
+        ∙ length-owed_also c.args.proxy c.in_ok-answer.answer c.reserve.new.self.answers
+        ∙ ap length c.reserve.ensures.same ∙ ap (λ (k : CoreState). length k.owed) c.self.view_is;
+  };
 }

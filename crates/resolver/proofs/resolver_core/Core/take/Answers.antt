@@ -1,11 +1,12 @@
-use Rattle.std.proofs.Common.{rules, ◌≡◌, length, w64, SFits, Err, inl, inr, sym, ap, subst, arith}
+use Rattle.std.proofs.Common.{rules, ◌≡◌, length, w64, SFits, Err, inl, inr, sym, ap, subst, ◌∙◌, arith}
 use Rattle.std.specs.Prelude.{◌<ℤ◌}
 use Rattle.std.proofs.lemmas.Int.{ints}
+use Rattle.std.proofs.lemmas.Grind.{common_steps}
 use Rattle.std.proofs.lemmas.Result.{on_ok_weaker, on_err_weaker}
 use Rattle.keyspace.specs.Run.{State, Take, admit, leave_all}
 use Rattle.chain.specs.declared.gate.TheConstants.{MAX_HELD}
-use Rattle.resolver.specs.declared.stop.Stop.TheVariants.{ArenaFull}
-use Rattle.resolver.specs.Core.{Given, IsIn, Continues, MadeBetween, StopsAsTheyLeave}
+use Rattle.resolver.specs.declared.stop.Stop.TheVariants.{GateFull, ArenaFull}
+use Rattle.resolver.specs.Core.{CoreState, Given, IsIn, Continues, MadeBetween, StopsAsTheyLeave}
 use Rattle.resolver.specs.Observed.{HasSeenBetween}
 use Rattle.resolver.proofs.Admitting.{admit-ahead, less_from_test, at_most_from_test}
 use Rattle.resolver.proofs.Stops.{OnErr-always, same_stop}
@@ -22,23 +23,38 @@ use Rattle.resolver.proofs.resolver_core.Core.take.Goals.{
 
 pub returns-in_err-hold-clause-advances : goal.returns-in_err-hold-clause-advances
 returns-in_err-hold-clause-advances g c = record {
-  ok = search rules;
+  ok = first_of (search rules, grind (arith, common_steps));
   err =
       OnErr-always c.from_residual.result (λ state given are.
       MadeBetween-step c.args.self.now.set.window (Take c.args.proxy c.args.batch) state given c.args.self.now
       c.hold.new.self are c.in_err-hold.ensures.advances.err);
-  continues = search rules;
+  continues = c.hold.ensures.advances.continues;
 }
 
 pub returns-in_err-answer-clause-advances : goal.returns-in_err-answer-clause-advances
 returns-in_err-answer-clause-advances g c = record {
-  ok = search rules;
+  ok = first_of (search rules, grind (arith, common_steps));
   err =
       OnErr-always c.from_residual-in_err-answer.result (λ state given are.
       MadeBetween-step c.args.self.now.set.window (Take c.args.proxy c.args.batch) state given c.args.self.now
       c.answer.new.self are c.in_err-answer.ensures.answers.advances.err);
-  continues = search rules;
+  continues = c.answer.ensures.answers.advances.continues;
 }
+
+pub returns-in_err-answer-clause-gate_full : goal.returns-in_err-answer-clause-gate_full
+returns-in_err-answer-clause-gate_full g c = (
+  λ is.
+      absurd (c.in_err-answer.ensures.answers.not_gate (ap Err (same_stop c.from_residual-in_err-answer.result
+      c.in_err-answer.field-0.0 GateFull c.from_residual-in_err-answer.ensures.1 is))),
+  λ full.
+      let previous : SFits w64 c.args.batch.previous = search rules in
+      let version : SFits w64 c.self.inside.version = search rules in
+      let is = ap (λ b. b.version) c.self.view_is in
+      let ahead = full.0 in
+      let due = at_most_from_test c.self.inside.version c.args.batch.previous version previous
+      c.if-batch-self.false in
+      absurd (omega (arith, ints, is, ahead, due)),
+)
 
 pub returns-in_err-answer-clause-arena_full : goal.returns-in_err-answer-clause-arena_full
 returns-in_err-answer-clause-arena_full g c = λ is state given are.
@@ -91,9 +107,20 @@ module _ (g : Over) (c : After-release g) where
             (w.in_ok-answer.ensures.shows.seen state given are seen)
       ]
 
+-- the core takes more, where the batch is held or answered
+pub release-requires : goal.release-requires
+release-requires g c = record {
+  «open» = elim c.if-batch-self.branch [
+    | then-batch-self+in_ok-hold w ↦
+        ap (λ (k : CoreState). k.stop) w.self-is ∙ w.hold.ensures.stop ∙ c.requires.«open»
+    | else-batch-self+in_ok-answer w ↦
+        ap (λ (k : CoreState). k.stop) w.self-is ∙ w.in_ok-answer.ensures.answers.«open»
+  ];
+}
+
 pub returns-in_err-hold-clause-shows : goal.returns-in_err-hold-clause-shows
 returns-in_err-hold-clause-shows g c = record {
-  seen = search rules;
+  seen = first_of (search rules, grind (arith, common_steps));
   seen_between =
       OnErr-always c.from_residual.result (λ state given are seen.
       seen_none (g.O.Observer.has_seen c.args.observer.now) c.args.self.now.set.window (Take c.args.proxy c.args.batch)
@@ -102,7 +129,7 @@ returns-in_err-hold-clause-shows g c = record {
 
 pub returns-in_err-answer-clause-shows : goal.returns-in_err-answer-clause-shows
 returns-in_err-answer-clause-shows g c = record {
-  seen = search rules;
+  seen = first_of (search rules, grind (arith, common_steps));
   seen_between =
       OnErr-always c.from_residual-in_err-answer.result (λ state given are seen.
       seen_none (g.O.Observer.has_seen c.answer.new.observer) c.args.self.now.set.window (Take c.args.proxy c.args.batch)

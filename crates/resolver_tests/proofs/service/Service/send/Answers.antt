@@ -14,5 +14,5 @@ invariant_of-self c =
           (clients_set clients c.args.proxy client (record { requests = c.send.new.self; replies = client.replies })
           (slice_get_read clients s.clients.len c.args.proxy client s.clients.ok.0 (omega arith)
           c.index_mut.ensures.value)
-          (record { requests = c.send.ensures.port; replies = intake_same client.replies }));
+          (record { requests = c.send.ensures.sends.port; replies = intake_same client.replies }));
     }

@@ -14,5 +14,5 @@ invariant_of-self c =
           (clients_set clients c.args.proxy client (record { requests = client.requests; replies = c.take.new.self })
           (slice_get_read clients s.clients.len c.args.proxy client s.clients.ok.0 (omega arith)
           c.index_mut.ensures.value)
-          (record { requests = port_same client.requests; replies = c.take.ensures.intake }));
+          (record { requests = port_same client.requests; replies = c.take.ensures.takes.intake }));
     }
