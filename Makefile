@@ -48,7 +48,7 @@ rust-package: rust
 library-unproved:
 	cargo/library
 
-# Tests the Cargo edition in two minutes, without the Rattle toolchain: the eraser, the programs
+# Tests the Cargo edition in minutes, without the Rattle toolchain: the eraser, the programs
 # beside what the documents say, the crates, and the crate archcaraway beside `replay --resolvers`.
 quick-test: quick
 	cd cargo && python3 -m unittest discover --quiet --pattern 'test_*.py'
