@@ -15,8 +15,8 @@ use Rattle.batches_program.specs.Failing.{BeginsWithLine, FailsFrame, FailsLine,
 use Rattle.batches_program.specs.Clipping.{BeginsTooLong, ClipsTooLong, FailsClip, IsClipAt, IsFailureOfClip}
 use Rattle.batches_program.specs.declared.failure.Failure.{Failure}
 use Rattle.batches_program.specs.declared.failure.Failure.TheVariants as failure
-use Rattle.batches_program.specs.declared.kind.Kind.{Kind}
-use Rattle.batches_program.specs.declared.kind.Kind.TheVariants.{Batches, Replies}
+use Rattle.batches_arguments.specs.declared.kind.Kind.{Kind}
+use Rattle.batches_arguments.specs.declared.kind.Kind.TheVariants.{Batches, Replies}
 
 first_fault : (kind : Kind) (fault : WireError) (left now : Option (List ℕ)) (frame : List ℕ) → Consumes left now frame
     → frame ≢ [] → (length frame < frame_length frame → IsAtEnd now) → fault_of kind frame ≡ Some fault

@@ -10,7 +10,7 @@ use Rattle.wire.proofs.callers.Known.{consumes_none, consumes_then}
 use Rattle.batches_program.specs.Counting.{StopsAfterFrames}
 use Rattle.batches_program.specs.Failing.{FailsFrame}
 use Rattle.batches_program.specs.declared.failure.Failure.{Failure}
-use Rattle.batches_program.specs.declared.kind.Kind.TheVariants.{Batches}
+use Rattle.batches_arguments.specs.declared.kind.Kind.TheVariants.{Batches}
 
 pub frames_last : (bytes part : List ℕ) (batches : List Batch) (batch : Batch) → AreFrames bytes batches → IsFrameOf part batch
     → AreFrames (bytes ++ part) (batches ++ batch ∷ [])

@@ -11,7 +11,7 @@ use Rattle.wire.specs.NextFrame.{IsFrameOf}
 use Rattle.batches_program.specs.Failing.{FailsFrame, IsFailureOfFrame}
 use Rattle.batches_program.specs.declared.failure.Failure.{Failure}
 use Rattle.batches_program.specs.declared.failure.Failure.TheVariants as failure
-use Rattle.batches_program.specs.declared.kind.Kind.TheVariants.{Batches}
+use Rattle.batches_arguments.specs.declared.kind.Kind.TheVariants.{Batches}
 
 -- what the shard of this number, of those that the split points make, gets of a batch
 abbrev pub IsClipAt : List (List ℕ) → ℕ → Batch → Batch → Type 0

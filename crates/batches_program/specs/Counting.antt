@@ -6,7 +6,7 @@ use Rattle.wire.specs.Upgrade.{AreFrames}
 use Rattle.batches_program.specs.Failing.{FailsFrame}
 use Rattle.batches_program.specs.Stats.{stats_of}
 use Rattle.batches_program.specs.declared.failure.Failure.{Failure}
-use Rattle.batches_program.specs.declared.kind.Kind.TheVariants.{Batches}
+use Rattle.batches_arguments.specs.declared.kind.Kind.TheVariants.{Batches}
 use Rattle.batches_program.specs.declared.stats.Stats.{Stats}
 
 -- The bytes that were left are the frames of some batches, and the failure is that of the frame after them.

@@ -17,8 +17,8 @@ use Rattle.json_lines.specs.Replies.{reply_of}
 use Rattle.batches_program.specs.Lines.{is_blank}
 use Rattle.batches_program.specs.declared.failure.Failure.{Failure}
 use Rattle.batches_program.specs.declared.failure.Failure.TheVariants as failure
-use Rattle.batches_program.specs.declared.kind.Kind.{Kind}
-use Rattle.batches_program.specs.declared.kind.Kind.TheVariants.{Batches, Replies}
+use Rattle.batches_arguments.specs.declared.kind.Kind.{Kind}
+use Rattle.batches_arguments.specs.declared.kind.Kind.TheVariants.{Batches, Replies}
 
 -- the line spells no value of this kind, or isn't text
 abbrev pub SpellsNothing : Kind → List ℕ → Type 0

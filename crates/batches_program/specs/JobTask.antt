@@ -2,9 +2,9 @@
 use Rattle.std.specs.Prelude.{ℕ, List, Option}
 use Rattle.batches_program.specs.Lines.{BecomesFrame, BecomesLine, IsShown}
 use Rattle.batches_program.specs.Turned.{TurnsAll}
-use Rattle.batches_program.specs.declared.kind.Kind.{Kind}
-use Rattle.batches_program.specs.declared.task.JobTask.{JobTask}
-use Rattle.batches_program.specs.declared.task.JobTask.TheVariants.{Encode, Decode, Show}
+use Rattle.batches_arguments.specs.declared.kind.Kind.{Kind}
+use Rattle.batches_arguments.specs.declared.task.JobTask.{JobTask}
+use Rattle.batches_arguments.specs.declared.task.JobTask.TheVariants.{Encode, Decode, Show}
 
 -- what a part of the input becomes
 abbrev pub Becomes : JobTask → Kind → List ℕ → List ℕ → Type 0

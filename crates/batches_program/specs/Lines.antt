@@ -13,8 +13,8 @@ use Rattle.json_lines.specs.Replies.{reply_of}
 use Rattle.json_lines.specs.Written.{batch_line, reply_line}
 use Rattle.batches_program.specs.declared.form.OutputForm.{OutputForm}
 use Rattle.batches_program.specs.declared.form.OutputForm.TheVariants.{Line, Table}
-use Rattle.batches_program.specs.declared.kind.Kind.{Kind}
-use Rattle.batches_program.specs.declared.kind.Kind.TheVariants.{Batches, Replies}
+use Rattle.batches_arguments.specs.declared.kind.Kind.{Kind}
+use Rattle.batches_arguments.specs.declared.kind.Kind.TheVariants.{Batches, Replies}
 
 -- the frame, of wire version 2, is that of the batch that the line spells
 abbrev pub IsBatchFrame : List ℕ → List ℕ → Type 0

@@ -9,13 +9,13 @@ ghost use Rattle.batches_program.specs.Failing.{FailsLine, IsFailureOfLine};
 ghost use Rattle.batches_program.specs.ErrorText.{ReportsText, progress_length};
 ghost use Rattle.batches_program.specs.Turned.{Stops, TurnsAll};
 ghost use Rattle.batches_program.specs.declared.failure.Failure.TheVariants.{Write};
-ghost use Rattle.batches_program.specs.declared.kind.Kind.TheVariants.{Batches, Replies};
+ghost use Rattle.batches_arguments.specs.declared.kind.Kind.TheVariants.{Batches, Replies};
 
 use crate::column::column_of;
 use crate::failure::Failure;
 use crate::json_tokens::is_space;
-use crate::kind::Kind;
 use crate::progress::FileProgress;
+use batches_arguments::Kind;
 use json_lines::{Scratch, read_batch, read_reply};
 use std::alloc::Global;
 use std::io::BufRead;

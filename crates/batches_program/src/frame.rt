@@ -8,7 +8,7 @@ ghost use Rattle.wire.specs.NextFrame.{IsFrameOf};
 ghost use Rattle.wire.specs.Spelling.{SpellsReply};
 ghost use Rattle.batches_program.specs.Failing.{FailsFrame, IsFailureOfFrame};
 ghost use Rattle.batches_program.specs.declared.failure.Failure.TheVariants.{Memory, Read};
-ghost use Rattle.batches_program.specs.declared.kind.Kind.TheVariants.{Batches, Replies};
+ghost use Rattle.batches_arguments.specs.declared.kind.Kind.TheVariants.{Batches, Replies};
 
 use crate::failure::Failure;
 use keyspace::{Batch, Reply};

@@ -2,15 +2,14 @@
 //! what batches have, and clips them to shards.
 //!
 //! [`run`] is the program `batches` over the words and the files of its environment, and any sinks.
-//! `words` reads the command line, and `failure` tells what went wrong. The other calls work over
-//! any streams: [`encode`], [`decode`] and [`show`]; [`write_opening`]; [`count_frames`] with
-//! [`text_of_stats`] and [`json_of_stats`]; [`read_batches`] with [`split_points`]; and
-//! [`read_points`] with [`clip_frames`].
+//! The crate `batches_arguments` reads the command line, and `failure` tells what went wrong. The
+//! other calls work over any streams: [`encode`], [`decode`] and [`show`]; [`write_opening`];
+//! [`count_frames`] with [`text_of_stats`] and [`json_of_stats`]; [`read_batches`] with
+//! [`split_points`]; and [`read_points`] with [`clip_frames`].
 #![tactic(auto)]
 
 mod clipper;
 mod column;
-mod command;
 mod converter;
 mod counter;
 mod decoder;
@@ -19,11 +18,9 @@ mod failure;
 mod form;
 mod frame;
 mod frame_tally;
-mod job;
 mod jobs;
 mod json_fault;
 mod json_tokens;
-mod kind;
 pub mod laws;
 mod opening_batch;
 mod points;
@@ -39,9 +36,7 @@ mod stats_json;
 mod stats_text;
 mod status;
 mod table;
-mod task;
 mod viewer;
-mod words;
 
 pub use clipper::clip_frames;
 pub use converter::convert;
@@ -50,7 +45,6 @@ pub use decoder::decode;
 pub use encoder::encode;
 pub use failure::{Failure, fail, fail_in};
 pub use frame_tally::{tally_batches, tally_replies};
-pub use kind::Kind;
 pub use opening_batch::write_opening;
 pub use points::{lines_of_points, read_points};
 pub use program::run;
@@ -61,5 +55,4 @@ pub use stats::{Stats, TxnCounts};
 pub use stats_json::json_of_stats;
 pub use stats_text::text_of_stats;
 pub use status::JobStatus;
-pub use task::JobTask;
 pub use viewer::show;

@@ -13,9 +13,9 @@ use crate::decoder::line_of;
 use crate::failure::Failure;
 use crate::form::OutputForm;
 use crate::frame::next_frame;
-use crate::kind::Kind;
 use crate::progress::FileProgress;
 use crate::viewer::table_of;
+use batches_arguments::Kind;
 use std::alloc::Global;
 use wire::{Sink, Source, write_all};
 

@@ -5,13 +5,12 @@ ghost use Rattle.batches_program.specs.ErrorText.{ReportsText, ReportsLine};
 
 use crate::converter::convert;
 use crate::failure::{Failure, fail, fail_in};
-use crate::job::{Job, JobLine};
 use crate::jobs::{OUTPUT, fail_between, print_points, print_stats, write_clips};
 use crate::opening_batch::write_opening;
 use crate::progress::{FileProgress, LONG_FILE};
 use crate::report_page::write_report;
 use crate::status::JobStatus;
-use crate::words::{ArgumentsStop, read_words};
+use batches_arguments::{ArgumentsStop, Job, JobLine, read_words};
 use std::alloc::Global;
 use std::fs::{File, Files};
 use std::io::BufReader;

@@ -5,9 +5,9 @@ ghost use Rattle.batches_program.specs.ErrorText.{ReportsLine};
 
 use crate::failure::{Failure, fail_in};
 use crate::frame_tally::{tally_batches, tally_replies};
-use crate::job::STANDARD_INPUT;
 use crate::jobs::{open, print, shown};
 use crate::status::JobStatus;
+use batches_arguments::STANDARD_INPUT;
 use batches_report::{ReportInputs, Tally, page_of};
 use std::fs;
 use std::fs::{File, Files, Metadata, OpenOptions};

@@ -7,15 +7,15 @@ ghost use Rattle.batches_program.specs.Lines.{IsShown};
 ghost use Rattle.batches_program.specs.ErrorText.{ReportsText, progress_length};
 ghost use Rattle.batches_program.specs.Turned.{Stops, TurnsAll};
 ghost use Rattle.batches_program.specs.declared.failure.Failure.TheVariants.{Read, Write};
-ghost use Rattle.batches_program.specs.declared.kind.Kind.TheVariants.{Batches, Replies};
+ghost use Rattle.batches_arguments.specs.declared.kind.Kind.TheVariants.{Batches, Replies};
 
 use crate::failure::Failure;
 use crate::form::OutputForm;
 use crate::frame::{batch_in, reply_in};
-use crate::kind::Kind;
 use crate::printer::print_frames;
 use crate::progress::FileProgress;
 use crate::table::{batch_table, reply_table};
+use batches_arguments::Kind;
 use std::alloc::Global;
 use wire::{Sink, Source};
 

@@ -1,6 +1,6 @@
 use Rattle.std.proofs.Common.{Err, inl, inr, refl, ap, sym, subst}
 use Rattle.batches_program.specs.Failing.{IsFailureOfLine}
-use Rattle.batches_program.specs.declared.kind.Kind.TheVariants.{Replies}
+use Rattle.batches_arguments.specs.declared.kind.Kind.TheVariants.{Replies}
 use Rattle.batches_program.proofs.encoder.reply_frame.Goals as goal
 
 pub returns-in-Ok-clause-fails : goal.returns-in-Ok-clause-fails

@@ -5,7 +5,7 @@ use Rattle.std.proofs.lemmas.Result.{err_from_is_err_and}
 use Rattle.wire.proofs.callers.Frames.{at_least_four}
 use Rattle.wire.proofs.callers.Known.{none_before}
 use Rattle.batches_program.specs.Failing.{IsFailureOfFrame}
-use Rattle.batches_program.specs.declared.kind.Kind.TheVariants.{Batches}
+use Rattle.batches_arguments.specs.declared.kind.Kind.TheVariants.{Batches}
 use Rattle.batches_program.proofs.Failures.{frame_fails}
 use Rattle.batches_program.proofs.frame.next_batch.Goals as goal
 

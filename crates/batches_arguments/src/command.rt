@@ -10,23 +10,44 @@ const EXAMPLE: &str =
 
 /// Returns the command of the program.
 pub fn command<'a>(alloc: Global) -> Result<Command<'a>, AllocError> {
-    let command = Command::new(alloc, "batches")
+    let converting = add_conversions(alloc, program(alloc))?;
+    add_counts(alloc, converting)
+}
+
+// Returns the command without its subcommands.
+fn program<'a>(alloc: Global) -> Command<'a> {
+    Command::new(alloc, "batches")
         .version("0.2.0")
         .about(
             "Turns lines of JSON into frames of batches or replies and back, and looks at frames",
         )
         .after_long_help(EXAMPLE)
         .subcommand_required(true)
-        .arg_required_else_help(true);
-    command
-        .subcommand(encode(alloc)?)?
-        .subcommand(decode(alloc)?)?
-        .subcommand(show(alloc)?)?
-        .subcommand(opening(alloc)?)?
-        .subcommand(stats(alloc)?)?
-        .subcommand(split_points(alloc)?)?
-        .subcommand(clip(alloc)?)?
-        .subcommand(report(alloc)?)
+        .arg_required_else_help(true)
+}
+
+// Adds the subcommands that convert, and the one that starts a chain.
+fn add_conversions<'a>(alloc: Global, command: Command<'a>) -> Result<Command<'a>, AllocError> {
+    let encoding = add(command, encode(alloc))?;
+    let decoding = add(encoding, decode(alloc))?;
+    let showing = add(decoding, show(alloc))?;
+    add(showing, opening(alloc))
+}
+
+// Adds the subcommands that count batches, or clip them to shards.
+fn add_counts<'a>(alloc: Global, command: Command<'a>) -> Result<Command<'a>, AllocError> {
+    let counting = add(command, stats(alloc))?;
+    let splitting = add(counting, split_points(alloc))?;
+    let clipping = add(splitting, clip(alloc))?;
+    add(clipping, report(alloc))
+}
+
+// Adds a subcommand, if there was memory for it.
+fn add<'a>(
+    command: Command<'a>,
+    subcommand: Result<Command<'a>, AllocError>,
+) -> Result<Command<'a>, AllocError> {
+    command.subcommand(subcommand?)
 }
 
 fn encode<'a>(alloc: Global) -> Result<Command<'a>, AllocError> {
@@ -52,68 +73,87 @@ fn show<'a>(alloc: Global) -> Result<Command<'a>, AllocError> {
 }
 
 fn opening<'a>(alloc: Global) -> Result<Command<'a>, AllocError> {
-    let version = number(alloc, "version", "V", ValueParser::signed(0, i64::MAX)).help(
-        "The version of the batch: every read below it conflicts",
-    );
     Command::new(alloc, "opening")
         .about("Writes the frame of the batch that starts a chain at a version")
-        .arg(version)
+        .arg(version(alloc))
 }
 
 fn stats<'a>(alloc: Global) -> Result<Command<'a>, AllocError> {
-    let json = Arg::new(alloc, "json")
-        .long("json")
-        .action(ArgAction::SetTrue)
-        .help("Prints one object of JSON");
     Command::new(alloc, "stats")
         .about("Reads frames of batches and prints what they add up to")
-        .arg(json)?
+        .arg(json(alloc))?
         .arg(files(alloc))
 }
 
 fn split_points<'a>(alloc: Global) -> Result<Command<'a>, AllocError> {
-    let parser = ValueParser::unsigned(1, MAX_SPLIT_POINTS as u64 + 1);
-    let resolvers = number(alloc, "resolvers", "K", parser).help(
-        "How many resolvers share the keys, from 1 to 64",
-    );
     Command::new(alloc, "split-points")
         .about("Reads frames of batches, prints keys that split their ranges evenly, one per line")
-        .arg(resolvers)?
+        .arg(resolvers(alloc))?
         .arg(files(alloc))
 }
 
 fn clip<'a>(alloc: Global) -> Result<Command<'a>, AllocError> {
-    let points = Arg::new(alloc, "split-points")
-        .long("split-points")
-        .value_name("POINTS")
-        .required(true)
-        .help("The file of the split points, one key per line");
-    let parser = ValueParser::unsigned(0, MAX_SPLIT_POINTS as u64);
-    let shard = number(alloc, "shard", "I", parser).help("The number of the shard, from 0");
     Command::new(alloc, "clip")
         .about("Reads frames of batches and writes those of one resolver's shard")
-        .arg(points)?
-        .arg(shard)?
+        .arg(points(alloc))?
+        .arg(shard(alloc))?
         .arg(file(alloc))
 }
 
 fn report<'a>(alloc: Global) -> Result<Command<'a>, AllocError> {
-    let replies = Arg::new(alloc, "replies")
+    Command::new(alloc, "report")
+        .about("Reads frames of batches and of their replies and writes a page of HTML")
+        .arg(replies_of_report(alloc))?
+        .arg(output(alloc))?
+        .arg(files(alloc))
+}
+
+fn version<'a>(alloc: Global) -> Arg<'a> {
+    number(alloc, "version", "V", ValueParser::signed(0, i64::MAX)).help(
+        "The version of the batch: every read below it conflicts",
+    )
+}
+
+fn json<'a>(alloc: Global) -> Arg<'a> {
+    Arg::new(alloc, "json")
+        .long("json")
+        .action(ArgAction::SetTrue)
+        .help("Prints one object of JSON")
+}
+
+fn resolvers<'a>(alloc: Global) -> Arg<'a> {
+    let parser = ValueParser::unsigned(1, MAX_SPLIT_POINTS as u64 + 1);
+    number(alloc, "resolvers", "K", parser).help("How many resolvers share the keys, from 1 to 64")
+}
+
+fn points<'a>(alloc: Global) -> Arg<'a> {
+    Arg::new(alloc, "split-points")
+        .long("split-points")
+        .value_name("POINTS")
+        .required(true)
+        .help("The file of the split points, one key per line")
+}
+
+fn shard<'a>(alloc: Global) -> Arg<'a> {
+    let parser = ValueParser::unsigned(0, MAX_SPLIT_POINTS as u64);
+    number(alloc, "shard", "I", parser).help("The number of the shard, from 0")
+}
+
+fn replies_of_report<'a>(alloc: Global) -> Arg<'a> {
+    Arg::new(alloc, "replies")
         .long("replies")
         .value_name("REPLIES")
         .action(ArgAction::Append)
         .required(true)
-        .help("A file of the frames of replies; once for each");
-    let output = Arg::new(alloc, "output")
+        .help("A file of the frames of replies; once for each")
+}
+
+fn output<'a>(alloc: Global) -> Arg<'a> {
+    Arg::new(alloc, "output")
         .short('o')
         .long("output")
         .value_name("PAGE")
-        .help("The file to write; standard output where none is given");
-    Command::new(alloc, "report")
-        .about("Reads frames of batches and of their replies and writes a page of HTML")
-        .arg(replies)?
-        .arg(output)?
-        .arg(files(alloc))
+        .help("The file to write; standard output where none is given")
 }
 
 // A required option that is a number.
