@@ -72,16 +72,22 @@ fn put_range(
 fn shown(alloc: Global, key: &[u8], full: bool) -> Result<String, AllocError> {
     let mut form = Vec::new(alloc);
     put_key_form(&mut form, key)?;
-    let cut = !full && form.len() > MAX_WIDTH;
-    if cut {
+    if !full && form.len() > MAX_WIDTH {
         form.truncate(MAX_WIDTH - 3);
+        quoted(alloc, &form, "...\"")
+    } else {
+        quoted(alloc, &form, "\"")
     }
+}
+
+// Returns the text of a printed form between a quote and this end.
+fn quoted(alloc: Global, form: &[u8], end: &str) -> Result<String, AllocError> {
     let mut text = String::with_capacity(alloc, form.len() + 5)?;
     text.push('"')?;
-    for byte in &form {
+    for byte in form {
         text.push(char::from(*byte))?;
     }
-    text.push_str(if cut { "...\"" } else { "\"" })?;
+    text.push_str(end)?;
     Ok(text)
 }
 
