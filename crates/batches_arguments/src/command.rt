@@ -115,10 +115,7 @@ fn version<'a>(alloc: Global) -> Arg<'a> {
 }
 
 fn json<'a>(alloc: Global) -> Arg<'a> {
-    Arg::new(alloc, "json")
-        .long("json")
-        .action(ArgAction::SetTrue)
-        .help("Prints one object of JSON")
+    flag(alloc, "json").help("Prints one object of JSON")
 }
 
 fn resolvers<'a>(alloc: Global) -> Arg<'a> {
@@ -127,9 +124,7 @@ fn resolvers<'a>(alloc: Global) -> Arg<'a> {
 }
 
 fn points<'a>(alloc: Global) -> Arg<'a> {
-    Arg::new(alloc, "split-points")
-        .long("split-points")
-        .value_name("POINTS")
+    valued(alloc, "split-points", "POINTS")
         .required(true)
         .help("The file of the split points, one key per line")
 }
@@ -140,43 +135,24 @@ fn shard<'a>(alloc: Global) -> Arg<'a> {
 }
 
 fn replies_of_report<'a>(alloc: Global) -> Arg<'a> {
-    Arg::new(alloc, "replies")
-        .long("replies")
-        .value_name("REPLIES")
+    valued(alloc, "replies", "REPLIES")
         .action(ArgAction::Append)
         .required(true)
         .help("A file of the frames of replies; once for each")
 }
 
 fn output<'a>(alloc: Global) -> Arg<'a> {
-    Arg::new(alloc, "output")
+    valued(alloc, "output", "PAGE")
         .short('o')
-        .long("output")
-        .value_name("PAGE")
         .help("The file to write; standard output where none is given")
 }
 
-// A required option that is a number.
-fn number<'a>(alloc: Global, name: &'a str, value: &'a str, parser: ValueParser<'a>) -> Arg<'a> {
-    Arg::new(alloc, name)
-        .long(name)
-        .value_name(value)
-        .value_parser(parser)
-        .required(true)
-}
-
 fn replies<'a>(alloc: Global) -> Arg<'a> {
-    Arg::new(alloc, "replies")
-        .long("replies")
-        .action(ArgAction::SetTrue)
-        .help("The frames are those of replies, and not of batches")
+    flag(alloc, "replies").help("The frames are those of replies, and not of batches")
 }
 
 fn full<'a>(alloc: Global) -> Arg<'a> {
-    Arg::new(alloc, "full")
-        .long("full")
-        .action(ArgAction::SetTrue)
-        .help("Prints wide keys whole, and doesn't cut them")
+    flag(alloc, "full").help("Prints wide keys whole, and doesn't cut them")
 }
 
 fn file<'a>(alloc: Global) -> Arg<'a> {
@@ -187,4 +163,21 @@ fn files<'a>(alloc: Global) -> Arg<'a> {
     Arg::new(alloc, "FILE").action(ArgAction::Append).help(
         "The files to read; standard input where none is given, or -",
     )
+}
+
+// An option without a value.
+fn flag<'a>(alloc: Global, name: &'a str) -> Arg<'a> {
+    Arg::new(alloc, name).long(name).action(ArgAction::SetTrue)
+}
+
+// A required option that is a number.
+fn number<'a>(alloc: Global, name: &'a str, value: &'a str, parser: ValueParser<'a>) -> Arg<'a> {
+    valued(alloc, name, value)
+        .value_parser(parser)
+        .required(true)
+}
+
+// An option with a value.
+fn valued<'a>(alloc: Global, name: &'a str, value: &'a str) -> Arg<'a> {
+    Arg::new(alloc, name).long(name).value_name(value)
 }
