@@ -1,5 +1,5 @@
 -- Which failure comes of the next line or frame, whose number is counted from 1.
-use Rattle.std.specs.Prelude.{◌≡◌, ℕ, ◌+◌, ◌<◌, ◌≤◌, List, length, Option, Some, None, IfSome, IsTrue, not}
+use Rattle.std.specs.Prelude.{◌≡◌, ℕ, ◌<◌, List, length, Option, Some, None, IfSome, IsTrue, not}
 use Rattle.std.specs.Str.{IsUtf8}
 use Rattle.std.specs.Io.BufRead.{take_through}
 use Rattle.keyspace.specs.declared.batch.Batch.{Batch}
@@ -12,6 +12,7 @@ use Rattle.wire.specs.Spelling.{batch_body, reply_body}
 use Rattle.wire.specs.Reading.{batch_fault, reply_fault}
 use Rattle.wire.specs.NextFrame.{IsFaultOf}
 use Rattle.wire.specs.NextReply.{IsReplyFaultOf}
+use Rattle.json_columns.specs.Columns.{IsColumnOf}
 use Rattle.json_lines.specs.Batches.{batch_of}
 use Rattle.json_lines.specs.Replies.{reply_of}
 use Rattle.batches_tasks.specs.Lines.{is_blank}
@@ -31,10 +32,6 @@ SpellsTooMuch Batches line = (batch : Batch) × (batch_of line ≡ Some (batch_f
     × (MAX_BODY_LENGTH < length (batch_body Two (batch_fields batch)))
 SpellsTooMuch Replies line = (reply : Reply) × (reply_of line ≡ Some (reply_fields reply))
     × (MAX_BODY_LENGTH < length (reply_body (reply_fields reply)))
-
--- from 1, for the first byte, to one past the last one
-abbrev pub IsColumnOf : List ℕ → ℕ → Type 0
-IsColumnOf line column = (0 < column) × (column ≤ length line + 1)
 
 -- the line spells no value of this kind, and the column is one of it
 abbrev pub IsRefusedAt : Kind → ℕ → List ℕ → Type 0

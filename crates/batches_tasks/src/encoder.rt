@@ -11,11 +11,10 @@ ghost use Rattle.batches_tasks.specs.Turned.{Stops, TurnsAll};
 ghost use Rattle.batches_tasks.specs.declared.failure.Failure.TheVariants.{Write};
 ghost use Rattle.batches_arguments.specs.declared.kind.Kind.TheVariants.{Batches, Replies};
 
-use crate::column::column_of;
 use crate::failure::Failure;
-use crate::json_tokens::is_space;
 use crate::progress::FileProgress;
 use batches_arguments::Kind;
+use json_columns::{column_of, is_space};
 use json_lines::{Scratch, read_batch, read_reply};
 use std::alloc::Global;
 use std::io::BufRead;

@@ -9,7 +9,6 @@
 #![tactic(auto)]
 
 mod clipper;
-mod column;
 mod converter;
 mod counter;
 mod decoder;
@@ -18,8 +17,6 @@ mod failure;
 mod form;
 mod frame;
 mod frame_tally;
-mod json_fault;
-mod json_tokens;
 pub mod laws;
 mod opening_batch;
 mod points;

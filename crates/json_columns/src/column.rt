@@ -1,6 +1,6 @@
 //! The column at which the fault of a line begins.
 
-ghost use Rattle.batches_tasks.specs.Failing.{IsColumnOf};
+ghost use Rattle.json_columns.specs.Columns.{IsColumnOf};
 
 use crate::json_fault::fault_in;
 use crate::json_tokens::{JsonToken, next_token};
