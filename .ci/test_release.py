@@ -13,7 +13,7 @@ PLACES = {
     "cargo/erase.py": r'^VERSION = "',
     "bindings/python/pyproject.toml": r'^version = "',
     "crates/replay_arguments/src/arguments/command.rt": r'^const VERSION: &str = "',
-    "crates/batches_program/src/command.rt": r'^ *\.version\("',
+    "crates/batches_arguments/src/command.rt": r'^ *\.version\("',
     "crates/workload_program/src/command.rt": r'^ *\.version\("',
     "docs/batches.1": r'^\.TH .*"batches ',
     "docs/replay.1": r'^\.TH .*"replay ',

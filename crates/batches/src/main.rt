@@ -5,7 +5,8 @@
 //! streams of the process.
 #![tactic(auto)]
 
-use batches_program::{Failure, JobStatus, fail, run};
+use batches_program::run;
+use batches_tasks::{Failure, JobStatus, fail};
 use std::io::{BufWriter, IsTerminal};
 use wire::StdSink;
 

@@ -2,18 +2,13 @@
 
 ghost use Rattle.std.specs.Prelude.{◌≡◌, ◌<◌, length, OnOk};
 ghost use Rattle.serial.specs.Shards.{shards};
-ghost use Rattle.batches_program.specs.ErrorText.{ReportsLine};
+ghost use Rattle.batches_tasks.specs.ErrorText.{ReportsLine};
 
-use crate::clipper::clip_frames;
-use crate::counter::count_frames;
-use crate::failure::{Failure, fail, fail_in};
-use crate::job::STANDARD_INPUT;
-use crate::points::read_points;
-use crate::sample::{read_batches, split_points};
-use crate::stats::Stats;
-use crate::stats_json::json_of_stats;
-use crate::stats_text::text_of_stats;
-use crate::status::JobStatus;
+use batches_arguments::STANDARD_INPUT;
+use batches_tasks::{
+    Failure, JobStatus, Stats, clip_frames, count_frames, fail, fail_in, json_of_stats,
+    read_batches, read_points, split_points, text_of_stats,
+};
 use keyspace::Batch;
 use shards::SplitPoints;
 use std::alloc::Global;

@@ -1,65 +1,11 @@
-//! Turns lines of JSON into frames of batches or replies and back, shows frames as a table, counts
-//! what batches have, and clips them to shards.
+//! The program `batches` without its `main`.
 //!
-//! [`run`] is the program `batches` over the words and the files of its environment, and any sinks.
-//! `words` reads the command line, and `failure` tells what went wrong. The other calls work over
-//! any streams: [`encode`], [`decode`] and [`show`]; [`write_opening`]; [`count_frames`] with
-//! [`text_of_stats`] and [`json_of_stats`]; [`read_batches`] with [`split_points`]; and
-//! [`read_points`] with [`clip_frames`].
+//! [`run`] reads the command line (`batches_arguments`), opens the files that it names, and does
+//! the task that it asks for over their streams (`batches_tasks`).
 #![tactic(auto)]
 
-mod clipper;
-mod column;
-mod command;
-mod converter;
-mod counter;
-mod decoder;
-mod encoder;
-mod failure;
-mod form;
-mod frame;
-mod frame_tally;
-mod job;
 mod jobs;
-mod json_fault;
-mod json_tokens;
-mod kind;
-pub mod laws;
-mod opening_batch;
-mod points;
-mod printer;
 mod program;
-mod progress;
-mod put;
 mod report_page;
-mod sample;
-mod spread;
-mod stats;
-mod stats_json;
-mod stats_text;
-mod status;
-mod table;
-mod task;
-mod viewer;
-mod words;
 
-pub use clipper::clip_frames;
-pub use converter::convert;
-pub use counter::count_frames;
-pub use decoder::decode;
-pub use encoder::encode;
-pub use failure::{Failure, fail, fail_in};
-pub use frame_tally::{tally_batches, tally_replies};
-pub use kind::Kind;
-pub use opening_batch::write_opening;
-pub use points::{lines_of_points, read_points};
 pub use program::run;
-pub use progress::FileProgress;
-pub use sample::{read_batches, split_points};
-pub use spread::Spread;
-pub use stats::{Stats, TxnCounts};
-pub use stats_json::json_of_stats;
-pub use stats_text::text_of_stats;
-pub use status::JobStatus;
-pub use task::JobTask;
-pub use viewer::show;

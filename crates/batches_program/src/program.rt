@@ -1,17 +1,14 @@
 //! What the command line asks for, done.
 
 ghost use Rattle.std.specs.Prelude.{◌≡◌, IsTrue, OnOk, not};
-ghost use Rattle.batches_program.specs.ErrorText.{ReportsText, ReportsLine};
+ghost use Rattle.batches_tasks.specs.ErrorText.{ReportsText, ReportsLine};
 
-use crate::converter::convert;
-use crate::failure::{Failure, fail, fail_in};
-use crate::job::{Job, JobLine};
 use crate::jobs::{OUTPUT, fail_between, print_points, print_stats, write_clips};
-use crate::opening_batch::write_opening;
-use crate::progress::{FileProgress, LONG_FILE};
 use crate::report_page::write_report;
-use crate::status::JobStatus;
-use crate::words::{ArgumentsStop, read_words};
+use batches_arguments::{ArgumentsStop, Job, JobLine, read_words};
+use batches_tasks::{
+    Failure, FileProgress, JobStatus, LONG_FILE, convert, fail, fail_in, write_opening,
+};
 use std::alloc::Global;
 use std::fs::{File, Files};
 use std::io::BufReader;

@@ -1,14 +1,12 @@
 //! A page of what batches and the replies to them add up to.
 
 ghost use Rattle.std.specs.Prelude.{◌≡◌};
-ghost use Rattle.batches_program.specs.ErrorText.{ReportsLine};
+ghost use Rattle.batches_tasks.specs.ErrorText.{ReportsLine};
 
-use crate::failure::{Failure, fail_in};
-use crate::frame_tally::{tally_batches, tally_replies};
-use crate::job::STANDARD_INPUT;
 use crate::jobs::{open, print, shown};
-use crate::status::JobStatus;
+use batches_arguments::STANDARD_INPUT;
 use batches_report::{ReportInputs, Tally, page_of};
+use batches_tasks::{Failure, JobStatus, fail_in, tally_batches, tally_replies};
 use std::fs;
 use std::fs::{File, Files, Metadata, OpenOptions};
 use std::os::unix::fs::MetadataExt;

@@ -1,4 +1,4 @@
-use Rattle.batches_program.proofs.Reporting.{line_after}
+use Rattle.batches_tasks.proofs.callers.Reporting.{line_after}
 use Rattle.batches_program.proofs.program.convert_file.Goals as goal
 
 pub returns-in-Err-clause-reported : goal.returns-in-Err-clause-reported

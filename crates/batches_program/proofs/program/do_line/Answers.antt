@@ -1,4 +1,4 @@
-use Rattle.batches_program.proofs.Reporting.{reports_then}
+use Rattle.batches_tasks.proofs.callers.Reporting.{reports_then}
 use Rattle.batches_program.proofs.program.do_line.Goals as goal
 
 pub returns-clause-reported : goal.returns-clause-reported

@@ -1,9 +1,0 @@
-mod Turning
-mod Failures
-mod Reporting
-mod FramesRead
-mod Adding
-mod EveryKey
-mod CountedSoFar
-mod TalliedSoFar
-mod PointLines

@@ -1,6 +1,0 @@
-use Rattle.std.proofs.Common.{◌≡◌, drop}
-use Rattle.batches_program.specs.Lines.{is_blank}
-use Rattle.batches_program.proofs.encoder.is_blank.Given as goal
-
-abbrev pub invariant-loop-byte : goal.invariant-loop-byte
-invariant-loop-byte l = is_blank (drop l.byte-index l.line) ≡ is_blank l.line

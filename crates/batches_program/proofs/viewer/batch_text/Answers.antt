@@ -1,4 +1,0 @@
-use Rattle.batches_program.proofs.viewer.batch_text.Goals as goal
-
-pub returns-clause-shown : goal.returns-clause-shown
-returns-clause-shown c = (c.in_ok-batch.batch, c.in_ok-batch.ensures.batch)

@@ -1,0 +1,2 @@
+-- lemmas that proofs of the crates above may cite
+pub mod Reporting
