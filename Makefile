@@ -74,7 +74,8 @@ rust-plant: quick
 
 # The proved edition: everything below needs the Rattle toolchain with its command `rt`.
 
-# Proves and builds the program, and runs it once.
+# Proves and builds the program, and runs it once. `make test` builds it, too: it proves crates side
+# by side, and this one after the other.
 replay:
 	cd crates/replay && rt run -- ../../examples/first_run
 	@echo 'The proved program: crates/replay/out/replay'
@@ -175,13 +176,13 @@ more-edits:
 refused-memory:
 	.ci/refused-memory
 
-# Behind `make replay`: deals a chain of batches to pipes of which some stall, and compares what the
-# program prints.
+# After `make test` or `make replay`: deals a chain of batches to pipes of which some stall, and
+# compares what the program prints.
 stalled-pipes:
 	.ci/stalled-pipes
 
-# After `make replay`, runs `replay --stream` over pipes and looks at what comes while they are
-# open. Then runs the proxy of examples/pipes.
+# After `make test` or `make replay`, runs `replay --stream` over pipes and looks at what comes
+# while they are open. Then runs the proxy of examples/pipes.
 live-pipes:
 	.ci/live-pipes
 	.ci/pipes-test crates/replay/out/replay
