@@ -12,18 +12,14 @@ use Rattle.keyspace.specs.Judged.{edge}
 use Rattle.keyspace.specs.Processed.{Processed}
 use Rattle.explanations.specs.Written.{Written}
 use Rattle.explanations.specs.Explains.{explaining}
-use Rattle.json_lines.specs.KeyForm.{key_form}
+use Rattle.json_lines.specs.KeyForm.{quoted_key}
 use Rattle.replay_explanations.specs.declared.form.ExplanationForm.{ExplanationForm}
 use Rattle.replay_explanations.specs.declared.form.ExplanationForm.TheVariants.{Words, Json}
 use Rattle.replay_explanations.specs.Json.{conflict_json, member_json, too_old_json}
 
--- a key in its printed form, in quotes
-abbrev pub quoted : List ℕ → List ℕ
-quoted key = codes "\"" ++ key_form key ++ codes "\""
-
 -- a range: its begin and its end
 abbrev pub range_form : Range → List ℕ
-range_form range = codes "[" ++ quoted range.begin ++ codes "," ++ quoted range.end ++ codes ")"
+range_form range = codes "[" ++ quoted_key range.begin ++ codes "," ++ quoted_key range.end ++ codes ")"
 
 -- whether the write is one of the reader's own batch, which has this version
 abbrev pub origin : ℤ → Written → List ℕ
