@@ -72,7 +72,9 @@ pub fn sort_lines(alloc: Global, received: &mut [Vec<Line>]) -> Result<(), usize
     Ok(())
 }
 
-fn print_sorted<W: Sink>(out: &mut W, sorted: &[Vec<Line>]) -> Result<(), Failed>
+/// Prints lines that are sorted, those of each proxy in turn. After an error a prefix of the text is
+/// written.
+pub fn print_sorted<W: Sink>(out: &mut W, sorted: &[Vec<Line>]) -> Result<(), Failed>
     ensures entire { OnOk result (Appends (W.given out.old) (W.given out.new)
         (texts (map vec_items sorted.now))) }
     ensures prefix { OnErr result (IfSome (W.given out.new) (λ _.
