@@ -37,3 +37,4 @@ pub use start::{StartError, fail_to_start, print_start_error};
 pub use status::Status;
 pub use stream::{AnswerError, print_line};
 pub use unwritten::{all_written, print_unwritten};
+pub use version::version_of;
