@@ -32,7 +32,7 @@ pub use batch::read_batch;
 pub use batch_writer::write_batch;
 pub use cause::Cause;
 pub use json::Scratch;
-pub use key_form::{put_key_form, put_quoted_key, read_key};
+pub use key_form::{put_key_form, put_quoted_key, read_key, read_key_line};
 pub use member::Member;
 pub use place::LinePlace;
 pub use range_writer::put_key;
