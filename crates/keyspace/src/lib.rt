@@ -42,7 +42,7 @@ pub use ranges_ref::RangesRef;
 pub use reply::{Entry, Places, Reply, Verdict};
 pub use row::Row;
 pub use sequence::Sequence;
-pub use span::Span;
+pub use span::{Span, bytes_at};
 pub use tables::Tables;
 pub use txn::{MAX_RANGES, Txn};
 pub use txn_ref::TxnRef;
