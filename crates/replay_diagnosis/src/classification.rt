@@ -55,3 +55,29 @@ fn is_json(position: Position, front: &[u8]) -> bool
 {
     position.offset == 0 && front[0] == b'{'
 }
+
+// Returns what is at a position where the frame has this fault: a reply, or neither.
+fn without_batch(alloc: Global, position: Position, front: &[u8], fault: WireError) -> Finding
+    requires some { 0 < length front.now }
+    requires complete { frame_length front.now ≤ length front.now }
+    requires fault { batch_fault front.now ≡ Some fault }
+    requires no_json { IsNoJson position front.now }
+    ensures finding { IsFindingAt position (Some front.now) result }
+    ensures readable { ¬ IsUnreadable result }
+{
+    match reply_length(alloc, front) {
+        Ok(_) => Finding::Reply(position),
+        Err(WireError::Memory) => Finding::Memory,
+        Err(_) => Finding::NotAFrame(position, fault),
+    }
+}
+
+// Returns how many bytes the frame of a reply at the front has, or its fault.
+fn reply_length(alloc: Global, front: &[u8]) -> Result<usize, WireError>
+    ensures reply { IfOk result (λ length. (reply : ReplyValue)
+        × SpellsReply (take length front.now) reply) }
+    ensures fault { IfErr result (λ e. e ≢ WireError.Memory → reply_fault front.now ≡ Some e) }
+{
+    let (_, length) = decode_reply(alloc, front)?;
+    Ok(length)
+}
