@@ -87,17 +87,21 @@ impl Checked {
     fn finish(self, batches: usize) -> Option<Self>
         ensures text { IfSome result (λ checked. checked.text.items
             ≡ self.text.items ++ last_line batches self.difference_count) }
-        ensures differences { IfSome result (λ checked. checked.difference_count ≡ self.difference_count) }
+        ensures differences { IfSome result
+            (λ checked. checked.difference_count ≡ self.difference_count) }
     {
         let Checked {
             mut text,
-            differences,
+            difference_count,
         } = self;
         write!(
             &mut text,
-            "checked {batches} batches, {differences} differences\n"
+            "checked {batches} batches, {difference_count} differences\n"
         )
         .ok()?;
-        Some(Checked { text, differences })
+        Some(Checked {
+            text,
+            difference_count,
+        })
     }
 }

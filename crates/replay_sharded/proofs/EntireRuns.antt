@@ -66,7 +66,7 @@ all_entire style proxies runs combined are all has = λ m e inside.
           let in_failures : k < length combined.failures.items =
           omega (arith, below, are.failures_count proxies has, combined.failures.ok.0) in
           let lines = some_at (map vec_items combined.lines.items) k in_lines in
-          let failure = there combined.failures.items k in_failures in
+          let failure = some_at combined.failures.items k in_failures in
           let clean = all_at IsClean combined.failures.items k failure.0 all.clean failure.1 in
           let together = are.each k lines.0 failure.0 lines.1 failure.1 in
           let no_fault = sym together.together.fault ∙ (sym together.fault ∙ clean.0) in
