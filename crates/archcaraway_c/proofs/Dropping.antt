@@ -5,8 +5,8 @@ use Rattle.std.proofs.lemmas.List.Elements.{All-take}
 use Rattle.std.proofs.lemmas.Slice.{between_is}
 use Rattle.keyspace.specs.declared.span.Span.{Span}
 use Rattle.keyspace.specs.declared.row.Row.{Row}
-use Rattle.keyspace.specs.Fields.{TxnFields, TxnLimits}
-use Rattle.keyspace.specs.Tables.{range_of_span, txn_of_row, txns_from, txns_of_tables, LiesWithin, AreRows, AreTables}
+use Rattle.keyspace.specs.storage.Fields.{TxnFields, TxnLimits}
+use Rattle.keyspace.specs.storage.Tables.{range_of_span, txn_of_row, txns_from, txns_of_tables, LiesWithin, AreRows, AreTables}
 use Rattle.keyspace.proofs.callers.Rows.{rows_rise}
 
 front_within : (from : ℕ) (rows : List Row) (count middle to : ℕ) → AreRows from (take count rows) middle

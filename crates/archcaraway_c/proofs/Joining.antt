@@ -4,8 +4,8 @@ use Rattle.std.proofs.lemmas.List.{length-map}
 use Rattle.std.proofs.lemmas.List.Elements.{All-nil, All-cons, All-map, All-weaker, All-append, All-take, All-drop}
 use Rattle.keyspace.specs.declared.span.Span.{Span}
 use Rattle.keyspace.specs.declared.row.Row.{Row}
-use Rattle.keyspace.specs.Fields.{TxnFields, TxnLimits}
-use Rattle.keyspace.specs.Tables.{range_of_span, txn_of_row, txns_from, txns_of_tables, LiesWithin, AreRows, AreTables}
+use Rattle.keyspace.specs.storage.Fields.{TxnFields, TxnLimits}
+use Rattle.keyspace.specs.storage.Tables.{range_of_span, txn_of_row, txns_from, txns_of_tables, LiesWithin, AreRows, AreTables}
 use Rattle.keyspace.proofs.callers.Rows.{rows_rise}
 use Rattle.keyspace.proofs.callers.Putting.{ranges_kept, slice_range-append, slice_range-map}
 use Rattle.archcaraway_c.specs.Moving.{span_moved, row_moved}

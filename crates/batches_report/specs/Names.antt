@@ -4,7 +4,7 @@ use Rattle.std.specs.List.{list_any}
 use Rattle.std.specs.Str.{bytes_eq}
 use Rattle.keys.specs.declared.range.Range.{Range}
 use Rattle.keyspace.specs.declared.txn.Txn.{Txn}
-use Rattle.keyspace.specs.Fields.{range_fields}
+use Rattle.keyspace.specs.storage.Fields.{range_fields}
 use Rattle.wire.specs.Spelling.{is_single_key}
 use Rattle.json_lines.specs.KeyForm.{quoted_key}
 

@@ -4,7 +4,7 @@ use Rattle.json.specs.Json.{Json, null, boolean, number, string, array, object, 
 use Rattle.json.specs.Find.{as_str}
 use Rattle.keys.specs.Key.{is_before}
 use Rattle.keys.specs.declared.key.TheConstants.{MAX_KEY_LENGTH}
-use Rattle.keyspace.specs.Fields.{RangeFields}
+use Rattle.keyspace.specs.storage.Fields.{RangeFields}
 use Rattle.keyspace.specs.declared.txn.TheConstants.{MAX_RANGES}
 use Rattle.wire.specs.Spelling.{single_key}
 use Rattle.wire.specs.declared.single.TheConstants.{MAX_SINGLE_KEY_LENGTH}

@@ -2,7 +2,7 @@
 
 ghost use Rattle.std.specs.Prelude.{◌≡◌, ◌<◌, ◌++◌, map, All, IsAscii, OnOk};
 ghost use Rattle.json.specs.Tree.{json_tokens};
-ghost use Rattle.keyspace.specs.Fields.{range_fields};
+ghost use Rattle.keyspace.specs.storage.Fields.{range_fields};
 ghost use Rattle.json_lines.specs.Written.{all_tokens, key_json, pair_json, range_json, list_json};
 
 use crate::key_form::put_key_form;

@@ -2,8 +2,8 @@
 
 ghost use Rattle.std.specs.Prelude.{◌≡◌, ◌↔◌, ◌<◌, ◌≤◌, [], Some, IsTrue, All, length, map};
 ghost use Rattle.std.specs.Prelude.{slice_get, slice_range};
-ghost use Rattle.keyspace.specs.Fields.{range_fields, RangeHolds};
-ghost use Rattle.keyspace.specs.Tables.{range_of_span, LiesWithin};
+ghost use Rattle.keyspace.specs.storage.Fields.{range_fields, RangeHolds};
+ghost use Rattle.keyspace.specs.storage.Tables.{range_of_span, LiesWithin};
 
 use crate::span::{Span, bytes_at};
 use keys::{RangeList, RangeRef};
@@ -22,8 +22,8 @@ pub struct RangesRef<'a> {
 impl<'a> Model for RangesRef<'a> {
     ghost use Rattle.std.specs.Prelude.{List, map};
     ghost use Rattle.keys.specs.declared.range.Range.{Range};
-    ghost use Rattle.keyspace.specs.Fields.{ranges_with};
-    ghost use Rattle.keyspace.specs.Tables.{range_of_span};
+    ghost use Rattle.keyspace.specs.storage.Fields.{ranges_with};
+    ghost use Rattle.keyspace.specs.storage.Tables.{range_of_span};
 
     ghost Value = { List Range };
 

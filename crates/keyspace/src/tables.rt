@@ -1,9 +1,9 @@
 //! The tables of transactions that are put together by hand: their keys are copied into one buffer.
 
 ghost use Rattle.std.specs.Prelude.{◌≡◌, [], ◌∷◌, ◌++◌, ◌<◌, ◌≤◌, length, vec_len, map, IfOk, OnOk};
-ghost use Rattle.keyspace.specs.Fields.{range_fields, txn_fields};
-ghost use Rattle.keyspace.specs.Putting.{ArePut};
-ghost use Rattle.keyspace.specs.Tables.{txns_of_tables, AreTables};
+ghost use Rattle.keyspace.specs.storage.Fields.{range_fields, txn_fields};
+ghost use Rattle.keyspace.specs.storage.Putting.{ArePut};
+ghost use Rattle.keyspace.specs.storage.Tables.{txns_of_tables, AreTables};
 ghost use Rattle.keyspace.specs.declared.batch.TheConstants.{MAX_TXNS};
 
 use crate::row::Row;

@@ -8,10 +8,10 @@ use Rattle.keys.specs.declared.range.Range.{Range}
 use Rattle.keyspace.specs.declared.txn.Txn.{Txn}
 use Rattle.keyspace.specs.declared.span.Span.{Span}
 use Rattle.keyspace.specs.declared.row.Row.{Row}
-use Rattle.keyspace.specs.Fields.{TxnLimits}
-use Rattle.keyspace.specs.Tables.{LiesWithin, txns_of_tables, AreTables}
-use Rattle.keyspace.specs.Putting.{ArePut}
-use Rattle.keyspace.specs.BatchRanges.{ranges_in}
+use Rattle.keyspace.specs.storage.Fields.{TxnLimits}
+use Rattle.keyspace.specs.storage.Tables.{LiesWithin, txns_of_tables, AreTables}
+use Rattle.keyspace.specs.storage.Putting.{ArePut}
+use Rattle.keyspace.specs.storage.BatchRanges.{ranges_in}
 use Rattle.keyspace.proofs.callers.Putting.{txn_put}
 use Rattle.serial.specs.Shards.{Shard}
 use Rattle.shards.specs.Clips.{goes_to, read_indices}

@@ -6,7 +6,7 @@ use Rattle.std.proofs.lemmas.Slice.Zip.{AllZip-long}
 use Rattle.keys.proofs.callers.Lists.{AllZip-split}
 use Rattle.keys.specs.declared.range.Range.{Range}
 use Rattle.keyspace.specs.declared.txn.Txn.{Txn}
-use Rattle.keyspace.specs.BatchRanges.{ranges_in}
+use Rattle.keyspace.specs.storage.BatchRanges.{ranges_in}
 use Rattle.serial.specs.Shards.{shards}
 use Rattle.shards.specs.declared.clipped.Clipped.{Clipped}
 use Rattle.shards.specs.declared.reach.Reach.{Reach}

@@ -6,7 +6,7 @@ use Rattle.std.proofs.lemmas.Slice.Zip.{AllZip-long}
 use Rattle.keys.proofs.callers.Lists.{AllZip-split}
 use Rattle.keyspace.specs.declared.txn.Txn.{Txn}
 use Rattle.keyspace.specs.Judge.{places_from}
-use Rattle.keyspace.specs.Putting.{ArePut}
+use Rattle.keyspace.specs.storage.Putting.{ArePut}
 use Rattle.keyspace.proofs.callers.Putting.{length-put, few_spans, length-reported}
 use Rattle.serial.specs.Shards.{Shard}
 use Rattle.shards.specs.declared.reach.Reach.{Reach}

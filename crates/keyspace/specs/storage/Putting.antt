@@ -1,8 +1,8 @@
 -- What appending ranges to the tables of a batch leaves. This project's own.
 use Rattle.std.specs.Prelude.{◌≡◌, ℕ, List, ◌++◌, length, map, All}
 use Rattle.keyspace.specs.declared.span.Span.{Span}
-use Rattle.keyspace.specs.Fields.{RangeFields}
-use Rattle.keyspace.specs.Tables.{range_of_span, LiesWithin}
+use Rattle.keyspace.specs.storage.Fields.{RangeFields}
+use Rattle.keyspace.specs.storage.Tables.{range_of_span, LiesWithin}
 
 -- the ranges have been appended: their keys to the buffer, and their spans to the others
 pub record ArePut (buffer : List ℕ) (spans : List Span) (ranges : List RangeFields) (new_buffer : List ℕ) (new_spans : List Span)

@@ -5,7 +5,7 @@ use Rattle.std.specs.Coded.{×_prop, le_prop}
 use Rattle.std.proofs.Props.{props}
 use Rattle.keyspace.specs.declared.span.Span.{Span}
 use Rattle.keyspace.specs.declared.row.Row.{Row}
-use Rattle.keyspace.specs.Fields.{RangeFields, TxnFields, TxnLimits}
+use Rattle.keyspace.specs.storage.Fields.{RangeFields, TxnFields, TxnLimits}
 
 -- n bytes of the buffer, from an index on
 abbrev pub bytes_at : List ℕ → ℕ → ℕ → List ℕ
