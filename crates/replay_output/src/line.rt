@@ -9,9 +9,8 @@ ghost use Rattle.replay_output.specs.Notes.{with_member, with_note};
 
 use crate::options::{Form, Style};
 use crate::version::version_of;
-use checking::Versioned;
 use json::print_json;
-use keyspace::{Answer, Entry, Reply, Verdict};
+use keyspace::{Answer, Entry, Reply, Verdict, Versioned};
 use packed::Word;
 use replay_summary::{Counted, HasCounted};
 use std::alloc::Global;

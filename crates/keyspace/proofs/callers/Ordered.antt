@@ -21,8 +21,8 @@ use Rattle.std.specs.Ordering.{int_cmp, is_lt}
 use Rattle.std.specs.declared.cmp.Ordering.TheVariants.{Less, Equal, Greater}
 use denote.Param.Members.{Mut}
 use denote.Ref.{Bor}
-use Rattle.checking.specs.InOrder.{put_in_order, in_order_by, NoneBefore, Rise}
-use Rattle.checking.proofs.OneOrder.{
+use Rattle.keyspace.specs.storage.InOrder.{put_in_order, in_order_by, NoneBefore, Rise}
+use Rattle.keyspace.proofs.OneOrder.{
   NoneBelow,
   Rises,
   Rises-from_sorted,

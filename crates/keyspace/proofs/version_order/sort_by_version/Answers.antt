@@ -1,8 +1,8 @@
 use Rattle.std.proofs.Common.{sym, subst, rules}
 use Rattle.std.proofs.lemmas.Result.{on_ok_weaker}
-use Rattle.checking.specs.InOrder.{Rise}
-use Rattle.checking.proofs.Ordered.{in_order-from_sort_by_key, in_order-rises}
-use Rattle.checking.proofs.order.sort_by_version.Goals as goal
+use Rattle.keyspace.specs.storage.InOrder.{Rise}
+use Rattle.keyspace.proofs.callers.Ordered.{in_order-from_sort_by_key, in_order-rises}
+use Rattle.keyspace.proofs.version_order.sort_by_version.Goals as goal
 
 pub returns : goal.returns
 returns g c =

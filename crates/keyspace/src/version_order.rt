@@ -1,9 +1,9 @@
 //! Items in order of their versions.
 
 ghost use Rattle.std.specs.Prelude.{◌≡◌, ◌≤◌, ℤ, IsOk, OnOk, length};
-ghost use Rattle.checking.specs.InOrder.{Rise, in_order_by};
+ghost use Rattle.keyspace.specs.storage.InOrder.{Rise, in_order_by};
 
-use keyspace::Reply;
+use crate::reply::Reply;
 use std::alloc::{AllocError, Global};
 
 /// What has a version.
