@@ -29,8 +29,8 @@ impl Tables {
     pub fn of(alloc: Global, txns: &[Txn]) -> Result<Self, AllocError>
         requires few { length txns.now ≤ MAX_TXNS }
         ensures tables { IfOk result (λ t. AreTables t.buffer.items t.spans.items t.rows.items) }
-        ensures reported { IfOk result (λ t. txns_of_tables t.buffer.items t.spans.items t.rows.items
-            ≡ map txn_fields txns.now) }
+        ensures reported { IfOk result (λ t.
+            txns_of_tables t.buffer.items t.spans.items t.rows.items ≡ map txn_fields txns.now) }
         ensures count { IfOk result (λ t. vec_len t.rows ≡ length txns.now) }
     {
         let mut tables = Tables {
