@@ -5,7 +5,7 @@ use Rattle.keyspace.specs.declared.reply.Reply.{Reply}
 use Rattle.keyspace.specs.declared.reply.Entry.{Entry}
 use Rattle.keyspace.specs.declared.reply.Verdict.{Verdict}
 use Rattle.keyspace.specs.declared.reply.Verdict.TheVariants.{Conflict, TooOld, Committed}
-use Rattle.keyspace.specs.Fields.{TxnFields}
+use Rattle.keyspace.specs.storage.Fields.{TxnFields}
 use Rattle.keyspace.specs.Versions.{AreVersions}
 use Rattle.keyspace.specs.Writes.{Write}
 use Rattle.keyspace.specs.Judged.{Judged}

@@ -5,7 +5,7 @@ use Rattle.std.proofs.lemmas.Bool.{cases_lt}
 use Rattle.keyspace.specs.declared.batch.Batch.{Batch}
 use Rattle.keyspace.specs.declared.reply.Entry.{Entry}
 use Rattle.keyspace.specs.declared.reply.Reply.{Reply}
-use Rattle.keyspace.specs.BatchRanges.{ranges_in}
+use Rattle.keyspace.specs.storage.BatchRanges.{ranges_in}
 use Rattle.keyspace.specs.Writes.{Write, at_version, committed}
 use Rattle.keyspace.specs.Judge.{judge, judge_txns}
 use Rattle.keyspace.specs.Judged.{edge, Judged}

@@ -8,7 +8,7 @@ use Rattle.keys.specs.Range.{IsEmpty, Meets, ranges_meet}
 use Rattle.keys.specs.Singles.{IsRankedAs}
 use Rattle.keys.specs.declared.range.Range.{Range}
 use Rattle.keys.proofs.callers.Meeting.{meets_by_ends, meets_from_test}
-use Rattle.keyspace.specs.BatchRanges.{ranges_in, ranges_of_txn, writes_in}
+use Rattle.keyspace.specs.storage.BatchRanges.{ranges_in, ranges_of_txn, writes_in}
 use Rattle.keyspace.specs.Judge.{in_conflict_at, meets_earlier, places_from}
 use Rattle.keyspace.specs.Writes.{counted}
 use Rattle.keyspace.specs.declared.reply.Entry.{Entry}

@@ -7,12 +7,12 @@
 //! ask for their reports. [`work`] is what one worker does: it reads the batches of its file,
 //! sends them and takes the answers; [`work_over`] takes a stream. A [`Gatekeeper`] says when
 //! workers may send, and a [`ShareKeeper`] whose batch goes first where all have used up their
-//! share.
+//! share. The program's keeper of shares is a [`WaitingRoom`].
 //!
 //! In reading order: `workers_run`, `threads`, `worker`, `batches`, `reporting_batches`, `inbox`,
-//! `ends`, `gatekeeper`, `watch`, `outcome`, `rest`. What became of the files is `IsRun`, in
-//! `specs/Run.antt`, and of streams `IsRunOver`. How full the resolver was is `IsOccupancyOf`, in
-//! `specs/Occupied.antt`. What one worker has done is `HasWorked`, in `specs/Worker.antt`. Which
+//! `ends`, `shares`, `gatekeeper`, `watch`, `outcome`, `rest`. What became of the files is `IsRun`,
+//! in `specs/Run.antt`, and of streams `IsRunOver`. How full the resolver was is `IsOccupancyOf`,
+//! in `specs/Occupied.antt`. What one worker has done is `HasWorked`, in `specs/Worker.antt`. Which
 //! batches are resolved for those of a file is `resolved_for`, in `specs/Reporting.antt`.
 #![tactic(auto)]
 
@@ -23,6 +23,7 @@ mod inbox;
 mod outcome;
 mod reporting_batches;
 mod rest;
+mod shares;
 mod threads;
 mod watch;
 mod worker;
@@ -34,6 +35,9 @@ pub use gatekeeper::{AlwaysOpen, Gatekeeper, ShareKeeper, Unshared};
 pub use outcome::RunOutcome;
 pub use reporting_batches::{AskingFrames, read_asking};
 pub use rest::pause;
+pub use shares::{
+    AtomicPlace, Place, PlaceCell, ReportedState, Stand, WaitingRoom, is_below_share, next_admitted,
+};
 pub use watch::Watch;
 pub use worker::{Assignment, FileEnd, Finished, Leftover, work, work_over};
 pub use workers_run::{admit, run, run_observed, run_over};

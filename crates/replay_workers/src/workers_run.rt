@@ -3,7 +3,7 @@
 ghost use Rattle.std.specs.Prelude.{◌≡◌, ℕ, ◌≤◌, true, length, map, vec_items, vec_len, Some};
 ghost use Rattle.std.specs.Prelude.{[], None, slice_get, IfOk};
 ghost use Rattle.std.specs.List.{All};
-ghost use Rattle.flow.specs.Next.{AllWait, IsNext};
+ghost use Rattle.replay_workers.specs.NextAdmitted.{AllWait, IsNext};
 ghost use Rattle.resolver.specs.declared.resolver_core.TheConstants.{MAX_PROXIES};
 ghost use Rattle.resolver.specs.Core.{Continues};
 ghost use Rattle.resolver.specs.Lanes.{Lanes, Each, LanesContinue};

@@ -44,7 +44,7 @@ pub use batch::decode_batch;
 pub use encode::{encode_batch, encode_batch_1, encode_reply};
 pub use error::WireError;
 pub use field::MAX_BODY_LENGTH;
-pub use fill::fill_frame;
+pub use fill::{fill_frame, frame_length};
 pub use frames::{Frames, read_frames};
 pub use reply::decode_reply;
 pub use reply_frames::read_reply;

@@ -3,7 +3,7 @@ use Rattle.std.specs.Prelude.{ℤ, ◌≤ℤ◌}
 use Rattle.std.proofs.lemmas.Bool.{cases_lt}
 use Rattle.std.proofs.lemmas.Int.{to_z-of_z}
 use Rattle.keys.proofs.callers.Booleans.{not_both_ways}
-use Rattle.keyspace.specs.BatchRanges.{ranges_in}
+use Rattle.keyspace.specs.storage.BatchRanges.{ranges_in}
 use Rattle.keyspace.specs.Writes.{Write, at_version, committed, writes_of}
 use Rattle.keyspace.specs.Judge.{judge_txns}
 use Rattle.keyspace.specs.Judged.{edge}
