@@ -13,8 +13,8 @@ use Rattle.stepmap.specs.Covers.{MapCovers}
 use Rattle.conflict.specs.declared.error.SetStop.{SetStop}
 use Rattle.conflict.specs.declared.when_full.WhenFull.{WhenFull}
 use Rattle.conflict.specs.ConflictSet.{SetState}
-use Rattle.resolver.specs.declared.stop.Stop.{Stop as StopValue}
-use Rattle.resolver.specs.Stop.{stop_at_set}
+use Rattle.limits.specs.declared.stop.Stop.{Stop as StopValue}
+use Rattle.conflict.specs.Stop.{stop_at_set}
 use Rattle.wire.specs.declared.error.WireError.TheVariants as wire
 use Rattle.archcaraway_c.specs.declared.refusal.Refusal.{Refusal}
 use Rattle.archcaraway_c.specs.declared.refusal.Refusal.TheVariants.{Stop, Wire, Version, Argument, Buffer, Behind}

@@ -8,7 +8,7 @@ ghost use Rattle.stepmap.specs.Boundary.{AreUpTo};
 ghost use Rattle.stepmap.specs.Counting.{live_count};
 ghost use Rattle.stepmap.specs.Limit.{HasRoomFor, made_room};
 ghost use Rattle.stepmap.specs.Rooted.{Rooted};
-ghost use Rattle.conflict.specs.declared.conflict_set.TheConstants.{MAX_WINDOW};
+ghost use Rattle.limits.specs.declared.settings.TheConstants.{MAX_WINDOW};
 ghost use Rattle.conflict.specs.ConflictSet.{raised};
 ghost use Rattle.conflict.specs.Calls.{Detects, Fails};
 

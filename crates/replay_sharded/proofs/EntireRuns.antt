@@ -15,7 +15,7 @@ use Rattle.wire.specs.NextFrame.{TakesFrame}
 use Rattle.replay_output.specs.Failures.{IsClean}
 use Rattle.replay_output.specs.declared.failures.ProxyFailure.{ProxyFailure}
 use Rattle.replay_output.specs.declared.options.style.Style.{Style}
-use Rattle.replay_workers.specs.Batches.{GivesEach}
+use Rattle.wire.specs.Batches.{GivesEach}
 use Rattle.replay_workers.proofs.callers.Lists.{all_at}
 use Rattle.replay_shards.specs.Failures.{fault_of, first_some, has_loss}
 use Rattle.replay_shards.specs.Notes.{note_in, notes_of}

@@ -10,9 +10,8 @@ use Rattle.keyspace.specs.declared.batch.Batch.{Batch}
 use Rattle.serial.specs.Shards.{Shard}
 use Rattle.shards.specs.Clips.{IsBatchClip}
 use Rattle.replay_output.specs.declared.options.Options.{Options}
-use Rattle.replay_workers.specs.Batches.{EndsWith}
+use Rattle.wire.specs.Batches.{EndsWith, IsFaultAt}
 use Rattle.replay_workers.specs.Run.{EndsAt, IsRunOver}
-use Rattle.replay_workers.specs.Worker.{IsFaultAt}
 use Rattle.replay_shards.specs.declared.clips.Clips.{Clips}
 use Rattle.replay_shards.specs.declared.answered.Answered.{Answered}
 use Rattle.replay_shards.specs.declared.note.Note.{Note}
@@ -104,4 +103,3 @@ if_ok_three (Err e) P Q R T all p q r = tt
 pub or_some : {X : Type 0} (o : Option X) (x : X) → option_or o (Some x) ≡ None → ⊥
 or_some None x is = cc
 or_some (Some y) x is = cc
-

@@ -14,12 +14,12 @@ use keyspace::Batch;
 use lane::{Port, Refused};
 use replay_output::Reports;
 use replay_workers::{
-    Assignment, Batches, FileEnd, Gatekeeper, Leftover, ShareKeeper, Stand, is_below_share, pause,
+    Assignment, FileEnd, Gatekeeper, Leftover, ShareKeeper, Stand, is_below_share, pause,
     read_asking,
 };
 use std::alloc::Global;
 use std::sync::Wait;
-use wire::{Source, WireError, read_frames};
+use wire::{Batches, Source, WireError, read_frames};
 
 /// What a sender returns.
 #[derive(Drop)]

@@ -17,7 +17,7 @@ use Rattle.replay_workers.specs.declared.outcome.RunOutcome.{RunOutcome}
 use Rattle.replay_workers.specs.declared.threads.StartedWorkers.{StartedWorkers}
 use Rattle.replay_workers.specs.declared.worker.Finished.{Finished}
 use Rattle.replay_workers.specs.declared.threads.Worked.{Worked}
-use Rattle.replay_workers.specs.Batches.{EndsWith}
+use Rattle.wire.specs.Batches.{EndsWith}
 use Rattle.replay_workers.specs.Worker.{HasWorkedOver, ClientContinues}
 use Rattle.replay_workers.specs.Threads.{Given, finished_of, given_each, given_to, HasWorkedOn, ReturnsBatch, IsOutcomeOf, failure_of}
 use Rattle.replay_workers.specs.Run.{HasCapacity}

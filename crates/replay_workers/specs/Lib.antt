@@ -1,5 +1,4 @@
 -- In reading order.
-pub mod Batches
 pub mod Share
 pub mod NextAdmitted
 pub mod PlaceWords

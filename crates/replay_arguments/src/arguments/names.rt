@@ -14,8 +14,8 @@ use crate::arguments::mistake::Mistake;
 use crate::arguments::print_options::Printing;
 use crate::arguments::summary_file::{SummaryFile, summary_file};
 use clap::ArgMatches;
+use limits::MAX_PROXIES;
 use replay_output::Form;
-use resolver::MAX_PROXIES;
 
 /// The names of files that the arguments give.
 #[derive(Clone, Copy, Debug)]

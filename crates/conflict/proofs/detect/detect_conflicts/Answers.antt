@@ -15,7 +15,7 @@ use Rattle.stepmap.specs.Laws.{IsWriting}
 use Rattle.stepmap.specs.Limit.{HasRoomFor, made_room, prepared}
 use Rattle.stepmap.specs.Sweeping.{rest, after_sweep}
 use Rattle.stepmap.specs.declared.error.StepError.TheVariants as step
-use Rattle.stepmap.specs.declared.step_map.TheConstants.{MAX_LIMIT}
+use Rattle.limits.specs.declared.settings.TheConstants.{MAX_LIMIT}
 use Rattle.conflict.specs.declared.when_full.WhenFull.TheVariants.{Refuse}
 use Rattle.conflict.specs.ConflictSet.{IsSwept, raised, HasRoomToWrite}
 use Rattle.conflict.specs.InBatch.{in_batches}

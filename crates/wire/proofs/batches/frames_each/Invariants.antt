@@ -3,7 +3,7 @@ use Rattle.std.specs.Prelude.{None, map, vec_len, vec_capacity}
 use Rattle.std.specs.List.{All}
 use Rattle.std.specs.Vec.Iter.{into_iter_items, into_iter_len}
 use Rattle.wire.specs.Frames.{frames_reader, refusal_of}
-use Rattle.replay_workers.proofs.batches.frames_each.Given as goal
+use Rattle.wire.proofs.batches.frames_each.Given as goal
 
 abbrev pub invariant-loop-reader : goal.invariant-loop-reader
 invariant-loop-reader g l = record {

@@ -1,4 +1,4 @@
-//! The batches that a worker sends.
+//! Streams of batches.
 
 ghost use Rattle.std.specs.Prelude.{◌≡◌, ◌≢◌, ℕ, ◌<◌, ◌↔◌, Option, Some, None, Err, map};
 ghost use Rattle.std.specs.Prelude.{IfOk, IfErr, IfSome, IfNone, IsErrOf, OnErr, OnOk};
@@ -8,13 +8,15 @@ ghost use Rattle.keyspace.specs.declared.batch.Batch.{Batch as BatchValue};
 ghost use Rattle.wire.specs.declared.error.WireError.{WireError as Fault};
 ghost use Rattle.wire.specs.Frames.{frames_reader, refusal_of};
 ghost use Rattle.wire.specs.NextFrame.{TakesFrame};
-ghost use Rattle.replay_workers.specs.Worker.{IsFaultAt};
+ghost use Rattle.wire.specs.Batches.{IsFaultAt};
 
+use crate::error::WireError;
+use crate::frames::{Frames, read_frames};
+use crate::source::Source;
 use keyspace::Batch;
 use std::alloc::{AllocError, Global};
-use wire::{Frames, Source, WireError, read_frames};
 
-/// A stream of batches, which a worker sends: those of a file, or their clips to a shard.
+/// A stream of batches, as the frames of a file.
 pub trait Batches {
     // Between these states one batch was given.
     ghost gives: { Self → Self → BatchValue → Type 0 };
@@ -34,7 +36,7 @@ pub trait Batches {
     // How often reading has failed.
     ghost failures: { Self → ℕ };
 
-    /// Returns the next batch to be sent, or `None` at the end. Returns `Read` only if reading
+    /// Returns the next batch, or `None` at the end. Returns `Read` only if reading
     /// failed in this call. After a refusal every later call returns the same refusal.
     fn next(&mut self) -> Result<Option<Batch>, WireError>
         ensures batch { IfOk result (λ found. IfSome found (gives self.old self.new)) }

@@ -1,6 +1,8 @@
 -- Streams of batches, as the frames of a file. This project's own.
-use Rattle.std.specs.Prelude.{◌≡◌, ◌⊎◌, List, [], ◌∷◌}
+use Rattle.std.specs.Prelude.{◌≡◌, ◌⊎◌, ℕ, List, [], ◌∷◌, Option, IfSome}
 use Rattle.keyspace.specs.declared.batch.Batch.{Batch}
+use Rattle.wire.specs.declared.error.WireError.{WireError}
+use Rattle.wire.specs.NextFrame.{IsFaultOf}
 
 module _ {X : Type 0} where
   -- from the first state to the last, the stream gives these batches, in order
@@ -12,3 +14,7 @@ module _ {X : Type 0} where
   -- it gives no more batches from one state to the other
   abbrev pub EndsWith : (X → X → Type 0) → X → X → Type 0
   EndsWith Stays left last = (last ≡ left) ⊎ Stays left last
+
+-- the bytes left begin with this fault, if the reader reports them
+abbrev pub IsFaultAt : Option (List ℕ) → WireError → Type 0
+IsFaultAt left e = IfSome left (IsFaultOf e)
