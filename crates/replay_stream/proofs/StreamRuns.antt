@@ -5,7 +5,7 @@ use Rattle.std.proofs.Common.{refl, sym, ap, subst, ◌∙◌, arith}
 use Rattle.std.proofs.lemmas.List.{length-map}
 use Rattle.std.proofs.lemmas.Slice.Zip.{AllZip-long}
 use Rattle.std.proofs.lemmas.Option.{same_Some}
-use Rattle.keys.proofs.callers.Lists.{AllZip-at, element_of_map}
+use Rattle.keys.proofs.callers.Lists.{AllZip-get, element_of_map}
 use Rattle.keyspace.specs.declared.answer.Answer.{Answer}
 use Rattle.keyspace.specs.declared.batch.Batch.{Batch}
 use Rattle.keyspace.specs.Run.{Step, part}
@@ -177,7 +177,7 @@ module _ {S W G : Type 0} (reports : Reports) (readers : List S) (outs : List (O
               place = place;
               has =
                   subst (λ (given : GivenThreads S W). HasJoined remaining state_of p.0.outlet given j) ran.same_threads
-                  (AllZip-at (IsJoined remaining state_of) ended joined proxy p.0 j worked p.1 at);
+                  (AllZip-get (IsJoined remaining state_of) ended joined proxy p.0 j worked p.1 at);
               requests = ap (λ (g : GivenProxy S W). g.client.requests) place.was_given;
               replies = ap (λ (g : GivenProxy S W). g.client.replies) place.was_given;
               reader = ap (λ (g : GivenProxy S W). g.reader) place.was_given;

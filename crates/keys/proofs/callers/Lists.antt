@@ -34,13 +34,13 @@ AllZip-more R xs i ys x y is all it =
     subst (λ front. AllZip R front (ys ++ y ∷ [])) (sym (part_more xs 0 i x (ap (slice_get xs) at ∙ is))) (all_zipped_more R (take i xs) ys x y all it)
 
 -- what the relation says at an index
-pub AllZip-at : {X Y : Type 0} (R : X → Y → Type 0) (xs : List X) (ys : List Y) (i : ℕ) (x : X) (y : Y)
+pub AllZip-get : {X Y : Type 0} (R : X → Y → Type 0) (xs : List X) (ys : List Y) (i : ℕ) (x : X) (y : Y)
     → AllZip R xs ys → slice_get xs i ≡ Some x → slice_get ys i ≡ Some y → R x y
-AllZip-at R [] ys i x y all at there = absurd (none-some x at)
-AllZip-at R (first ∷ xs) [] i x y all at there = absurd all
-AllZip-at {X = X} {Y = Y} R (first ∷ xs) (other ∷ ys) zero x y all at there =
+AllZip-get R [] ys i x y all at there = absurd (none-some x at)
+AllZip-get R (first ∷ xs) [] i x y all at there = absurd all
+AllZip-get {X = X} {Y = Y} R (first ∷ xs) (other ∷ ys) zero x y all at there =
     subst (λ (pair : X × Y). R pair.0 pair.1) (λ i. (same_Some first x at i, same_Some other y there i)) all.0
-AllZip-at R (first ∷ xs) (other ∷ ys) (suc i) x y all at there = AllZip-at R xs ys i x y all.1 at there
+AllZip-get R (first ∷ xs) (other ∷ ys) (suc i) x y all at there = AllZip-get R xs ys i x y all.1 at there
 
 -- what goes with each of two lists
 pub AllZip-split : {X Y : Type 0} (R : X → Y → Type 0) (xs others : List X) (ys : List Y) → AllZip R (xs ++ others) ys

@@ -2,7 +2,7 @@
 use Rattle.std.proofs.Common.{List, sym, ◌∙◌, arith}
 use Rattle.std.specs.List.{AllZip}
 use Rattle.std.proofs.lemmas.Slice.Zip.{AllZip-long}
-use Rattle.keys.proofs.callers.Lists.{AllZip-at}
+use Rattle.keys.proofs.callers.Lists.{AllZip-get}
 use Rattle.lane.specs.Lane.{PortView, IntakeView, PortContinues, IntakeContinues}
 use Rattle.resolver.specs.declared.client.Client.{Client}
 use Rattle.resolver.specs.Lanes.{Lanes, Each, LanesContinue}
@@ -63,7 +63,7 @@ clients_continue lanes later clients back of_lanes turned all_returned = record 
       let c = found back clients proxy d (sym (AllZip-long ClientContinues clients back all_returned)) there in
       let lane = of_lanes.requests proxy l.0 c.0 l.1 c.1 in
       let turns = (turned.each proxy l.0 m l.1 at).requests in
-      let goes = (AllZip-at ClientContinues clients back proxy c.0 d all_returned c.1 there).requests in
+      let goes = (AllZip-get ClientContinues clients back proxy c.0 d all_returned c.1 there).requests in
       record {
         lane = goes.lane ∙ lane.lane ∙ sym turns.lane;
         capacity = goes.capacity ∙ lane.capacity ∙ sym turns.capacity;
@@ -73,7 +73,7 @@ clients_continue lanes later clients back of_lanes turned all_returned = record 
       let c = found back clients proxy d (sym (AllZip-long ClientContinues clients back all_returned)) there in
       let lane = of_lanes.replies proxy l.0 c.0 l.1 c.1 in
       let turns = (turned.each proxy l.0 m l.1 at).replies in
-      let goes = (AllZip-at ClientContinues clients back proxy c.0 d all_returned c.1 there).replies in
+      let goes = (AllZip-get ClientContinues clients back proxy c.0 d all_returned c.1 there).replies in
       record {
         lane = turns.lane ∙ lane.lane ∙ sym goes.lane;
         capacity = turns.capacity ∙ lane.capacity ∙ sym goes.capacity;
