@@ -1,5 +1,5 @@
 -- What the judging of a batch and the writing of what it commits ensure together.
-use Rattle.std.proofs.Common.{◌≡◌, ℕ, ◌+◌, ◌*◌, ◌<◌, ◌≤◌, List, [], ◌++◌, length, Err, refl, sym, ap, subst, ◌∙◌, arith, inl, inr}
+use Rattle.std.proofs.Common.{◌≡◌, ℕ, ◌+◌, ◌*◌, ◌<◌, List, [], ◌++◌, length, Err, refl, sym, ap, subst, ◌∙◌, arith, inl, inr}
 use Rattle.std.specs.Prelude.{ℤ, ◌≤ℤ◌, Result, Ok, IsErrAnd, IfErr}
 use Rattle.std.proofs.lemmas.Bool.{cases_lt}
 use Rattle.keyspace.specs.declared.batch.Batch.{Batch}
