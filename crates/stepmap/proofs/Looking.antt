@@ -41,8 +41,8 @@ use Rattle.stepmap.specs.Boundary.{Boundary, RiseFrom, below}
 use Rattle.stepmap.specs.Sweeping.{is_left, left_from, passed_to}
 use Rattle.stepmap.specs.Rooted.{IsEndOf, Ends}
 use Rattle.keys.proofs.callers.KeyOrder.{not_before_if}
-use Rattle.stepmap.proofs.Order.{Rising, rise_above, not_before_empty, empty_unless_after}
-use Rattle.stepmap.proofs.Parting.{FallsAlongKeys, parted}
+use Rattle.boundaries.proofs.callers.Order.{Rising, rise_above, not_before_empty, empty_unless_after}
+use Rattle.boundaries.proofs.callers.Parting.{FallsAlongKeys, parted}
 
 pub not_not : (t : Bool) → t ≡ not (not t)
 not_not true = refl

@@ -31,8 +31,8 @@ use Rattle.keys.proofs.callers.Booleans.{true_or_false, and_left, and_right}
 use Rattle.stepmap.specs.Boundary.{Boundary, RiseFrom, value_from, last_version}
 use Rattle.stepmap.specs.Sweeping.{unexpired}
 use Rattle.stepmap.specs.Rooted.{IsEndOf, Ends, AreRooted}
-use Rattle.stepmap.proofs.Order.{rise_lower}
-use Rattle.stepmap.proofs.Values.{value_after, first_after_rising}
+use Rattle.boundaries.proofs.callers.Order.{rise_lower}
+use Rattle.boundaries.proofs.callers.Values.{value_after, first_after_rising}
 use Rattle.stepmap.proofs.Rooting.{end_lower}
 
 -- the same, or both below the edge

@@ -30,7 +30,7 @@ use Rattle.keyspace.specs.Writes.{Write}
 use Rattle.stepmap.specs.Boundary.{Boundary, AreInOrder, RiseFrom, value_at, last_version, below}
 use Rattle.stepmap.specs.Sweeping.{unexpired, is_left, left_from, passed_to, swept}
 use Rattle.stepmap.specs.Rooted.{IsEndOf, Ends, AreRooted}
-use Rattle.stepmap.proofs.Order.{rising_in_order, rising_from, rise_filter, rise_swap, rise_middle}
+use Rattle.boundaries.proofs.callers.Order.{rising_in_order, rising_from, rise_filter, rise_swap, rise_middle}
 use Rattle.stepmap.proofs.Rooting.{rooted_front, rooted_back, rooted_join}
 use Rattle.stepmap.proofs.Removal.{
   SameOrBelow,

@@ -1,0 +1,14 @@
+use Rattle.std.proofs.Common.{rules, ◌≢◌, ◌∙◌, sym, get_or, get_or-take, length-take, arith}
+use Rattle.boundaries.proofs.Words.{order, entries_of, key_heads_of}
+use Rattle.boundaries.proofs.HeadAt.{filled_within, few_below}
+use Rattle.boundaries.proofs.node.Node.lower_bound_by_head.Goals as goal
+
+pub lower_bound_from-requires : goal.lower_bound_from-requires
+lower_bound_from-requires c =
+    let is = rw c.in-Some.is at c.requires.head in
+    let within = filled_within _ node can.headed (omega arith) c.heads_below-below.result describes.within describes.filled in
+    let least = few_below _ node can.headed _ _ (order c.args.keys.now c.args.bound) c.in-Some.own is can.partitioned
+    c.heads_below-below.result within describes.below in
+    (search rules, (can, (is, least)))
+  where
+    open c use {args.{self.{now as node}}, requires.{can_find as can}, heads_below-below.{ensures as describes}}
