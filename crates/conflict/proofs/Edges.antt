@@ -1,5 +1,5 @@
 -- The edge of a batch beside that of the batch before it.
-use Rattle.std.proofs.Common.{w64, SFits, to_z, of_z, ◌≡◌, ap, ◌∙◌, arith}
+use Rattle.std.proofs.Common.{w64, SFits, to_z, of_z, ◌≡◌, ap₂, ◌∙◌, arith}
 use Rattle.std.proofs.lemmas.Int.{ints, to_z-of_z}
 use Rattle.std.specs.Prelude.{ℤ, pos, negsuc, ◌≤ℤ◌, ◌<ℤ◌, ◌-ℤ◌}
 use Rattle.std.specs.Int.{int_max}
@@ -15,11 +15,14 @@ edge_rises window resolved old b is rising = rw is (grind (arith, ints, rising))
 pub edge_below : (window : ℤ) (b : Batch) → pos 1 ≤ℤ window → edge window b ≤ℤ b.version
 edge_below window b least = grind (arith, ints, least, b.natural)
 
--- as the code hands it on
-pub edge_passed : (window given : ℤ) (b : Batch) → SFits w64 window → SFits w64 given
-    → given ≡ edge (to_z w64 (of_z w64 window)) b → to_z w64 (of_z w64 given) ≡ edge window b
-edge_passed window given b window_fits fits is =
-    to_z-of_z w64 given fits ∙ is ∙ ap (λ w. edge w b) (to_z-of_z w64 window window_fits)
+-- as the code passes it on
+pub edge_passed : (window given : ℤ) (b : Batch) → SFits w64 window → SFits w64 b.version → SFits w64 given
+    → given ≡ int_max (to_z w64 (of_z w64 b.version) -ℤ to_z w64 (of_z w64 window)) (pos 0)
+    → to_z w64 (of_z w64 given) ≡ edge window b
+edge_passed window given b window_fits version_fits fits is =
+    to_z-of_z w64 given fits ∙ is
+    ∙ ap₂ (λ version window. int_max (version -ℤ window) (pos 0)) (to_z-of_z w64 b.version version_fits)
+    (to_z-of_z w64 window window_fits)
 
 pub at_most : (a b : ℤ) → a <ℤ b → a ≤ℤ b
 at_most a b less = grind (arith, ints, less)

@@ -54,7 +54,7 @@ use Rattle.keyspace.proofs.callers.Judging.{range_hit_from_test, test_from_range
 use Rattle.stepmap.specs.StepMap.{Steps}
 use Rattle.stepmap.specs.Covers.{MapCovers, IsAbove}
 use Rattle.stepmap.specs.Laws.{DeterminesHits}
-use Rattle.conflict.specs.Asking.{is_settled, true_places}
+use Rattle.conflict.specs.Lookup.{is_settled, true_places}
 
 false_is_true : false ≡ true → ⊥
 false_is_true e = cc

@@ -20,6 +20,7 @@ pub mod UnionAdded
 pub mod UnionOrder
 pub mod Marks
 pub mod JudgedBatch
+pub mod Detected
 pub mod UnionWritten
 pub mod Swept
 pub mod Edges

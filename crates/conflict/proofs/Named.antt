@@ -7,8 +7,8 @@ use Rattle.keys.specs.declared.range.Range.{Range}
 use Rattle.keys.proofs.callers.Lists.{range_more, some_at}
 use Rattle.keyspace.specs.declared.txn.Txn.{Txn}
 use Rattle.keyspace.specs.BatchRanges.{ranges_in}
-use Rattle.conflict.specs.declared.read_name.ReadName.{ReadName}
-use Rattle.conflict.specs.Asking.{asked_at, query_named, queries_named, AreNamed}
+use Rattle.conflict.specs.declared.lookup.ReadName.{ReadName}
+use Rattle.conflict.specs.Lookup.{asked_at, query_named, queries_named, AreNamed}
 
 -- where each name asks for something, that is what they ask for
 pub queries_of : (txns : List Txn) (names : List ReadName) (queries : List (Range × ℤ))

@@ -6,8 +6,8 @@ use Rattle.keys.specs.declared.range.Range.{Range}
 use Rattle.keys.proofs.callers.Lists.{some_at}
 use Rattle.keyspace.specs.declared.txn.Txn.{Txn}
 use Rattle.keyspace.specs.BatchRanges.{ranges_in}
-use Rattle.conflict.specs.Asking.{queries_named, AreNamed}
-use Rattle.conflict.specs.declared.read_name.ReadName.{ReadName}
+use Rattle.conflict.specs.Lookup.{queries_named, AreNamed}
+use Rattle.conflict.specs.declared.lookup.ReadName.{ReadName}
 use Rattle.conflict.proofs.Named.{name_count, named_at, name_found}
 
 -- the name at an index

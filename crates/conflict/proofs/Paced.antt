@@ -1,11 +1,13 @@
 -- Ranges that are written one after the other.
-use Rattle.std.proofs.Common.{◌≡◌, ℕ, ◌+◌, List, [], ◌∷◌, ◌++◌, length, take, refl, ap, ◌∙◌}
+use Rattle.std.proofs.Common.{◌≡◌, ℕ, zero, suc, ◌+◌, ◌≤◌, List, [], ◌∷◌, ◌++◌, length, take, add-one, refl, sym, ap, subst, ◌∙◌, arith}
 use Rattle.std.specs.Prelude.{ℤ, Some, slice_get}
 use Rattle.std.proofs.Math.Seq.{take-length}
 use Rattle.std.proofs.lemmas.Option.{slice_get_within, get_or_from_slice_get}
 use Rattle.std.proofs.lemmas.List.{take_more}
 use Rattle.keys.specs.declared.range.Range.{Range}
 use Rattle.stepmap.specs.StepMap.{Steps}
+use Rattle.keys.proofs.callers.Lists.{some_at}
+use Rattle.stepmap.specs.Laws.{IsWriting, WritesInTurn}
 use Rattle.stepmap.specs.Writing.{after_write}
 use Rattle.conflict.specs.Pace.{after_writes}
 
@@ -30,3 +32,22 @@ pub after_writes_all : (ranges : List Range) (i : ℕ) (version : ℤ) (m : Step
     → after_writes (take i ranges) version m ≡ after_writes ranges version m
 after_writes_all ranges i version m all =
     ap (λ rs. after_writes rs version m) (ap (λ n. take n ranges) all ∙ take-length ranges)
+
+-- ranges that may be written in turn are
+module _ (ranges : List Range) (version : ℤ) (turn : WritesInTurn ranges version) (m : Steps)
+    (start : IsWriting ranges version 0 m m) where
+  written_to : (i : ℕ) → i ≤ length ranges → IsWriting ranges version i m (after_writes (take i ranges) version m)
+  written_to zero most = start
+  written_to (suc i) most =
+      let range = some_at ranges i (omega (arith, most)) in
+      let before = after_writes (take i ranges) version m in
+      let later = after_writes (take (suc i) ranges) version m in
+      let more : later ≡ after_write range.0 version before =
+      ap (λ n. after_writes (take n ranges) version m) (sym (add-one i)) ∙ after_writes_more ranges i range.0 version m range.1 in
+      subst (λ n. IsWriting ranges version n m later) (add-one i)
+      (turn.step i range.0 m before later (written_to i (omega (arith, most))) range.1 more)
+
+  pub written_all : IsWriting ranges version (length ranges) m (after_writes ranges version m)
+  written_all =
+      subst (IsWriting ranges version (length ranges) m) (after_writes_all ranges (length ranges) version m refl)
+      (written_to (length ranges) (omega arith))

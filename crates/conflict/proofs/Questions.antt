@@ -12,8 +12,8 @@ use Rattle.keyspace.specs.Judge.{is_hit, is_too_old}
 use Rattle.stepmap.specs.StepMap.{Steps}
 use Rattle.stepmap.specs.Covers.{MapCovers}
 use Rattle.stepmap.specs.Laws.{DeterminesHits}
-use Rattle.conflict.specs.declared.history_queries.AnswerCounts.{AnswerCounts}
-use Rattle.conflict.specs.Asking.{asked_at, is_settled, first_asked, then_asked, all_first, all_then, all_parts, AreAnswers, AreHits}
+use Rattle.conflict.specs.declared.lookup.AnswerCounts.{AnswerCounts}
+use Rattle.conflict.specs.Lookup.{asked_at, is_settled, first_asked, then_asked, all_first, all_then, all_parts, AreAnswers, AreHits}
 use Rattle.conflict.proofs.InBatch.{late_unless_old}
 use Rattle.conflict.proofs.Hits.{exceeds_is_hit}
 

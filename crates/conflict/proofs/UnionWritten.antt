@@ -1,18 +1,18 @@
 -- The ranges that the spans name are written, so what they unite is.
-use Rattle.std.proofs.Common.{◌≡◌, ℕ, ◌+◌, ◌*◌, ◌<◌, List, [], ◌∷◌, ◌++◌, length, refl, subst, arith}
+use Rattle.std.proofs.Common.{◌≡◌, ℕ, ◌+◌, ◌*◌, ◌<◌, List, [], ◌∷◌, ◌++◌, length, map, refl, ap, ap₂, subst, ◌∙◌, arith}
+use Rattle.std.proofs.lemmas.List.{length-map}
 use Rattle.std.specs.Prelude.{ℤ, ◌≤ℤ◌}
 use Rattle.std.specs.List.{AllZip}
 use Rattle.std.specs.Prelude.{Result, Err, IsErrAnd}
 use Rattle.keys.specs.Key.{IsBefore}
 use Rattle.keyspace.specs.Writes.{Write, at_version}
 use Rattle.keys.specs.declared.range.Range.{Range}
-use Rattle.stepmap.specs.StepMap.{Steps}
+use Rattle.stepmap.specs.StepMap.{lengths}
 use Rattle.stepmap.specs.Writing.{AreApart}
-use Rattle.stepmap.specs.Uniting.{Unites}
 use Rattle.stepmap.specs.Counting.{live_count}
-use Rattle.stepmap.specs.Laws.{ApartWriteInTurn, CountedAlong, IsWriting, IsWritten}
+use Rattle.stepmap.specs.Laws.{CountedAlong}
 use Rattle.conflict.specs.declared.union.UnitedSpan.{UnitedSpan}
-use Rattle.conflict.specs.Union.{AreSpanned}
+use Rattle.conflict.specs.Union.{AreSpanned, IsUnion}
 use Rattle.stepmap.specs.declared.error.StepError.{StepError}
 use Rattle.stepmap.specs.declared.error.StepError.TheVariants as step
 use Rattle.conflict.specs.declared.error.SetStop.TheVariants.{Memory, ArenaFull}
@@ -26,6 +26,15 @@ record SameKeys (a b : Range) : Type 0 where
 
 before_same : {a b c d : List ℕ} → a ≡ c → b ≡ d → IsBefore a b → IsBefore c d
 before_same {a} {b} {c} {d} ac bd before = rw (← ac, ← bd) before
+
+-- so their lengths are the same
+lengths_alike : (us vs : List Range) → AllZip SameKeys us vs → map lengths us ≡ map lengths vs
+lengths_alike [] [] same = refl
+lengths_alike [] (v ∷ vs) same = absurd same
+lengths_alike (u ∷ us) [] same = absurd same
+lengths_alike (u ∷ us) (v ∷ vs) same =
+    ap₂ (λ begin end. (length begin, length end) ∷ map lengths us) same.0.begins same.0.ends
+    ∙ ap (λ ls. lengths v ∷ ls) (lengths_alike us vs same.1)
 
 -- the ones are apart if the others are
 apart_same : (us vs : List Range) → AllZip SameKeys us vs → AreApart us → AreApart vs
@@ -53,31 +62,30 @@ spanned_same ranges (x ∷ spans) (a ∷ us) (b ∷ vs) su sv = (
   spanned_same ranges spans us vs su.1 sv.1,
 )
 
--- the spans are those of ranges that unite the ones written
-abbrev pub IsUnion : List Range → List UnitedSpan → List Range → Type 0
-IsUnion ranges spans written = (united : List Range) × AreSpanned ranges spans united × Unites united written
+module _ (ranges : List Range) (spans : List UnitedSpan) (each : List (ℕ × ℕ)) (written : List Range)
+    (one : IsUnion ranges spans each written) where
+  -- there are as many united ranges as spans, and as many lengths
+  pub count : length one.united ≡ length spans
+  count = spanned_count ranges spans one.united one.spanned
 
-module _ (ranges : List Range) (spans : List UnitedSpan) (written : List Range) (one : IsUnion ranges spans written) where
-  count : length one.0 ≡ length spans
-  count = spanned_count ranges spans one.0 one.1
+  pub each_count : length each ≡ length spans
+  each_count = ap length one.ready ∙ length-map one.united lengths ∙ count
 
   pub apart : (united : List Range) → AreSpanned ranges spans united → AreApart united
   apart united spanned =
-      apart_same one.0 united (spanned_same ranges spans one.0 united one.1 spanned) one.2.apart
+      apart_same one.united united (spanned_same ranges spans one.united united one.spanned spanned) one.unites.apart
 
-  -- all that the spans name is written, so all the ranges are
-  pub all_written : ApartWriteInTurn → (version : ℤ) (before now : Steps)
-      → ((united : List Range) → AreSpanned ranges spans united → IsWriting united version (length united) before now)
-      → IsWritten written version before now
-  all_written turns version before now wrote =
-      (turns one.0 version one.2.apart).entire written before now (wrote one.0 one.1) one.2
+  -- those that the spans name have these lengths
+  pub ready_same : (united : List Range) → AreSpanned ranges spans united → each ≡ map lengths united
+  ready_same united spanned =
+      one.ready ∙ lengths_alike one.united united (spanned_same ranges spans one.united united one.spanned spanned)
 
   -- more boundaries than the limit for the spans are more for the ranges
   pub over_limit : CountedAlong → (limit : ℕ) (edge version : ℤ) (ws : List Write) → edge ≤ℤ version
       → limit < 1 + 2 * (live_count edge ws + length spans) → IsOverLimit limit edge (ws ++ at_version version written)
   over_limit along limit edge version ws late over =
       let counted = along edge version ws written late in
-      omega (arith, one.2.few, count, counted, over)
+      omega (arith, one.unites.few, count, counted, over)
 
 -- a set stops for its limit where its step map is full
 pub full_of : (e : StepError) → ArenaFull ≡ stop_of e → e ≡ step.Full

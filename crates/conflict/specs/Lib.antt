@@ -1,8 +1,9 @@
 pub mod Gaps
 pub mod InBatch
-pub mod Asking
+pub mod Lookup
 pub mod Written
 pub mod Union
 pub mod ConflictSet
 pub mod Pace
+pub mod Calls
 pub mod Unknown

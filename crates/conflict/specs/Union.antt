@@ -5,6 +5,7 @@ use Rattle.keys.specs.Range.{IsEmpty}
 use Rattle.keys.specs.GapRuns.{runs_of, AreChosenInOrder, IsBeginIn}
 pub use Rattle.keys.specs.Singles.{picked}
 use Rattle.keys.specs.declared.range.Range.{Range}
+use Rattle.stepmap.specs.StepMap.{lengths}
 use Rattle.stepmap.specs.Uniting.{Unites}
 use Rattle.conflict.specs.declared.union.UnitedSpan.{UnitedSpan}
 
@@ -37,6 +38,13 @@ pub record Spans (ranges : List Range) (span : UnitedSpan) (range : Range) : Typ
 -- there are as many united ranges as spans, and each span is that of the range at its place
 abbrev pub AreSpanned : List Range → List UnitedSpan → List Range → Type 0
 AreSpanned ranges spans united = AllZip (Spans ranges) spans united
+
+-- The spans are those of ranges that unite the written ones, and there are the lengths of their keys.
+pub record IsUnion (ranges : List Range) (spans : List UnitedSpan) (each_length : List (ℕ × ℕ)) (written : List Range) : Type 0 where
+  pub united : List Range
+  pub spanned : AreSpanned ranges spans united
+  pub unites : Unites united written
+  pub ready : each_length ≡ map lengths united
 
 -- the spans are those of ranges that unite the ones that were added, and each begins where some of these does
 pub record AreUnited (ranges : List Range) (spans : List UnitedSpan) (added : List Range) : Type 0 where

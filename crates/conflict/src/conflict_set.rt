@@ -3,19 +3,16 @@
 ghost use Rattle.std.specs.Prelude.{◌≡◌, ◌<◌, ◌≤◌, ◌↔◌, ◌≤ℤ◌, ◌-ℤ◌, pos, negsuc, [], length};
 ghost use Rattle.std.specs.Prelude.{None, Err, IfOk, IfErr};
 ghost use Rattle.std.specs.Int.{int_max};
-ghost use Rattle.keyspace.specs.Judged.{edge};
 ghost use Rattle.stepmap.specs.declared.step_map.TheConstants.{MAX_LIMIT};
 ghost use Rattle.stepmap.specs.StepMap.{AreSteps};
 ghost use Rattle.conflict.specs.ConflictSet.{IsSet, new_set, Remembers};
 ghost use Rattle.conflict.specs.Unknown.{unknown_until};
 
-mod one_batch;
 mod resolution;
 
+use crate::detect::Scratch;
 use crate::error::SetStop;
-use crate::scratch::Scratch;
 use crate::unknown::write_every_key;
-use keyspace::Batch;
 use std::alloc::{AllocError, Global};
 use std::marker::Model;
 use stepmap::StepMap;
@@ -173,17 +170,8 @@ impl ConflictSet {
     }
 }
 
-// Returns the edge of a batch: its version minus the window, or 0 if that is negative.
-fn edge_of(window: i64, batch: &Batch) -> i64
-    requires least_window { pos 1 ≤ℤ window }
-    requires most_window { window ≤ℤ MAX_WINDOW }
-    ensures edge { result ≡ edge window batch.now }
-{
-    edge_at(window, batch.version)
-}
-
-// Returns the version minus the window, or 0 if that is negative.
-fn edge_at(window: i64, version: i64) -> i64
+/// Returns the edge at a version: the version minus the window, or 0 if that is negative.
+pub(crate) fn edge_at(window: i64, version: i64) -> i64
     requires least_window { pos 1 ≤ℤ window }
     requires most_window { window ≤ℤ MAX_WINDOW }
     requires least_version { negsuc 0 ≤ℤ version }

@@ -67,12 +67,9 @@ fn judge_open(
     ensures judged { OnOk result ((keys : List (List ℕ)) (written : List Range) (ranked : Txn)
         → IsShapedAs txn.now ranked → AreRunsOf keys runs.now (ranked.reads ++ ranked.writes)
         → AreWrittenGaps keys gaps.old written → All (HaveBegin keys) written
-        → entry.new ≡ in_batch written ranked entry.old) }
+        → (entry.new ≡ in_batch written ranked entry.old)
+        × AreWrittenGaps keys gaps.new (written ++ counted entry.new.verdict ranked.writes)) }
     ensures count { length gaps.new ≡ length gaps.old }
-    ensures marked { OnOk result ((keys : List (List ℕ)) (written : List Range) (ranked : Txn)
-        → IsShapedAs txn.now ranked → AreRunsOf keys runs.now (ranked.reads ++ ranked.writes)
-        → AreWrittenGaps keys gaps.old written → All (HaveBegin keys) written
-        → AreWrittenGaps keys gaps.new (written ++ counted entry.new.verdict ranked.writes)) }
 {
     let (reads, writes) = runs.split_at(txn.reads.len());
     if let Some(place) = first_met(gaps, reads) {

@@ -1,116 +1,163 @@
-use Rattle.std.proofs.Common.{◌≡◌, ◌≤◌, ◌++◌, length, length-append, ap, sym, subst, ◌∙◌, true, w64, arith}
-use Rattle.std.specs.List.{list_any}
+use Rattle.std.proofs.Common.{◌≡◌, ◌<◌, ◌≤◌, ◌+◌, [], ◌∷◌, ◌∙◌, length, map, take, drop, ap, w64, to_z, of_z, arith}
+use Rattle.std.specs.Prelude.{◌≤ℤ◌}
 use Rattle.std.proofs.lemmas.Int.{to_z-of_z}
-use Rattle.keyspace.specs.Judge.{is_hit, is_too_old}
-use Rattle.keyspace.specs.Places.{ArePlaces}
-use Rattle.keyspace.specs.declared.txn.Txn.{Txn}
-use Rattle.keyspace.specs.declared.txn.TheConstants.{MAX_RANGES}
-use Rattle.conflict.specs.Asking.{true_places}
-use Rattle.conflict.proofs.Hits.{
-  none_true,
-  first_true,
-  later_true,
-  none_hit,
-  some_hit,
-  marked_entire,
-  places_of_hits,
-  places_of_both,
-  are_places,
+use Rattle.std.proofs.lemmas.List.{length-append, take_all}
+use Rattle.conflict.specs.Lookup.{all_first, asked_at, first_asked, then_asked, AreAnswers}
+use Rattle.conflict.specs.InBatch.{by_history}
+use Rattle.conflict.specs.declared.lookup.AnswerCounts.{AnswerCounts}
+use Rattle.conflict.proofs.Parts.{lent_at}
+use Rattle.conflict.proofs.Questions.{
+  answer_count,
+  first_count,
+  first_own,
+  first_later,
+  other_own,
+  other_later,
+  other_within,
+  part_at,
+  parts_later,
+  answers_few,
+  judged_more,
+  hits_from_answers,
 }
-use Rattle.conflict.proofs.InBatch.{committed_entry, unmarked_entry, marked_entry}
 use Rattle.conflict.proofs.history.judge_by_history.Goals as goal
-use Rattle.conflict.proofs.history.judge_by_history.Goals.{
-  else-not-contains-via-then-not-contains+else-not-contains-2,
-  else-not-contains-via-else-not-contains,
-  In_ok-push_places-2,
-}
 
-pub returns-then-not-contains-2 : goal.returns-then-not-contains-2
-returns-then-not-contains-2 c =
-    let t = c.args.txn.now in
-    let first = c.args.first.now in
-    let others = c.args.others.now in
-    let young = sym (c.is_old.ensures.too_old
-    ∙ ap (λ oldest. is_too_old oldest t) (to_z-of_z w64 c.args.oldest c.ranges.oldest))
-    ∙ c.if-is_old.false in
-    let made = c.new-then-not-contains-2.ensures in
-    let places = made.places ∙ c.new-none.ensures.places ∙ c.new.ensures.items in
-    let none = none_true first others (sym c.contains.ensures.value ∙ c.if-not-contains.true)
-    (sym c.contains-then-not-contains.ensures.value ∙ c.if-not-contains-2.true) in
-    record {
-      judged = λ ws hits.
-          committed_entry c.args.oldest ws t c.new-then-not-contains-2.result made.verdict places young
-          (none_hit ws t (first ++ others) (hits young).1 none);
-    }
+pub split_at-requires : goal.split_at-requires
+split_at-requires c =
+    let m = c.args.steps.now in
+    let ts = c.args.batch.now.txns in
+    let t = c.txn-txn.result in
+    let i = c.loop-index.index in
+    let inside : i < length ts = omega (arith, c.loop-index-test.true, c.len-index-end.ensures.count) in
+    let is = lent_at ts i t inside c.txn-txn.ensures.txn in
+    let firsts = c.loop-index.firsts.now in
+    let oldest = to_z w64 (of_z w64 c.args.oldest) in
+    let part = c.index-part.result.now in
+    let own : part ≡ (record {
+      first = length (first_asked oldest t);
+      others = length (then_asked oldest t (take (length (first_asked oldest t)) firsts));
+    }) = c.index-part.ensures ∙ part_at oldest ts i t inside is c.ask.new.self.parts.items firsts c.loop-index.invariant.3 part in
+    let count : part.first ≡ length (first_asked oldest t) = ap (λ (p : AnswerCounts). p.first) own in
+    omega (
+      arith,
+      count,
+      first_count oldest ts i t inside is,
+      answer_count m (all_first oldest (drop i ts)) firsts c.loop-index.invariant.1,
+    )
 
-pub returns-then-not-txn : goal.returns-then-not-txn
-returns-then-not-txn c =
-    let t = c.args.txn.now in
-    let first = c.args.first.now in
-    let others = c.args.others.now in
-    let young = sym (c.is_old.ensures.too_old
-    ∙ ap (λ oldest. is_too_old oldest t) (to_z-of_z w64 c.args.oldest c.ranges.oldest))
-    ∙ c.if-is_old.false in
-    let made = c.new-then-not-txn.ensures in
-    let places = made.places ∙ c.new-none.ensures.places ∙ c.new.ensures.items in
-    let some : list_any (λ hit. hit) (first ++ others) ≡ true =
-    elim c.else-not-contains.branch [
-      | else-not-contains-via-then-not-contains+else-not-contains-2 w ↦
-          later_true first others (sym c.contains.ensures.value ∙ w.if-not-contains.true)
-          (sym w.contains-then-not-contains.ensures.value ∙ w.if-not-contains-2.false)
-      | else-not-contains-via-else-not-contains w ↦
-          first_true first others (sym c.contains.ensures.value ∙ w.if-not-contains.false)
-    ] in
-    record {
-      judged = λ ws hits.
-          unmarked_entry c.args.oldest ws t c.new-then-not-txn.result made.verdict places young
-          (some_hit ws t (first ++ others) (hits young).0.0 (hits young).0.1 some)
-          (ap (λ (u : Txn). u.marked) (sym c.txn.view_is) ∙ c.if-not-txn.true);
-    }
+pub split_at-requires-in-loop-index : goal.split_at-requires-in-loop-index
+split_at-requires-in-loop-index c =
+    let m = c.args.steps.now in
+    let ts = c.args.batch.now.txns in
+    let t = c.txn-txn.result in
+    let i = c.loop-index.index in
+    let inside : i < length ts = omega (arith, c.loop-index-test.true, c.len-index-end.ensures.count) in
+    let is = lent_at ts i t inside c.txn-txn.ensures.txn in
+    let firsts = c.loop-index.firsts.now in
+    let determined = c.loop-index.invariant.1 in
+    let oldest = to_z w64 (of_z w64 c.args.oldest) in
+    let part = c.index-part.result.now in
+    let own : part ≡ (record {
+      first = length (first_asked oldest t);
+      others = length (then_asked oldest t (take (length (first_asked oldest t)) firsts));
+    }) = c.index-part.ensures ∙ part_at oldest ts i t inside is c.ask.new.self.parts.items firsts c.loop-index.invariant.3 part in
+    let count : part.first ≡ length (first_asked oldest t) = ap (λ (p : AnswerCounts). p.first) own in
+    let other_count : part.others ≡ length (then_asked oldest t (take (length (first_asked oldest t)) firsts)) =
+    ap (λ (p : AnswerCounts). p.others) own in
+    let few = other_within m oldest ts i t inside is firsts determined c.loop-index.others.now c.loop-index.invariant.2 in
+    omega (arith, few, other_count)
 
--- the places that are reported
-reported : (c : In_ok-push_places-2) → c.push_places-2.new.places.items
-    ≡ true_places 0 (c.args.first.now ++ c.args.others.now)
-reported c =
-    let first = c.args.first.now in
-    let others = c.args.others.now in
-    c.in_ok-push_places-2.ensures.places
-    ∙ ap (λ places. places ++ true_places (length first) others) (c.in_ok-push_places.ensures.places
-    ∙ ap (λ places. places ++ true_places 0 first) c.new-places.ensures.items)
-    ∙ places_of_both first others
+pub judge_txn-requires : goal.judge_txn-requires
+judge_txn-requires c =
+    let m = c.args.steps.now in
+    let ts = c.args.batch.now.txns in
+    let t = c.txn-txn.result in
+    let i = c.loop-index.index in
+    let inside : i < length ts = omega (arith, c.loop-index-test.true, c.len-index-end.ensures.count) in
+    let is = lent_at ts i t inside c.txn-txn.ensures.txn in
+    let firsts = c.loop-index.firsts.now in
+    let determined = c.loop-index.invariant.1 in
+    let oldest = to_z w64 (of_z w64 c.args.oldest) in
+    let part = c.index-part.result.now in
+    let own : part ≡ (record {
+      first = length (first_asked oldest t);
+      others = length (then_asked oldest t (take (length (first_asked oldest t)) firsts));
+    }) = c.index-part.ensures ∙ part_at oldest ts i t inside is c.ask.new.self.parts.items firsts c.loop-index.invariant.3 part in
+    let count : part.first ≡ length (first_asked oldest t) = ap (λ (p : AnswerCounts). p.first) own in
+    let other_count : part.others ≡ length (then_asked oldest t (take (length (first_asked oldest t)) firsts)) =
+    ap (λ (p : AnswerCounts). p.others) own in
+    let others = c.loop-index.others.now in
+    let others_determined = c.loop-index.invariant.2 in
+    let first : c.split_at.result.0.now ≡ take (length (first_asked oldest t)) firsts =
+    c.split_at.ensures.front ∙ ap (λ n. take n firsts) count in
+    let other : c.split_at-in-loop-index.result.0.now
+    ≡ take (length (then_asked oldest t (take (length (first_asked oldest t)) firsts))) others =
+    c.split_at-in-loop-index.ensures.front ∙ ap (λ n. take n others) other_count in
+    let first_determined : AreAnswers m (asked_at t.snapshot (first_asked oldest t)) c.split_at.result.0.now =
+    rw first (first_own m oldest ts i t inside is firsts determined) in
+    let other_determined
+    : AreAnswers m (asked_at t.snapshot (then_asked oldest t c.split_at.result.0.now)) c.split_at-in-loop-index.result.0.now =
+    rw (other, first) (other_own m oldest ts i t inside is firsts determined others others_determined) in
+    let few = answers_few m oldest t c.split_at.result.0.now c.split_at-in-loop-index.result.0.now first_determined other_determined in
+    record { few = omega (arith, few, t.few_reads) }
 
-pub new-requires-2 : goal.new-requires-2
-new-requires-2 c =
-    let hits = c.args.first.now ++ c.args.others.now in
-    let few : length hits ≤ MAX_RANGES = omega (arith, length-append c.args.first.now c.args.others.now, c.requires.few) in
-    record {
-      places = subst ArePlaces (sym (reported (goal.at.new-requires-2 c).In_ok-push_places-2)) (are_places hits few);
-    }
+pub loop-index-preserved : goal.loop-index-preserved
+loop-index-preserved c =
+    let m = c.args.steps.now in
+    let ts = c.args.batch.now.txns in
+    let t = c.txn-txn.result in
+    let i = c.loop-index.index in
+    let inside : i < length ts = omega (arith, c.loop-index-test.true, c.len-index-end.ensures.count) in
+    let is = lent_at ts i t inside c.txn-txn.ensures.txn in
+    let firsts = c.loop-index.firsts.now in
+    let determined = c.loop-index.invariant.1 in
+    let oldest = to_z w64 (of_z w64 c.args.oldest) in
+    let part = c.index-part.result.now in
+    let own : part ≡ (record {
+      first = length (first_asked oldest t);
+      others = length (then_asked oldest t (take (length (first_asked oldest t)) firsts));
+    }) = c.index-part.ensures ∙ part_at oldest ts i t inside is c.ask.new.self.parts.items firsts c.loop-index.invariant.3 part in
+    let count : part.first ≡ length (first_asked oldest t) = ap (λ (p : AnswerCounts). p.first) own in
+    let other_count : part.others ≡ length (then_asked oldest t (take (length (first_asked oldest t)) firsts)) =
+    ap (λ (p : AnswerCounts). p.others) own in
+    let others = c.loop-index.others.now in
+    let others_determined = c.loop-index.invariant.2 in
+    let first : c.split_at.result.0.now ≡ take (length (first_asked oldest t)) firsts =
+    c.split_at.ensures.front ∙ ap (λ n. take n firsts) count in
+    let other : c.split_at-in-loop-index.result.0.now
+    ≡ take (length (then_asked oldest t (take (length (first_asked oldest t)) firsts))) others =
+    c.split_at-in-loop-index.ensures.front ∙ ap (λ n. take n others) other_count in
+    let first_determined : AreAnswers m (asked_at t.snapshot (first_asked oldest t)) c.split_at.result.0.now =
+    rw first (first_own m oldest ts i t inside is firsts determined) in
+    let other_determined
+    : AreAnswers m (asked_at t.snapshot (then_asked oldest t c.split_at.result.0.now)) c.split_at-in-loop-index.result.0.now =
+    rw (other, first) (other_own m oldest ts i t inside is firsts determined others others_determined) in
+    let late : m.edge ≤ℤ oldest = rw (to_z-of_z w64 c.args.oldest c.ranges.oldest) c.requires.late in
+    let later_firsts : c.split_at.result.1.now ≡ drop (length (first_asked oldest t)) firsts =
+    c.split_at.ensures.back ∙ ap (λ n. drop n firsts) count in
+    let later_others : c.split_at-in-loop-index.result.1.now
+    ≡ drop (length (then_asked oldest t (take (length (first_asked oldest t)) firsts))) others =
+    c.split_at-in-loop-index.ensures.back ∙ ap (λ n. drop n others) other_count in (
+      ap length c.in_ok-push.ensures.items
+          ∙ length-append c.loop-index.entries.items (c.in_ok-judge_txn.field-0 ∷ [])
+          ∙ ap (λ n. n + 1) c.loop-index.invariant.0,
+      rw later_firsts (first_later m oldest ts i t inside is firsts determined),
+      rw (later_others, later_firsts) (other_later m oldest ts i t inside is firsts determined others others_determined),
+      rw later_firsts (parts_later oldest ts i t inside is c.ask.new.self.parts.items firsts c.loop-index.invariant.3),
+      c.loop-index.invariant.4,
+      λ ws covers. c.in_ok-push.ensures.items
+          ∙ judged_more ts i t inside is (by_history oldest ws) c.loop-index.entries.items
+          c.in_ok-judge_txn.field-0 (c.loop-index.invariant.5 ws covers)
+          (c.in_ok-judge_txn.ensures.judged ws
+          (hits_from_answers c.hits.ensures.exceeds m ws oldest t c.split_at.result.0.now
+          c.split_at-in-loop-index.result.0.now covers late first_determined other_determined)),
+    )
 
-pub returns : goal.returns
-returns c =
-    let t = c.args.txn.now in
-    let first = c.args.first.now in
-    let others = c.args.others.now in
-    let young = sym (c.is_old.ensures.too_old
-    ∙ ap (λ oldest. is_too_old oldest t) (to_z-of_z w64 c.args.oldest c.ranges.oldest))
-    ∙ c.if-is_old.false in
-    let made = c.new-3.ensures in
-    let some : list_any (λ hit. hit) (first ++ others) ≡ true =
-    elim c.else-not-contains.branch [
-      | else-not-contains-via-then-not-contains+else-not-contains-2 w ↦
-          later_true first others (sym c.contains.ensures.value ∙ w.if-not-contains.true)
-          (sym w.contains-then-not-contains.ensures.value ∙ w.if-not-contains-2.false)
-      | else-not-contains-via-else-not-contains w ↦
-          first_true first others (sym c.contains.ensures.value ∙ w.if-not-contains.false)
-    ] in
-    record {
-      judged = λ ws hits.
-          marked_entry c.args.oldest ws t c.new-3.result made.verdict
-          (made.places ∙ c.new-2.ensures.places ∙ reported (goal.at.returns c).In_ok-push_places-2
-          ∙ ap (true_places 0) (marked_entire ws t (first ++ others) (hits young).1
-          (ap (λ (u : Txn). u.marked) (sym c.txn.view_is) ∙ c.if-not-txn.false))
-          ∙ places_of_hits 0 (is_hit ws t) t.reads) young
-          (some_hit ws t (first ++ others) (hits young).0.0 (hits young).0.1 some)
-          (ap (λ (u : Txn). u.marked) (sym c.txn.view_is) ∙ c.if-not-txn.false);
-    }
+pub returns-clause-judged : goal.returns-clause-judged
+returns-clause-judged c = λ ws covers.
+    let ts = c.args.batch.now.txns in
+    let i = c.loop-index.index in
+    let most : length ts ≤ i = omega (arith, c.loop-index-test.false, c.len-index-end.ensures.count) in
+    c.loop-index.invariant.5 ws covers
+    ∙ ap (λ oldest. map (by_history oldest ws) (take i ts)) (to_z-of_z w64 c.args.oldest c.ranges.oldest)
+    ∙ ap (map (by_history c.args.oldest ws)) (take_all i ts most)

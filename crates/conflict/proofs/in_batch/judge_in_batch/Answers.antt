@@ -114,8 +114,8 @@ loop-index-preserved c =
             rw (w.gaps-is, w.entries-is, back)
             (next_judged keys entire i c.loop-index.rest.now c.loop-index.gaps likes c.loop-index.entries so_far like
             among next c.index-entries-index.result count w.judge_open.new.entry w.judge_open.new.gaps
-            (λ written determined have. w.in_ok-judge_open.ensures.judged keys written like (shaped f t) own determined have)
-            (λ written determined have. w.in_ok-judge_open.ensures.marked keys written like (shaped f t) own determined have));
+            (λ written determined have. (w.in_ok-judge_open.ensures.judged keys written like (shaped f t) own determined have).0)
+            (λ written determined have. (w.in_ok-judge_open.ensures.judged keys written like (shaped f t) own determined have).1));
       }
       | else-eq w ↦ record {
         count = ap length w.gaps-is ∙ c.loop-index.invariant.count;

@@ -13,35 +13,26 @@ returns-in_ok-place_if_marked-clause-judged c = λ keys written t shaped determi
     let front = c.split_at.ensures.front
     ∙ ap (λ n. take n runs) (c.len.ensures.count ∙ ap (λ (u : Txn). length u.reads) c.txn.view_is ∙ sym shaped.reads) in
     let reads : AreRunsOf keys c.split_at.result.0.now t.reads =
-    rw front (determined_split keys runs t.reads t.writes determine).0 in
-    met_entry written t c.args.entry.now c.new.result c.in-Some.place c.requires.open
-    (c.in-Some.ensures.first keys written t.reads reads determined have) c.new.ensures.verdict
-    (c.new.ensures.places ∙ c.in_ok-place_if_marked.ensures.places
-    ∙ ap (λ marked. cond marked (c.in-Some.place ∷ []) []) (sym shaped.marked))
-
-pub returns-in_ok-place_if_marked-clause-marked : goal.returns-in_ok-place_if_marked-clause-marked
-returns-in_ok-place_if_marked-clause-marked c = λ keys written t shaped determine determined have.
-    no_more_written keys c.args.gaps.now written _
-    (ap (λ v. counted v t.writes) c.new.ensures.verdict) determined
+    rw front (determined_split keys runs t.reads t.writes determine).0 in (
+      met_entry written t c.args.entry.now c.new.result c.in-Some.place c.requires.open
+          (c.in-Some.ensures.first keys written t.reads reads determined have) c.new.ensures.verdict
+          (c.new.ensures.places ∙ c.in_ok-place_if_marked.ensures.places
+          ∙ ap (λ marked. cond marked (c.in-Some.place ∷ []) []) (sym shaped.marked)),
+      no_more_written keys c.args.gaps.now written _ (ap (λ v. counted v t.writes) c.new.ensures.verdict) determined,
+    )
 
 pub returns-in_default-clause-judged : goal.returns-in_default-clause-judged
 returns-in_default-clause-judged c = λ keys written t shaped determine determined have.
     let runs = c.args.runs.now in
-    let front = c.split_at.ensures.front
-    ∙ ap (λ n. take n runs) (c.len.ensures.count ∙ ap (λ (u : Txn). length u.reads) c.txn.view_is ∙ sym shaped.reads) in
+    let count = c.len.ensures.count ∙ ap (λ (u : Txn). length u.reads) c.txn.view_is ∙ sym shaped.reads in
+    let both = determined_split keys runs t.reads t.writes determine in
     let reads : AreRunsOf keys c.split_at.result.0.now t.reads =
-    rw front (determined_split keys runs t.reads t.writes determine).0 in
-    unmet_entry written t c.args.entry.now c.requires.open
-    (c.in_default.ensures.first keys written t.reads reads determined have)
-
-pub returns-in_default-clause-marked : goal.returns-in_default-clause-marked
-returns-in_default-clause-marked c = λ keys written t shaped determine determined have.
-    let runs = c.args.runs.now in
-    let back = c.split_at.ensures.back
-    ∙ ap (λ n. drop n runs) (c.len.ensures.count ∙ ap (λ (u : Txn). length u.reads) c.txn.view_is ∙ sym shaped.reads) in
+    rw (c.split_at.ensures.front ∙ ap (λ n. take n runs) count) both.0 in
     let writes : AreRunsOf keys c.split_at.result.1.now t.writes =
-    rw back (determined_split keys runs t.reads t.writes determine).1 in
+    rw (c.split_at.ensures.back ∙ ap (λ n. drop n runs) count) both.1 in
     let counts : t.writes ≡ counted c.args.entry.now.verdict t.writes =
-    ap (λ v. counted v t.writes) (sym c.requires.open) in
-    subst (λ ranges. AreWrittenGaps keys c.mark.new.gaps (written ++ ranges)) counts
-    (c.mark.ensures.marked keys written t.writes writes determined)
+    ap (λ v. counted v t.writes) (sym c.requires.open) in (
+      unmet_entry written t c.args.entry.now c.requires.open (c.in_default.ensures.first keys written t.reads reads determined have),
+      subst (λ ranges. AreWrittenGaps keys c.mark.new.gaps (written ++ ranges)) counts
+          (c.mark.ensures.marked keys written t.writes writes determined),
+    )

@@ -1,4 +1,4 @@
-use Rattle.std.proofs.Common.{rules, ◌≡◌, ◌++◌, List, Err, None, length, take, FitsSigned, w64, sym, ap, subst, ◌∙◌}
+use Rattle.std.proofs.Common.{rules, ◌≡◌, ◌++◌, List, None, length, take, FitsSigned, w64, sym, ap, subst, ◌∙◌}
 use Rattle.std.proofs.lemmas.Int.{to_z-of_z}
 use Rattle.keyspace.specs.declared.reply.Entry.{Entry}
 use Rattle.keyspace.specs.Writes.{writes_of}
@@ -15,13 +15,13 @@ invariant_of-self c =
     let ws = c.self.invariant.remembers.0 in
     let before = c.self.invariant.remembers.1 in
     record {
-      resolved = λ _. c.in-Ok.ensures.resolved ∙ sym (to_z-of_z w64 batch.version fits);
-      continues = λ _. c.in-Ok.ensures.continues.1;
+      resolved = λ _. c.in-Ok.ensures.resolves.resolved ∙ sym (to_z-of_z w64 batch.version fits);
+      continues = λ _. c.in-Ok.ensures.resolves.continues.1;
       remembers = (
         ws ++ writes_of batch c.in-Ok.reply,
         record {
-          covers = c.in-Ok.ensures.covers ws before.covers;
-          rooted = c.in-Ok.ensures.rooted ws before.rooted;
+          covers = c.in-Ok.ensures.resolves.map.covers ws before.covers;
+          rooted = c.in-Ok.ensures.resolves.map.rooted ws before.rooted;
         },
       );
     }
@@ -32,7 +32,7 @@ returns-in-Ok-clause-judges c =
     let reply = c.in-Ok.reply in
     let ws = c.self.invariant.remembers.0 in
     let before = c.self.invariant.remembers.1 in
-    let count : length reply.entries ≡ length batch.txns = (c.in-Ok.ensures.judged ws before.covers).count in
+    let count : length reply.entries ≡ length batch.txns = (c.in-Ok.ensures.resolves.map.judged ws before.covers).count in
     let verdicts = c.put_verdicts.new.verdicts in
     let written : take (length reply.entries) verdicts ≡ verdict_numbers reply.entries =
     subst (λ (entries : List Entry). take (length entries) verdicts ≡ verdict_numbers entries) c.as_slice.ensures.items
@@ -42,13 +42,13 @@ returns-in-Ok-clause-judges c =
     (record {
       reply = reply;
       answered = ap (λ n. take n verdicts) (sym count) ∙ written;
-      judged = c.in-Ok.ensures.judged;
+      judged = c.in-Ok.ensures.resolves.map.judged;
       continues = record {
-        resolved = c.in-Ok.ensures.resolved;
-        window = c.in-Ok.ensures.window;
-        limit = c.in-Ok.ensures.limit;
+        resolved = c.in-Ok.ensures.resolves.resolved;
+        window = c.in-Ok.ensures.resolves.window;
+        limit = c.in-Ok.ensures.resolves.map.limit;
         stop = ap (λ (set : SetState). set.stop) c.self.view_is ∙ c.requires.continues;
-        covers = c.in-Ok.ensures.covers;
+        covers = c.in-Ok.ensures.resolves.map.covers;
       };
     })
 
@@ -56,9 +56,12 @@ pub invariant_of-self-in-Err : goal.invariant_of-self-in-Err
 invariant_of-self-in-Err c =
     let none : c.self.inside.stop ≡ None = ap (λ (set : SetState). set.stop) c.self.view_is ∙ c.requires.continues in
     let ws = c.self.invariant.remembers.0 in
+    let before = c.self.invariant.remembers.1 in
+    let stops = c.in-Err.ensures.stops in
+    let fails = stops.map (c.self.invariant.continues none) in
     parts_after c.args.when_full c.in-Err.stop c.self.inside.set c.resolve_when.new.self _ c.self.inside.stop c.stop_for-self-inside.result
-    c.self.invariant none c.stop_for-self-inside.ensures.stop (λ refuse full. c.in-Err.ensures.refused refuse (ap Err full))
-    (ws, c.in-Err.ensures.kept ws c.self.invariant.remembers.1)
+    c.self.invariant none c.stop_for-self-inside.ensures.stop stops.refused
+    (ws, record { covers = fails.covers ws before.covers; rooted = fails.rooted ws before.rooted })
 
 pub returns-in-Err-clause-stops : goal.returns-in-Err-clause-stops
 returns-in-Err-clause-stops c =
@@ -66,21 +69,19 @@ returns-in-Err-clause-stops c =
     let w = c.args.when_full in
     let none : c.self.inside.stop ≡ None = ap (λ (set : SetState). set.stop) c.self.view_is ∙ c.requires.continues in
     let going = c.self.invariant.continues none in
-    let reported = c.in-Err.ensures in (
+    let reported = c.in-Err.ensures.stops in
+    let fails = reported.map going in (
       stop,
       search rules,
       subst (λ (set : SetState). StopsAt w set (record c.resolve_when.new.self { stop = c.stop_for-self-inside.result }) c.args.batch.now stop)
           c.self.view_is
           (record {
             met_now = met_after w stop c.self.inside.set c.resolve_when.new.self c.self.inside.stop c.stop_for-self-inside.result none
-                c.stop_for-self-inside.ensures.stop (λ refuse full. reported.refused refuse (ap Err full));
+                c.stop_for-self-inside.ensures.stop reported.refused;
             window = reported.window;
-            limit = reported.limit;
-            full = λ is ws reply before judged.
-                reported.full going (ap Err is) ws reply (record { covers = before.covers; rooted = before.rooted }) judged;
-            no_room = λ is ws reply before judged.
-                reported.no_room going (ap Err is) ws reply (record { covers = before.covers; rooted = before.rooted }) judged;
-            memory = λ is ws reply before judged.
-                reported.memory going (ap Err is) ws reply (record { covers = before.covers; rooted = before.rooted }) judged;
+            limit = fails.limit;
+            full = λ is ws reply before judged. (fails.full is ws reply before.covers before.rooted judged).over;
+            no_room = λ is ws reply before judged. (fails.full is ws reply before.covers before.rooted judged).no_room;
+            memory = λ is ws reply before judged. fails.memory is ws reply before.covers judged;
           }),
     )

@@ -9,7 +9,6 @@ use Rattle.std.proofs.Common.{
   length,
   Some,
   None,
-  Err,
   w64,
   SFits,
   refl,
@@ -47,9 +46,9 @@ returns-in-Err-clause-arena_full g c = λ is state given are.
     let set = c.self.inside.set in
     let batch = c.args.batch in
     let running = c.self.invariant.takes_more (ap (λ k. k.stop) c.self.view_is ∙ c.requires.«open») in
-    let over = c.in-Err.ensures.full running (ap Err full) (writes state.processed)
-    (judge set.window (writes state.processed) batch) was.remembers
-    (c.one_reply.ensures.right set.window (writes state.processed) batch) in
+    let reply = judge set.window (writes state.processed) batch in
+    let over = ((c.in-Err.ensures.stops.map running).full full (writes state.processed) reply was.remembers.covers
+    was.remembers.rooted (c.one_reply.ensures.right set.window (writes state.processed) batch)).over in
     let new = core_of c.resolve.new.self c.self.inside.version c.self.inside.gate c.self.inside.replies
     c.reserve.new.self (Some c.from-stop.result) in
     let same = c.in_ok-reserve.ensures.same ∙ ap (λ k. k.owed) c.self.view_is in
@@ -72,7 +71,7 @@ module _ (g : Over) (c : In-Ok g) where
   same : c.in-Ok.reply.version ≡ c.args.batch.version
   same =
       let known = c.self.invariant.remembers in
-      (c.in-Ok.ensures.judged known.0 known.1.covers).version
+      (c.in-Ok.ensures.resolves.map.judged known.0 known.1.covers).version
 
   later : c.self.inside.version <ℤ c.args.batch.version
   later =
@@ -92,8 +91,8 @@ module _ (g : Over) (c : In-Ok g) where
   remembers : (ws : List Write) → Remembers c.self.inside.set ws
       → Remembers c.resolve.new.self (ws ++ writes_of c.args.batch c.in-Ok.reply)
   remembers ws old = record {
-    covers = c.in-Ok.ensures.covers ws old.covers;
-    rooted = c.in-Ok.ensures.rooted ws old.rooted;
+    covers = c.in-Ok.ensures.resolves.map.covers ws old.covers;
+    rooted = c.in-Ok.ensures.resolves.map.rooted ws old.rooted;
   }
 
   remembers_some : (ws : List Write) × Remembers c.resolve.new.self ws
@@ -116,7 +115,7 @@ module _ (g : Over) (c : In-Ok g) where
       → c.in-Ok.reply ≡ judge c.args.self.now.set.window (writes state.processed) c.args.batch
   judged state given was =
       c.one_reply.ensures.only c.self.inside.set.window (writes state.processed) c.args.batch c.in-Ok.reply
-      (c.in-Ok.ensures.judged (writes state.processed) was.remembers.covers)
+      (c.in-Ok.ensures.resolves.map.judged (writes state.processed) was.remembers.covers)
       ∙ ap (λ (k : CoreState). judge k.set.window (writes state.processed) c.args.batch) c.self.view_is
 
 pub keep-requires : goal.keep-requires
@@ -129,7 +128,7 @@ invariant_of-self-in_err-keep g c =
     let d = (goal.at.invariant_of-self-in_err-keep g c).In-Ok in
     let version = to_z-of_z w64 c.args.batch.version (fits g d) in
     let later = later g d in
-    IsCore-later (before g d) _ c.self.invariant c.in-Ok.ensures.continues.1 (c.in-Ok.ensures.resolved ∙ sym version)
+    IsCore-later (before g d) _ c.self.invariant c.in-Ok.ensures.resolves.continues.1 (c.in-Ok.ensures.resolves.resolved ∙ sym version)
     (remembers_some g d) refl (ap length c.in_ok-reserve.ensures.same)
     (λ proxy v reply is.
     let past = c.self.invariant.past proxy v reply (c.in_err-keep.ensures.err proxy v reply is) in
@@ -139,7 +138,7 @@ pub invariant_of-self-in_err-see : goal.invariant_of-self-in_err-see
 invariant_of-self-in_err-see g c =
     let d = (goal.at.invariant_of-self-in_err-see g c).In-Ok in
     let version = to_z-of_z w64 c.args.batch.version (fits g d) in
-    IsCore-later (before g d) _ c.self.invariant c.in-Ok.ensures.continues.1 (c.in-Ok.ensures.resolved ∙ sym version)
+    IsCore-later (before g d) _ c.self.invariant c.in-Ok.ensures.resolves.continues.1 (c.in-Ok.ensures.resolves.resolved ∙ sym version)
     (remembers_some g d) refl (ap length c.in_ok-reserve.ensures.same)
     (λ proxy v reply is. past g d _ version _ proxy v reply (sym (c.in_ok-keep.ensures.ok proxy v) ∙ is))
 
@@ -147,7 +146,7 @@ pub invariant_of-self-2 : goal.invariant_of-self-2
 invariant_of-self-2 g c =
     let d = (goal.at.invariant_of-self-2 g c).In-Ok in
     let version = to_z-of_z w64 c.args.batch.version (fits g d) in
-    IsCore-later (before g d) _ c.self.invariant c.in-Ok.ensures.continues.1 (c.in-Ok.ensures.resolved ∙ sym version)
+    IsCore-later (before g d) _ c.self.invariant c.in-Ok.ensures.resolves.continues.1 (c.in-Ok.ensures.resolves.resolved ∙ sym version)
     (remembers_some g d) refl
     (ap length c.push.ensures.answers
     ∙ length-owed_also c.args.proxy (reported.Reply c.in-Ok.reply) c.reserve.new.self.answers
@@ -180,7 +179,7 @@ returns-clause-ok g c = λ state given are.
 pub see-requires : goal.see-requires
 see-requires g c =
     let known = c.self.invariant.remembers in
-    record { entries = (c.in-Ok.ensures.judged known.0 known.1.covers).count }
+    record { entries = (c.in-Ok.ensures.resolves.map.judged known.0 known.1.covers).count }
 
 pub returns-clause-seen : goal.returns-clause-seen
 returns-clause-seen g c = λ state given are seen.

@@ -1,7 +1,0 @@
-use Rattle.std.proofs.Common.{◌≡◌, map, take, Some}
-use Rattle.conflict.specs.Asking.{query_named, all_first}
-use Rattle.conflict.proofs.history_queries.list_first.Given as goal
-
-abbrev pub invariant-loop-index : goal.invariant-loop-index
-invariant-loop-index l =
-    map (query_named l.batch.txns) l.asked.items ≡ map Some (all_first l.oldest (take l.index l.batch.txns))
