@@ -68,6 +68,29 @@ impl Ring {
     def test_bodies(self) -> None:
         self.assertEqual(contract_lines.body_lines(self.SOURCE), 3)
 
+    SPECS = """\
+pub record Outer (a b : List T)
+    : Type 0 where
+  -- what it says
+  pub one : a ≡ b
+  pub two :
+      a ≡ []
+
+module _ {T : Type 0} where
+  pub record Inner : Type 0 where
+    pub first : Nat
+
+  abbrev pub none : List T
+  none = []
+"""
+
+    def test_records(self) -> None:
+        with tempfile.TemporaryDirectory() as folder:
+            path = pathlib.Path(folder) / "Ring.antt"
+            path.write_text(self.SPECS)
+            fields = contract_lines.record_fields([path])
+        self.assertEqual(fields, {"Outer": 3, "Inner": 1})
+
 
 class Classify(unittest.TestCase):
     """Which crate and kind of work a command line is for."""

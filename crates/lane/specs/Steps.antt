@@ -44,12 +44,6 @@ module _ {T : Type 0} where
     pub item : T
     pub held : me.1 ≡ (length me.0.port.sent % slots, Some item) ∷ rest me.1
 
-  pub record Filled (slots : ℕ) (old : Me (Option T) (Known T)) (item : T) (new : Me (Option T) (Known T)) : Type 0 where
-    pub knows : new.0 ≡ old.0
-    pub holds : HoldsItem slots new
-    pub with_item : holds.item ≡ item
-    pub others : rest new.1 ≡ rest old.1
-
   -- the port gives that slot back with the item, and has sent it
   abbrev pub port_sent : PortKnows T → T → List Move → PortKnows T
   port_sent p x log = record p { sent = p.sent ++ x ∷ []; log = log; holds = false }
@@ -58,6 +52,10 @@ module _ {T : Type 0} where
     pub holds : HoldsItem slots old
     pub sent : new ≡ (record old.0 { port = port_sent old.0.port holds.item new.0.port.log }, rest old.1)
     pub continues : ContinuesBy Send old.0.port.log new.0.port.log
+
+  -- a token of the port has sent the item, and knows nothing else that it did not know
+  abbrev pub HasSent : T → Known T → Known T → Type 0
+  HasSent item old new = new ≡ record old { port = port_sent old.port item new.port.log }
 
   pub record Closed (old : Me (Option T) (Known T)) (new : Me (Option T) (Known T)) : Type 0 where
     pub closed : new ≡ (record old.0 { port = record old.0.port { closed = true } }, old.1)
@@ -109,12 +107,6 @@ module _ {T : Type 0} where
     pub item : T
     pub next : me.0.intake.next ≡ Some item
     pub held : me.1 ≡ (length me.0.intake.taken % slots, None) ∷ rest me.1
-
-  pub record Emptied (slots : ℕ) (old : Me (Option T) (Known T)) (item : T) (new : Me (Option T) (Known T)) : Type 0 where
-    pub knows : new.0 ≡ old.0
-    pub holds : HoldsEmpty slots new
-    pub with_item : holds.item ≡ item
-    pub others : rest new.1 ≡ rest old.1
 
   -- the intake gives that slot back, and has taken the item
   abbrev pub intake_took : IntakeKnows T → T → List Move → IntakeKnows T

@@ -1,17 +1,18 @@
 //! How a lane is made: both of its ends at once.
 
 ghost use Rattle.std.specs.Prelude.{◌≡◌, ◌<◌, ◌≤◌, ◌↔◌, IsTrue, IfOk};
-ghost use Rattle.lane.specs.Lane.{Lane, SameLane, SeesWhatIs, PortContinues, IntakeContinues};
-ghost use Rattle.lane.specs.Lane.{new_port};
-ghost use Rattle.lane.specs.Lane.{new_intake};
+ghost use Rattle.lane.specs.Lane.{SameLane, IntakeContinues, new_port, new_intake};
+ghost use Rattle.lane.specs.Calls.{Meets};
 
 use crate::error::LaneError;
-use crate::intake::Intake;
-use crate::port::Port;
+use crate::intake::{Intake, IntakeCounts};
+use crate::port::{Port, PortCounts};
 use crate::ring::joined_tokens::{join, part};
-use crate::ring::ring;
+use crate::ring::{Ring, WORDS};
 use crate::{intake, port};
+use crossbeam_utils::CachePadded;
 use std::alloc::Global;
+use std::sync::Arc;
 
 /// The largest capacity of a lane.
 pub const MAX_CAPACITY: usize = 1_024;
@@ -27,22 +28,42 @@ pub fn lane<T: Drop>(alloc: Global, capacity: usize) -> Result<(Port<T>, Intake<
     ensures port { IfOk result (λ ends. ends.0 ≡ new_port ends.0.lane capacity) }
     ensures intake { IfOk result (λ ends. ends.1 ≡ new_intake ends.0.lane capacity) }
 {
-    let (sends, takes) = ring(alloc, capacity)?;
-    Ok((Port::new(sends, capacity), Intake::new(takes, capacity)))
+    let (ring, mut takes) = Ring::vacant(alloc, &[0; WORDS], capacity, &())?;
+    let sends = part(&ring, &mut takes);
+    let Ok(ring) = Arc::new(alloc, ring) else {
+        return Err(LaneError::Memory);
+    };
+    let shared = Arc::try_clone(&ring)?;
+    let port = Port {
+        ring,
+        token: Some(sends),
+        counts: CachePadded::new(PortCounts {
+            capacity,
+            sent: 0,
+            seen_taken: 0,
+            closed: false,
+        }),
+    };
+    let intake = Intake {
+        ring: shared,
+        token: takes,
+        counts: CachePadded::new(IntakeCounts {
+            capacity,
+            taken: 0,
+            seen_sent: 0,
+            seen_close: false,
+        }),
+    };
+    Ok((port, intake))
 }
 
 /// Returns whether all that was sent on the lane is taken. Each end looks at the other, and sees
 /// what is.
 pub fn agree<T>(port: &mut Port<T>, intake: &mut Intake<T>) -> bool
     requires same_lane { SameLane port.old intake.old }
-    ensures lane_before { Lane port.old intake.old }
-    ensures lane { Lane port.new intake.new }
-    ensures port { PortContinues port.old port.new }
-    ensures sent { port.new.sent ≡ port.old.sent }
-    ensures closed { port.new.closed ≡ port.old.closed }
+    ensures meets { Meets port.old intake.old port.new intake.new }
     ensures intake { IntakeContinues intake.old intake.new }
     ensures taken { intake.new.taken ≡ intake.old.taken }
-    ensures looked { SeesWhatIs port.old intake.old port.new intake.new }
     ensures all_taken { IsTrue result ↔ (intake.old.taken ≡ port.old.sent) }
 {
     let Some(theirs) = port.token.take() else {

@@ -1,24 +1,16 @@
 //! The end of a lane that takes.
 
-ghost use Rattle.std.specs.Prelude.{◌≡◌, ◌<◌, ◌≤◌, ◌+◌, ◌^◌, [], ◌∷◌, ◌++◌, true, false, length};
-ghost use Rattle.std.specs.Prelude.{drop, slice_get, Some};
-ghost use Rattle.std.specs.Arc.{arc_value};
-ghost use Rattle.lane.specs.Lane.{Lane, SameLane, SeesWhatIs, PortContinues, IntakeContinues};
-ghost use Rattle.lane.specs.Lane.{HasEnded};
-ghost use Rattle.lane.specs.Lane.{new_intake};
-ghost use Rattle.lane.specs.Ends.{IsIntake, AreTaken, IsTokenOf};
-ghost use Rattle.lane.specs.Moves.{ContinuesBy, sent_by};
-ghost use Rattle.lane.specs.declared.moves.Move.TheVariants.{IntakeLook};
-ghost use Rattle.lane.specs.Ring.{Agree, new_intake_knows};
-ghost use Rattle.lane.specs.Steps.{TailLooked, HoldsNext, Found, HoldsEmpty, Emptied, Took};
-ghost use Rattle.lane.specs.Steps.{intake_took, NextOf};
-ghost use Rattle.lane.specs.Taken.{items_of, next_of, IfEmpty, IfEnd};
-ghost use Rattle.lane.specs.declared.intake.Taken.TheVariants.{Item, Empty, End};
+ghost use Rattle.std.specs.Prelude.{◌≡◌, length, drop};
+ghost use Rattle.lane.specs.Lane.{SameLane};
+ghost use Rattle.lane.specs.Calls.{Meets, Takes};
+ghost use Rattle.lane.specs.Ends.{IsIntake};
+ghost use Rattle.lane.specs.Steps.{TailLooked, NextOf};
+ghost use Rattle.lane.specs.Taken.{next_of};
 
 use crate::port::Port;
 use crate::ring::joined_tokens::{join, part};
-use crate::ring::plays::{Finds, LooksAtTail, Takes};
-use crate::ring::{CLOSING_BIT, HEAD, Part, Ring, TAIL, Token};
+use crate::ring::plays::{Finds, LooksAtTail, StoresHead};
+use crate::ring::{CLOSING_BIT, HEAD, Ring, TAIL, Token};
 use crossbeam_utils::CachePadded;
 use std::alloc::Global;
 use std::marker::Model;
@@ -77,40 +69,10 @@ impl<T> Model for Intake<T> {
 }
 
 impl<T> Intake<T> {
-    pub(crate) fn new(part: Part<T>, capacity: usize) -> Self
-        requires part { IsTokenOf (arc_value part.ring).shared.table_id part.token }
-        requires capacity { (arc_value part.ring).shared.table_id.slots ≡ capacity }
-        requires takes { part.token.me.0.takes ≡ true }
-        requires nothing_taken { part.token.me.0.intake ≡ new_intake_knows }
-        ensures intake { result
-            ≡ new_intake record { ring = (arc_value part.ring).shared.table_id } capacity }
-    {
-        let Part { ring, token } = part;
-        Intake {
-            ring,
-            token,
-            counts: CachePadded::new(IntakeCounts {
-                capacity,
-                taken: 0,
-                seen_sent: 0,
-                seen_close: false,
-            }),
-        }
-    }
-
     /// Takes the next item, in the order sent, or reports that the lane is empty or at its end.
     /// After `End` the answer is always `End`.
     pub fn take(&mut self) -> Taken<T>
-        ensures intake { IntakeContinues self.old self.new }
-        ensures taken { self.new.taken ≡ self.old.taken ++ items_of result }
-        ensures empty_looks { IfEmpty result (self.old.looks < self.new.looks) }
-        ensures empty { IfEmpty result (length self.new.taken ≡ self.new.seen_sent) }
-        ensures empty_before_close { IfEmpty result (self.new.seen_close ≡ false) }
-        // The look is the last move of the log. At that moment all that was sent was taken.
-        ensures empty_look { IfEmpty result (ContinuesBy IntakeLook self.old.log self.new.log) }
-        ensures empty_then { IfEmpty result (sent_by self.new.log ≡ length self.new.taken) }
-        ensures end { IfEnd result (HasEnded self.new) }
-        ensures ended { HasEnded self.old → result ≡ Taken.End }
+        ensures takes { Takes result self.old self.new }
     {
         if self.counts.taken == self.counts.seen_sent && !self.counts.seen_close {
             look(&self.ring, &mut self.token, &mut self.counts);
@@ -122,17 +84,10 @@ impl<T> Intake<T> {
     /// only if all that was sent is taken. Where it looks, it sees what is.
     pub fn take_beside(&mut self, port: &mut Port<T>) -> Taken<T>
         requires same_lane { SameLane port.old self.old }
-        ensures lane_before { Lane port.old self.old }
-        ensures lane { Lane port.new self.new }
-        ensures port { PortContinues port.old port.new }
-        ensures sent { port.new.sent ≡ port.old.sent }
-        ensures closed { port.new.closed ≡ port.old.closed }
-        ensures intake { IntakeContinues self.old self.new }
-        ensures looked { SeesWhatIs port.old self.old port.new self.new }
-        ensures taken { self.new.taken ≡ self.old.taken ++ items_of result }
+        ensures meets { Meets port.old self.old port.new self.new }
+        ensures takes { Takes result self.old self.new }
         ensures next { result ≡ next_of (drop (length self.old.taken) port.old.sent)
             port.old.closed }
-        ensures end { IfEnd result (HasEnded self.new) }
     {
         let Some(theirs) = port.token.take() else {
             unreachable!()
@@ -169,78 +124,26 @@ pub(crate) fn look<T>(ring: &Ring<T>, token: &mut Token<T>, counts: &mut IntakeC
     };
 }
 
-// The next item that was seen sent, or else whether the lane is at its end.
+// Takes the next item that was seen sent out of its slot, and then informs the port; or else
+// answers whether the lane is at its end.
 fn next<T>(ring: &Ring<T>, token: &mut Token<T>, counts: &mut IntakeCounts) -> Taken<T>
     requires intake { IsIntake ring.now.shared.table_id token.old counts.old }
     ensures intake { IsIntake ring.now.shared.table_id token.new counts.new }
     ensures next { NextOf ring.now.shared.table_id.slots token.old.me.0 token.new.me.0 result }
 {
     if counts.taken < counts.seen_sent {
-        Taken::Item(pop(ring, token, counts))
+        // The load makes the slot the intake's: it finds what the intake itself stored.
+        ring.shared.load::<Finds>(token, HEAD);
+        let slot = (counts.taken % counts.capacity as u64) as usize;
+        let Some(item) = ring.shared.exchange(token, slot, None) else {
+            unreachable!()
+        };
+        counts.taken += 1;
+        ring.shared.store::<StoresHead>(token, HEAD, counts.taken);
+        Taken::Item(item)
     } else if counts.seen_close {
         Taken::End
     } else {
         Taken::Empty
     }
-}
-
-// Takes the item out of the next slot, and then informs the port.
-fn pop<T>(ring: &Ring<T>, token: &mut Token<T>, counts: &mut IntakeCounts) -> T
-    requires intake { IsIntake ring.now.shared.table_id token.old counts.old }
-    requires seen { counts.old.taken < counts.old.seen_sent }
-    ensures intake { IsIntake ring.now.shared.table_id token.new counts.new }
-    ensures took { token.new.me.0
-        ≡ record token.old.me.0 {
-          intake = intake_took token.old.me.0.intake result
-              token.new.me.0.intake.log;
-        } }
-    ensures agree { token.old.me.0.sends ≡ true
-        → Agree token.old.me.0.port token.new.me.0.intake ring.now.shared.table_id.slots }
-    ensures sent { token.old.me.0.sends ≡ true
-        → slice_get token.old.me.0.port.sent (length token.old.me.0.intake.taken) ≡ Some result }
-{
-    find(ring, token, counts);
-    let item = empty(ring, token, counts);
-    free(ring, token, counts);
-    item
-}
-
-// Makes the slot of the next item the intake's. The load says nothing.
-fn find<T>(ring: &Ring<T>, token: &mut Token<T>, counts: &IntakeCounts)
-    requires intake { IsIntake ring.now.shared.table_id token.old counts.now }
-    requires seen { counts.now.taken < counts.now.seen_sent }
-    ensures ring { token.new.table_id ≡ token.old.table_id }
-    ensures found { Found ring.now.shared.table_id.slots token.old.me token.new.me }
-{
-    ring.shared.load::<Finds>(token, HEAD);
-}
-
-// Takes the item out of that slot.
-fn empty<T>(ring: &Ring<T>, token: &mut Token<T>, counts: &IntakeCounts) -> T
-    requires ring { token.old.table_id ≡ ring.now.shared.table_id }
-    requires counts { AreTaken ring.now.shared.table_id.slots token.old.me.0 counts.now }
-    requires slot { HoldsNext ring.now.shared.table_id.slots token.old.me }
-    ensures ring { token.new.table_id ≡ token.old.table_id }
-    ensures emptied { Emptied ring.now.shared.table_id.slots token.old.me result token.new.me }
-{
-    let slot = (counts.taken % counts.capacity as u64) as usize;
-    let Some(item) = ring.shared.exchange(token, slot, None) else {
-        unreachable!()
-    };
-    item
-}
-
-// Stores head, one larger, and with it gives back the slot, which is empty.
-fn free<T>(ring: &Ring<T>, token: &mut Token<T>, counts: &mut IntakeCounts)
-    requires ring { (token.old.table_id ≡ ring.now.shared.table_id)
-        × (ring.now.shared.table_id.words ≡ 17) }
-    requires counts { AreTaken ring.now.shared.table_id.slots token.old.me.0 counts.old }
-    requires seen { counts.old.taken < counts.old.seen_sent }
-    requires slot { HoldsEmpty ring.now.shared.table_id.slots token.old.me }
-    ensures ring { token.new.table_id ≡ token.old.table_id }
-    ensures counts { AreTaken ring.now.shared.table_id.slots token.new.me.0 counts.new }
-    ensures took { Took ring.now.shared.table_id.slots token.old.me token.new.me }
-{
-    counts.taken += 1;
-    ring.shared.store::<Takes>(token, HEAD, counts.taken);
 }

@@ -1,21 +1,12 @@
 //! The end of a lane that sends.
 
-ghost use Rattle.std.specs.Prelude.{◌≡◌, ◌+◌, ◌^◌, ◌<◌, ◌≤◌, ◌↔◌, true, false, [], ◌∷◌, ◌++◌};
-ghost use Rattle.std.specs.Prelude.{length};
-ghost use Rattle.std.specs.Prelude.{Err, IsOk, OnOk, OnErr, IfErr, IsTrue};
-ghost use Rattle.std.specs.Arc.{arc_value};
-ghost use Rattle.lane.specs.Lane.{PortContinues, new_port};
-ghost use Rattle.lane.specs.Moves.{ContinuesBy, taken_by};
-ghost use Rattle.lane.specs.declared.moves.Move.TheVariants.{PortLook};
-ghost use Rattle.lane.specs.Ends.{IsPort, AreSent, IsTokenOf};
-ghost use Rattle.lane.specs.Ring.{new_port_knows};
-ghost use Rattle.lane.specs.Steps.{HeadLooked, HoldsVacant, Claimed, HoldsItem, Filled, Sent};
-ghost use Rattle.lane.specs.Steps.{port_sent};
-ghost use Rattle.lane.specs.Refused.{item_of};
-ghost use Rattle.lane.specs.declared.port.Refused.TheVariants.{Full, Closed, Worn};
+ghost use Rattle.std.specs.Prelude.{◌≡◌, ◌+◌, ◌<◌, ◌≤◌, ◌↔◌, true, false, length, IsTrue};
+ghost use Rattle.lane.specs.Calls.{Sends};
+ghost use Rattle.lane.specs.Ends.{IsPort};
+ghost use Rattle.lane.specs.Steps.{HeadLooked, HasSent};
 
-use crate::ring::plays::{Claims, Closes, LooksAtHead, Sends};
-use crate::ring::{CLOSING_BIT, HEAD, Part, Ring, TAIL, Token};
+use crate::ring::plays::{Claims, Closes, LooksAtHead, StoresTail};
+use crate::ring::{CLOSING_BIT, HEAD, Ring, TAIL, Token};
 use crossbeam_utils::CachePadded;
 use std::alloc::Global;
 use std::marker::Model;
@@ -80,54 +71,11 @@ impl<T> Model for Port<T> {
 }
 
 impl<T> Port<T> {
-    pub(crate) fn new(part: Part<T>, capacity: usize) -> Self
-        requires part { IsTokenOf (arc_value part.ring).shared.table_id part.token }
-        requires capacity { (arc_value part.ring).shared.table_id.slots ≡ capacity }
-        requires sends { part.token.me.0.sends ≡ true }
-        requires nothing_sent { part.token.me.0.port ≡ new_port_knows }
-        ensures port { result ≡ new_port record { ring = (arc_value part.ring).shared.table_id }
-            capacity }
-    {
-        let Part { ring, token } = part;
-        Port {
-            ring,
-            token: Some(token),
-            counts: CachePadded::new(PortCounts {
-                capacity,
-                sent: 0,
-                seen_taken: 0,
-                closed: false,
-            }),
-        }
-    }
-
     /// Sends the item. A refusal hands it back: `Closed` after [`Port::close`], else `Worn` after
     /// [`MAX_SENT`] items, else `Full` where the port, looking anew in that call, has seen none of
     /// the last `capacity` items taken.
     pub fn send(&mut self, item: T) -> Result<(), Refused<T>>
-        ensures port { PortContinues self.old self.new }
-        ensures sent { OnOk result (self.new.sent ≡ self.old.sent ++ item ∷ []) }
-        ensures unchanged { OnErr result (self.new.sent ≡ self.old.sent) }
-        ensures closed_stays { self.new.closed ≡ self.old.closed }
-        ensures returned { IfErr result (λ refused. item_of refused ≡ item) }
-
-        // The refusals in their order.
-        ensures closed { (result ≡ Err (Refused.Closed item)) ↔ (self.old.closed ≡ true) }
-        ensures worn { (result ≡ Err (Refused.Worn item))
-            ↔ ((self.old.closed ≡ false) × (MAX_SENT ≤ length self.old.sent)) }
-        ensures full_looks { result ≡ Err (Refused.Full item) → self.old.looks < self.new.looks }
-        ensures full { result ≡ Err (Refused.Full item)
-            → length self.new.sent ≡ self.new.seen_taken + self.new.capacity }
-        // That look is the last move of the log. At that moment the lane held `capacity` items.
-        ensures full_look { result ≡ Err (Refused.Full item)
-            → ContinuesBy PortLook self.old.log self.new.log }
-        ensures full_then { result ≡ Err (Refused.Full item)
-            → length self.new.sent ≡ taken_by self.new.log + self.new.capacity }
-
-        // An open lane with room by what the port has seen taken refuses nothing but the item after
-        // the last.
-        ensures room { self.old.closed ≡ false → length self.old.sent < MAX_SENT
-            → length self.old.sent < self.old.seen_taken + self.old.capacity → IsOk result }
+        ensures sends { Sends item result self.old self.new }
     {
         if self.counts.closed {
             return Err(Refused::Closed(item));
@@ -158,7 +106,10 @@ impl<T> Port<T> {
         let Some(token) = &mut self.token else {
             unreachable!()
         };
-        close(&self.ring, token, &mut self.counts);
+        self.counts.closed = true;
+        self.ring
+            .shared
+            .store::<Closes>(token, TAIL, self.counts.sent + CLOSING_BIT);
     }
 
     /// Returns how many items were sent.
@@ -195,66 +146,13 @@ fn push<T>(ring: &Ring<T>, token: &mut Token<T>, counts: &mut PortCounts, item: 
     requires few { counts.old.sent < MAX_SENT }
     requires room { counts.old.sent < counts.old.seen_taken + counts.old.capacity }
     ensures port { IsPort ring.now.shared.table_id token.new counts.new }
-    ensures sent { token.new.me.0
-        ≡ record token.old.me.0 {
-          port = port_sent token.old.me.0.port item
-              token.new.me.0.port.log;
-        } }
+    ensures sent { HasSent item token.old.me.0 token.new.me.0 }
 {
-    claim(ring, token, counts);
-    fill(ring, token, counts, item);
-    publish(ring, token, counts);
-}
-
-// Makes the slot of the next item the port's. The load says nothing.
-fn claim<T>(ring: &Ring<T>, token: &mut Token<T>, counts: &PortCounts)
-    requires port { IsPort ring.now.shared.table_id token.old counts.now }
-    requires room { counts.now.sent < counts.now.seen_taken + counts.now.capacity }
-    ensures ring { token.new.table_id ≡ token.old.table_id }
-    ensures claimed { Claimed ring.now.shared.table_id.slots token.old.me token.new.me }
-{
+    // The load makes the slot the port's: it finds what the port itself stored.
     ring.shared.load::<Claims>(token, TAIL);
-}
-
-// Puts the item into that slot.
-fn fill<T>(ring: &Ring<T>, token: &mut Token<T>, counts: &PortCounts, item: T)
-    requires ring { token.old.table_id ≡ ring.now.shared.table_id }
-    requires counts { AreSent ring.now.shared.table_id.slots token.old.me.0 counts.now }
-    requires slot { HoldsVacant ring.now.shared.table_id.slots token.old.me }
-    ensures ring { token.new.table_id ≡ token.old.table_id }
-    ensures filled { Filled ring.now.shared.table_id.slots token.old.me item token.new.me }
-{
     let slot = (counts.sent % counts.capacity as u64) as usize;
     let vacant = ring.shared.exchange(token, slot, Some(item));
     let None = vacant else { unreachable!() };
-}
-
-// Stores tail, one larger, and with it gives back the slot, which has the item.
-fn publish<T>(ring: &Ring<T>, token: &mut Token<T>, counts: &mut PortCounts)
-    requires ring { (token.old.table_id ≡ ring.now.shared.table_id)
-        × (ring.now.shared.table_id.words ≡ 17) }
-    requires counts { AreSent ring.now.shared.table_id.slots token.old.me.0 counts.old }
-    requires item { HoldsItem ring.now.shared.table_id.slots token.old.me }
-    requires open { counts.old.closed ≡ false }
-    requires few { counts.old.sent < MAX_SENT }
-    requires room { counts.old.sent < counts.old.seen_taken + counts.old.capacity }
-    ensures ring { token.new.table_id ≡ token.old.table_id }
-    ensures counts { AreSent ring.now.shared.table_id.slots token.new.me.0 counts.new }
-    ensures sent { Sent ring.now.shared.table_id.slots token.old.me token.new.me }
-{
     counts.sent += 1;
-    ring.shared.store::<Sends>(token, TAIL, counts.sent);
-}
-
-// Sets the closing bit.
-fn close<T>(ring: &Ring<T>, token: &mut Token<T>, counts: &mut PortCounts)
-    requires port { IsPort ring.now.shared.table_id token.old counts.old }
-    requires open { counts.old.closed ≡ false }
-    ensures port { IsPort ring.now.shared.table_id token.new counts.new }
-    ensures closed { token.new.me.0
-        ≡ record token.old.me.0 { port = record token.old.me.0.port { closed = true } } }
-{
-    counts.closed = true;
-    ring.shared
-        .store::<Closes>(token, TAIL, counts.sent + CLOSING_BIT);
+    ring.shared.store::<StoresTail>(token, TAIL, counts.sent);
 }

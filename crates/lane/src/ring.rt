@@ -3,28 +3,22 @@
 //!
 //! Item number k, from 0, is in slot k mod capacity. Head counts the items taken. Tail counts the
 //! items sent, and has the closing bit on top.
-ghost use Rattle.std.specs.Prelude.{◌≡◌, ◌<◌, IfOk};
-ghost use Rattle.std.specs.Arc.{arc_value};
-ghost use Rattle.lane.specs.Ring.{IsRing, at_first, that_takes, that_sends};
-ghost use Rattle.lane.specs.Ends.{IsTokenOf};
+ghost use Rattle.lane.specs.Ring.{IsRing, at_first};
 
 use crate::moves::Move;
 use atomic_table::{Seat, Table, TableRule};
-use std::alloc::{AllocError, Global};
+use std::alloc::Global;
 use std::collections::LinkedList;
-use std::sync::Arc;
 
 pub(crate) mod joined_tokens;
 pub(crate) mod plays;
-
-use joined_tokens::part;
 
 // Between the two words stand fifteen that nothing uses, so that they share no cache line.
 pub(crate) const HEAD: usize = 0;
 
 pub(crate) const TAIL: usize = 16;
 
-const WORDS: usize = 17;
+pub(crate) const WORDS: usize = 17;
 
 pub(crate) const CLOSING_BIT: u64 = 1 << 63;
 
@@ -73,39 +67,3 @@ impl<T> TableRule<Option<T>, Known<T>, ()> for Rule {
 pub(crate) type Ring<T> = Table<Option<T>, Known<T>, (), Rule, Global>;
 
 pub(crate) type Token<T> = Seat<Option<T>, Known<T>>;
-
-/// An end's share of a ring.
-#[derive(Drop)]
-pub(crate) struct Part<T> {
-    pub(crate) ring: Arc<Ring<T>, Global>,
-    pub(crate) token: Token<T>,
-}
-
-/// Makes the ring of a new lane, and returns the port's share and the intake's.
-pub(crate) fn ring<T: Drop>(
-    alloc: Global,
-    capacity: usize,
-) -> Result<(Part<T>, Part<T>), AllocError>
-    requires some { 0 < capacity }
-    ensures ring { IfOk result (λ parts. (arc_value parts.0.ring).shared.table_id
-        ≡ (arc_value parts.1.ring).shared.table_id) }
-    ensures capacity { IfOk result (λ parts. (arc_value parts.1.ring).shared.table_id.slots
-        ≡ capacity) }
-    ensures port { IfOk result (λ parts. IsTokenOf (arc_value parts.0.ring).shared.table_id
-        parts.0.token) }
-    ensures intake { IfOk result (λ parts. IsTokenOf (arc_value parts.1.ring).shared.table_id
-        parts.1.token) }
-    ensures sends { IfOk result (λ parts. parts.0.token.me.0 ≡ that_sends at_first) }
-    ensures takes { IfOk result (λ parts. parts.1.token.me.0 ≡ that_takes at_first) }
-{
-    let (ring, mut takes) = Ring::vacant(alloc, &[0; WORDS], capacity, &())?;
-    let sends = part(&ring, &mut takes);
-    let ring = Arc::new(alloc, ring)?;
-    let shared = Arc::try_clone(&ring)?;
-    let port = Part { ring, token: sends };
-    let intake = Part {
-        ring: shared,
-        token: takes,
-    };
-    Ok((port, intake))
-}

@@ -244,10 +244,10 @@ module _ (old new : ResolverState) (result : Result Turn Stop) (turns : Turns re
   Sees log = HasSeen After new.core.stop window log × IsOccupancyOf new.core.stop limit window log after
 
   window_is : new.core.set.window ≡ window
-  window_is = turns.continues.window
+  window_is = turns.steps.continues.window
 
   limit_is : new.core.set.map.limit ≡ limit
-  limit_is = turns.continues.limit
+  limit_is = turns.steps.continues.limit
 
   abbrev count : ℕ
   count = length new.core.set.map.boundaries
@@ -289,7 +289,7 @@ module _ (old new : ResolverState) (result : Result Turn Stop) (turns : Turns re
   pub measured_turn : IsMeasured Before before old → IsMeasured After after new
   measured_turn m =
       let also : IsAccountedWith Sees new =
-      after_turn old new turns.continues Saw Sees
+      after_turn old new turns.steps.continues Saw Sees
       (λ was proxy took log stands saw. (
         taken proxy took (negsuc 0) log stands saw.0,
         stepped log (Take proxy took.batch) (took.adds (negsuc 0) log stands) (unstopped_over was log saw.1) new.core.stop refl,
@@ -303,7 +303,7 @@ module _ (old new : ResolverState) (result : Result Turn Stop) (turns : Turns re
         rested log (step.adds (negsuc 0) log stands) new.core.stop refl
             (subst (λ (stop : Option Stop). IsOccupancyOf stop limit window log before) (sym same) saw.1),
       ))
-      result turns.step turns.stop_met turns.stopped turns.stop turns.stop_stays turns.no_stop turns.gate_full turns.arena_full
+      result turns
       (record { log = m.log; stands = m.stands; met = m.met; also = (m.seen, m.occupied) }) in
       record {
         log = also.log;

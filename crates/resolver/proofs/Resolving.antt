@@ -10,7 +10,7 @@ use Rattle.resolver.specs.Core.{CoreState}
 use Rattle.resolver.specs.Stands.{Stands}
 use Rattle.resolver.specs.Lanes.{Lanes, Each, LanesContinue, AreSameLists, TakesNone, all_ended, sent_to}
 use Rattle.resolver.specs.OpeningLog.{log_from}
-use Rattle.resolver.specs.Resolver.{ResolverState, StandsOverFrom, IsResolvingFrom, TakesFrom, Finishes, TakesNoStep, StepsBy}
+use Rattle.resolver.specs.Resolver.{ResolverState, StandsOverFrom, IsResolvingFrom, TakesFrom, Finishes, TakesNoStep, StepsFor}
 use Rattle.resolver.proofs.AtIndex.{field_same}
 use Rattle.resolver.proofs.DeliveredAnswers.{StandsBy-moved}
 use Rattle.resolver.proofs.DeliveryStep.{list_all-same}
@@ -32,15 +32,11 @@ module _ (version : ℤ) (old new : ResolverState) (before : IsResolvingFrom ver
   unchanged : TakesNoStep old new → IsResolvingFrom version new
   unchanged none = record { log = before.log; stands = none.adds version before.log before.stands }
 
-  not_taken : (Finishes old new ⊎ TakesNoStep old new) → IsResolvingFrom version new
-  not_taken (inl finishes) = finished finishes
-  not_taken (inr none) = unchanged none
-
-  -- by what the turn answers
-  pub resolving_turned : (did : Turn) → StepsBy did old new → IsResolvingFrom version new
-  resolving_turned (turn.Took proxy) takes = taken proxy takes
-  resolving_turned turn.Idle either = not_taken either
-  resolving_turned turn.Done either = not_taken either
+  -- by what was taken
+  pub resolving_turned : (taken : Option ℕ) → StepsFor taken old new → IsResolvingFrom version new
+  resolving_turned (Some proxy) takes = taken proxy takes
+  resolving_turned None (inl finishes) = finished finishes
+  resolving_turned None (inr none) = unchanged none
 
   last_step : (((proxy : ℕ) × TakesFrom proxy old new) ⊎ Finishes old new) → IsResolvingFrom version new
   last_step (inl takes) = taken takes.0 takes.1

@@ -18,6 +18,10 @@ pub same_stop : {T : Type 0} (r : Result T Stop) (met stop : Stop) → IsErrAnd 
     → r ≡ Err stop → met ≡ stop
 same_stop r met stop exit is = let e = err_from_is_err_and r exit in cc (is, e.1, e.2)
 
+-- and it is that stop
+pub residual_is : {T : Type 0} (r : Result T Stop) (met : Stop) → IsErrAnd r (λ s. s ≡ met) → r ≡ Err met
+residual_is r met exit = let e = err_from_is_err_and r exit in cc (e.1, e.2)
+
 -- what holds anyway holds after a success and after a refusal
 pub OnOk-always : {T E P : Type 0} (r : Result T E) → P → OnOk r P
 OnOk-always (Ok x) p = p

@@ -1,18 +1,20 @@
 -- A step, after which answers are handed out and reply lanes closed.
-use Rattle.std.proofs.Common.{◌≡◌, ◌≢◌, ℕ, ◌<◌, Bool, true, false, List, [], ◌∷◌, ◌++◌, length, Option, Some, None, Result, Err, sym, ap, subst, ◌∙◌, refl, inl, inr, arith}
-use Rattle.std.specs.Prelude.{ℤ, ◌⊎◌, ◌↔◌, IsSome, is_some, IfSome, slice_get}
-use Rattle.std.proofs.lemmas.Bool.{true≢false, false≢true}
+use Rattle.std.proofs.Common.{◌≡◌, ◌≢◌, ℕ, ◌+◌, ◌<◌, Bool, true, false, List, [], ◌∷◌, ◌++◌, length, Option, Some, None, Result, Ok, Err, sym, ap, subst, ◌∙◌, refl, inl, inr, arith}
+use Rattle.std.specs.Prelude.{ℤ, ◌⊎◌, ◌↔◌, is_some, IfSome, IfNone, slice_get}
+use Rattle.std.proofs.lemmas.Bool.{true≢false}
 use Rattle.std.proofs.lemmas.Option.{slice_get_cases, slice_get_past, none-some}
 use Rattle.keyspace.specs.declared.answer.Answer.{Answer}
 use Rattle.keyspace.specs.Processed.{Processed}
-use Rattle.keyspace.specs.Run.{State, Step, Take, Finish}
+use Rattle.keyspace.specs.Run.{State, Step, Take, Finish, run}
 use Rattle.lane.specs.Lane.{PortContinues, IntakeContinues}
 use Rattle.resolver.specs.Owed.{owed_to, owed_count}
-use Rattle.resolver.specs.Core.{CoreState, StopsAtLimit}
+use Rattle.conflict.specs.ConflictSet.{SetState}
+use Rattle.resolver.specs.Core.{CoreState, Continues, StopsAtLimit}
 use Rattle.keyspace.specs.declared.batch.Batch.{Batch}
 use Rattle.resolver.proofs.DeliveredAnswers.{StopsAtLimit-moved}
-use Rattle.resolver.specs.Lanes.{Lanes, Each, LanesContinue, taken_from, sent_to, all_ended, IsLookedThrough, IsFull}
-use Rattle.resolver.specs.Resolver.{ResolverState, StandsOverFrom, IsThrough, TakesFrom, Finishes, TakesNoStep, StepsBy, IfNotTaken}
+use Rattle.resolver.specs.Lanes.{Lanes, Each, LanesContinue, taken_from, sent_to, all_ended, IsLookedThrough, ComesBefore, IsFull}
+use Rattle.resolver.specs.Resolver.{ResolverState, StandsOverFrom, IsThrough, TakesFrom, Finishes, TakesNoStep, StepsFor, taken_by}
+use Rattle.resolver.specs.Turns.{TurnSteps}
 use Rattle.resolver.specs.OpeningLog.{log_from}
 use Rattle.resolver.specs.Observed.{HasSeen, Observes, ObservesStep}
 use Rattle.resolver.specs.declared.turn.Turn.{Turn}
@@ -205,13 +207,11 @@ all_looked_on h k looked =
     record { count = on.count; each = λ p l m was is. on.each p l m was is tt }
 
 -- a stop that was met before the turn
-pub stopped_on : {old mid given new : ResolverState} → IsDelivery mid given → ClosedOver given new
-    → (stop : Option Stop) (result : Result (Option ℕ) Stop) → IsSome stop
-    → IfSome stop (λ s. (result ≡ Err s) × (mid ≡ old)) → TakesNoStep old new
-stopped_on h k None result some kept = absurd (false≢true some)
-stopped_on {old} {mid} h k (Some stop) result some kept =
+pub stopped_on : {old mid given new : ResolverState} → IsDelivery mid given → ClosedOver given new → mid ≡ old
+    → TakesNoStep old new
+stopped_on {old} {mid} h k same =
     TakesNoStep-on h k
-    (subst (λ r. TakesNoStep old r) (sym kept.1) (record { ended = refl; taken = λ p. refl; adds = λ version log s. s }))
+    (subst (λ r. TakesNoStep old r) (sym same) (record { ended = refl; taken = λ p. refl; adds = λ version log s. s }))
 
 -- a stop that was met in the turn
 pub stop_met_on : {old mid given new : ResolverState} → IsDelivery mid given → ClosedOver given new
@@ -229,23 +229,15 @@ reported (Some proxy) closed = turn.Took proxy
 reported None true = turn.Done
 reported None false = turn.Idle
 
-pub StepsBy-reported : (old new : ResolverState) (taken : Option ℕ) (closed : Bool)
-    → ((proxy : ℕ) → taken ≡ Some proxy → TakesFrom proxy old new)
-    → (taken ≡ None → Finishes old new ⊎ TakesNoStep old new) → StepsBy (reported taken closed) old new
-StepsBy-reported old new (Some proxy) closed took none = took proxy refl
-StepsBy-reported old new None true took none = none refl
-StepsBy-reported old new None false took none = none refl
+taken-reported : (taken : Option ℕ) (closed : Bool) → taken_by (reported taken closed) ≡ taken
+taken-reported (Some proxy) closed = refl
+taken-reported None true = refl
+taken-reported None false = refl
 
-pub IfNotTaken-reported : (taken : Option ℕ) (closed : Bool) (P : Type 0) → (taken ≡ None → P)
-    → IfNotTaken (reported taken closed) P
-IfNotTaken-reported (Some proxy) closed P none = tt
-IfNotTaken-reported None true P none = none refl
-IfNotTaken-reported None false P none = none refl
-
-pub took-reported : (taken : Option ℕ) (closed : Bool) (proxy : ℕ) → reported taken closed ≡ turn.Took proxy → taken ≡ Some proxy
-took-reported (Some other) closed proxy is = cc
-took-reported None true proxy is = cc
-took-reported None false proxy is = cc
+-- or by the stop that it met
+abbrev pub answered : Bool → Result (Option ℕ) Stop → Result Turn Stop
+answered closed (Ok taken) = Ok (reported taken closed)
+answered closed (Err met) = Err met
 
 pub done-reported : (taken : Option ℕ) (closed : Bool) → reported taken closed ≡ turn.Done → (taken ≡ None) × (closed ≡ true)
 done-reported (Some other) closed is = cc
@@ -310,3 +302,93 @@ module _ {mid given new : ResolverState} (h : IsDelivery mid given) (k : ClosedO
       (StopsAtLimit-moved (sent_to mid.lanes) (sent_to new.lanes) mid.core given.core.owed h.same.proxies
       (λ p inside. ap (λ xs. xs ++ owed_to p given.core.owed) (sent_same p) ∙ h.made p) limit window proxy batch
       state stops))
+
+if_some : (P Q : ℕ → Type 0) → ((n : ℕ) → P n → Q n) → (o : Option ℕ) → IfSome o P → IfSome o Q
+if_some P Q f None p = p
+if_some P Q f (Some n) p = f n p
+
+if_none : (P Q : Type 0) → (P → Q) → (o : Option ℕ) → IfNone o P → IfNone o Q
+if_none P Q f None p = f p
+if_none P Q f (Some n) p = p
+
+-- a stop that was met earlier is answered again
+still_answered : (closed : Bool) (stop : Option Stop) (r : Result (Option ℕ) Stop) → IfSome stop (λ met. r ≡ Err met)
+    → IfSome stop (λ met. answered closed r ≡ Err met)
+still_answered closed None r stays = tt
+still_answered closed (Some met) r stays = ap (answered closed) stays
+
+same_Err : {x y : Stop} → ◌≡◌ {A = Result Turn Stop} (Err x) (Err y) → x ≡ y
+same_Err is = cc
+
+-- the step of a turn, once answers were handed out and lanes closed
+module _ {old mid given new : ResolverState} (h : IsDelivery mid given) (k : ClosedOver given new) where
+  steps_for : (taken : Option ℕ) → StepsFor taken old mid → StepsFor taken old new
+  steps_for (Some proxy) took = TakesFrom-on h k proxy took
+  steps_for None (inl finishes) = inl (Finishes-on h k finishes)
+  steps_for None (inr nothing) = inr (TakesNoStep-on h k nothing)
+
+  stop_on : new.core.stop ≡ mid.core.stop
+  stop_on = ap (λ (c : CoreState). c.stop) k.core ∙ h.same.stop
+
+  next_on : new.next ≡ mid.next
+  next_on = k.next ∙ h.same.next
+
+  continues_on : Continues old.core mid.core → Continues old.core new.core
+  continues_on c = record {
+    window = ap (λ (set : SetState). set.window) (same_set h k) ∙ c.window;
+    limit = ap (λ (set : SetState). set.map.limit) (same_set h k) ∙ c.limit;
+    proxies = ap (λ (core : CoreState). length core.owed) k.core ∙ h.same.proxies ∙ c.proxies;
+  }
+
+  pub steps_on : (closed : Bool) (r : Result (Option ℕ) Stop) → TurnSteps (λ taken. taken) r old mid
+      → TurnSteps taken_by (answered closed r) old new
+  steps_on closed (Ok taken) s =
+      let is = sym (taken-reported taken closed) in
+      record {
+        log = subst (λ t. StepsFor t old new) is (steps_for taken s.log);
+        stop_met = tt;
+        stop = tt;
+        stop_stays = still_answered closed old.core.stop (Ok taken) s.stop_stays;
+        no_stop = stop_on ∙ s.no_stop;
+        looked_through =
+            subst (λ t. IfNone t (Each (λ _ l m. IsLookedThrough l m) old.lanes new.lanes)) is
+            (if_none _ _ (all_looked_on h k) taken s.looked_through);
+        passed =
+            subst (λ t. IfSome t (λ proxy.
+            Each (λ passed l m. ComesBefore old.next passed proxy → IsLookedThrough l m) old.lanes new.lanes)) is
+            (if_some _ _ (λ proxy. looked_on h k (λ p. ComesBefore old.next p proxy)) taken s.passed);
+        next =
+            subst (λ t. IfSome t (λ proxy. new.next ≡ proxy + 1)) is
+            (if_some _ _ (λ proxy after. next_on ∙ after) taken s.next);
+        next_stays =
+            subst (λ t. IfNone t (new.next ≡ old.next)) is
+            (if_none _ _ (λ stays. next_on ∙ stays) taken s.next_stays);
+        gate_full = λ running full. absurd cc;
+        arena_full = λ running full. absurd cc;
+        lanes = lanes_on h k s.lanes;
+        continues = continues_on s.continues;
+      }
+  steps_on closed (Err met) s = record {
+    log = tt;
+    stop_met = stop_met_on h k s.stop_met;
+    stop = stop_on ∙ s.stop;
+    stop_stays = still_answered closed old.core.stop (Err met) s.stop_stays;
+    no_stop = tt;
+    looked_through = tt;
+    passed = tt;
+    next = tt;
+    next_stays = tt;
+    gate_full = λ running full.
+        let found = s.gate_full running (ap Err (same_Err full)) in
+        (found.0, TakesFrom-on h k found.0 found.1, found.2, found.3);
+    arena_full = λ running full version log stands.
+        let found = s.arena_full running (ap Err (same_Err full)) version log stands in
+        let set = old.core.set in
+        let entire = log_from version (length old.lanes) log in (
+          found.0,
+          TakesFrom-on h k found.0 found.1,
+          stops_on h k set.map.limit set.window found.0 found.1.batch (run set.window entire) found.2,
+        );
+    lanes = lanes_on h k s.lanes;
+    continues = continues_on s.continues;
+  }

@@ -1,5 +1,5 @@
 -- What a resolver over lanes promises: it represents a log of the reference resolver. This project's own.
-use Rattle.std.specs.Prelude.{◌≡◌, ℕ, ℤ, negsuc, ◌<◌, ◌⊎◌, Bool, true, false, List, [], ◌∷◌, ◌++◌, length, Some, None, IsSome, slice_get}
+use Rattle.std.specs.Prelude.{◌≡◌, ℕ, ℤ, negsuc, ◌<◌, ◌⊎◌, Bool, true, false, List, [], ◌∷◌, ◌++◌, length, Option, Some, None, IsSome, slice_get}
 use Rattle.keyspace.specs.declared.batch.Batch.{Batch}
 use Rattle.keyspace.specs.Run.{Step, Take, Finish, part}
 use Rattle.lane.specs.Lane.{SameLane, PortContinues, IntakeContinues, new_port, new_intake}
@@ -91,17 +91,16 @@ pub record TakesNoStep (old new : ResolverState) : Type 0 where
   pub taken : TakesNone old.lanes new.lanes
   pub adds : (version : ℤ) (log : List Step) → StandsOverFrom version old log → StandsOverFrom version new log
 
--- by what a turn answers
-abbrev pub StepsBy : Turn → ResolverState → ResolverState → Type 0
-StepsBy (turn.Took proxy) old new = TakesFrom proxy old new
-StepsBy turn.Idle old new = Finishes old new ⊎ TakesNoStep old new
-StepsBy turn.Done old new = Finishes old new ⊎ TakesNoStep old new
+-- by the proxy of the batch that was taken, if one was
+abbrev pub StepsFor : Option ℕ → ResolverState → ResolverState → Type 0
+StepsFor (Some proxy) old new = TakesFrom proxy old new
+StepsFor None old new = Finishes old new ⊎ TakesNoStep old new
 
--- for an answer that no batch was taken
-abbrev pub IfNotTaken : Turn → Type 0 → Type 0
-IfNotTaken (turn.Took proxy) P = Unit {0}
-IfNotTaken turn.Idle P = P
-IfNotTaken turn.Done P = P
+-- the proxy whose batch a turn took, if it took one
+abbrev pub taken_by : Turn → Option ℕ
+taken_by (turn.Took proxy) = Some proxy
+taken_by turn.Idle = None
+taken_by turn.Done = None
 
 -- Nothing is owed, and no answer is still to come: all request lanes have ended or a stop was met.
 pub record IsThrough (r : ResolverState) : Type 0 where

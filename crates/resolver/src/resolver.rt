@@ -1,26 +1,24 @@
 //! The resolver over lanes: each turn takes a batch of some proxy, and sends answers.
 
-ghost use Rattle.std.specs.Prelude.{◌≡◌, ℕ, ℤ, ◌<◌, ◌≤◌, ◌+◌, ◌⊎◌, ◌↔◌, ◌≢◌, ◌<ℤ◌, true, false};
-ghost use Rattle.std.specs.Prelude.{List, [], ◌∷◌, length, All, Some, None, Ok, Err, IsOk, IfOk};
-ghost use Rattle.std.specs.Prelude.{IfErr, OnOk, IfSome, IsSome, slice_get};
-ghost use Rattle.keyspace.specs.Run.{Step, Take, Finish, run};
-ghost use Rattle.chain.specs.declared.gate.TheConstants.{MAX_HELD};
+ghost use Rattle.std.specs.Prelude.{◌≡◌, ℕ, ℤ, ◌<◌, ◌≤◌, ◌+◌, ◌↔◌, true, false};
+ghost use Rattle.std.specs.Prelude.{List, [], ◌∷◌, length, All, Some, None, Ok};
+ghost use Rattle.std.specs.Prelude.{IfSome, slice_get};
+ghost use Rattle.keyspace.specs.Run.{Step, Take, Finish};
 ghost use Rattle.lane.specs.Lane.{HasEnded};
 ghost use Rattle.resolver.specs.declared.client.Client.{Client as ClientEnds};
-ghost use Rattle.resolver.specs.Owed.{owed_to, owed_count};
+ghost use Rattle.resolver.specs.Owed.{owed_count};
 ghost use Rattle.stepmap.specs.StepMap.{AreSteps};
-ghost use Rattle.resolver.specs.Core.{Continues, RemembersWindow, StopsAtLimit};
+ghost use Rattle.resolver.specs.Core.{RemembersWindow};
 ghost use Rattle.resolver.specs.Stands.{Stands};
-ghost use Rattle.resolver.specs.OpeningLog.{opening_log, log_from};
+ghost use Rattle.resolver.specs.OpeningLog.{opening_log};
 ghost use Rattle.resolver.specs.Parts.{AreNewLanes, lanes_of};
 ghost use Rattle.resolver.specs.declared.resolver_core.TheConstants.{MAX_PROXIES};
-ghost use Rattle.resolver.specs.Lanes.{Lanes, all_ended, Each, LanesContinue, IsLookedThrough};
-ghost use Rattle.resolver.specs.Lanes.{ComesBefore, IsFull, AreSameLists, sent_to};
+ghost use Rattle.resolver.specs.Lanes.{Each, LanesContinue};
+ghost use Rattle.resolver.specs.Lanes.{AreSameLists, sent_to};
 ghost use Rattle.resolver.specs.Resolver.{ResolverState, StandsOverFrom, IsResolvingFrom};
-ghost use Rattle.resolver.specs.Resolver.{TakesFrom, Finishes, TakesNoStep, StepsBy, IfNotTaken};
-ghost use Rattle.resolver.specs.Resolver.{IsThrough, AreClients, SameClients};
+ghost use Rattle.resolver.specs.Resolver.{TakesFrom, Finishes, TakesNoStep};
+ghost use Rattle.resolver.specs.Resolver.{AreClients, SameClients};
 ghost use Rattle.resolver.specs.Observed.{Observes};
-ghost use Rattle.resolver.specs.Share.{share_of, HasMoreUnanswered};
 ghost use Rattle.resolver.specs.Turns.{Turns};
 ghost use Rattle.resolver.specs.Settled.{SettledFrom, IsComplete};
 
@@ -115,52 +113,7 @@ impl Resolver {
     /// [`share`](crate::share). So it never comes if no client has more than its share of batches
     /// sent and unanswered.
     pub fn turn(&mut self) -> Result<Turn, Stop>
-        // The log that the resolver represents afterwards, from whichever version it started.
-        ensures step { IfOk result (λ turn. StepsBy turn self.old self.new) }
-        ensures stop_met { IfErr result (λ _. self.old.core.stop ≡ None
-            → ((proxy : ℕ) × TakesFrom proxy self.old self.new) ⊎ Finishes self.old self.new) }
-        ensures stopped { IsSome self.old.core.stop → TakesNoStep self.old self.new }
-        ensures stop { IfErr result (λ stop. self.new.core.stop ≡ Some stop) }
-        ensures stop_stays { IfSome self.old.core.stop (λ stop. result ≡ Err stop) }
-        ensures no_stop { OnOk result (self.new.core.stop ≡ None) }
-        ensures resolving { (version : ℤ) → IsResolvingFrom version self.old
-            → IsResolvingFrom version self.new }
-
-        // What it has looked through.
-        ensures looked_through { IfOk result (λ turn. IfNotTaken turn
-            (Each (λ _ l m. IsLookedThrough l m) self.old.lanes self.new.lanes)) }
-        ensures passed { (proxy : ℕ) → result ≡ Ok (Turn.Took proxy)
-            → Each (λ passed l m. ComesBefore self.old.next passed proxy
-            → IsLookedThrough l m) self.old.lanes self.new.lanes }
-        ensures next { (proxy : ℕ) → result ≡ Ok (Turn.Took proxy) → self.new.next ≡ proxy + 1 }
-        ensures next_stays { IfOk result (λ turn. IfNotTaken turn (self.new.next ≡ self.old.next)) }
-
-        // What it has handed out.
-        ensures owed { Each (λ proxy l m. owed_to proxy self.new.core.owed ≢ []
-            → IsFull l m) self.old.lanes self.new.lanes }
-        ensures closed { (proxy : ℕ) (l : Lanes) → slice_get self.new.lanes proxy ≡ Some l
-            → (l.replies.closed ≡ true) ↔ IsThrough self.new }
-        ensures done { (result ≡ Ok Turn.Done) ↔ (IsOk result × (all_ended self.new.lanes ≡ true)
-            × (owed_count self.new.core.owed ≡ 0)) }
-
-        // When each stop comes.
-        ensures gate_full { self.old.core.stop ≡ None → result ≡ Err Stop.GateFull
-            → (proxy : ℕ) × (took : TakesFrom proxy self.old self.new)
-            × (self.old.core.version <ℤ took.batch.previous)
-            × (length self.old.core.held ≡ MAX_HELD) }
-        ensures beyond_share { self.old.core.stop ≡ None → result ≡ Err Stop.GateFull
-            → (version : ℤ) → IsResolvingFrom version self.old
-            → (proxy : ℕ) × (proxy < length self.new.lanes)
-            × HasMoreUnanswered (share_of (length self.new.lanes)) proxy self.new }
-        ensures arena_full { self.old.core.stop ≡ None → result ≡ Err Stop.ArenaFull
-            → (version : ℤ) (log : List Step) → StandsOverFrom version self.old log
-            → (proxy : ℕ) × (took : TakesFrom proxy self.old self.new)
-            × StopsAtLimit self.old.core.set.map.limit self.old.core.set.window proxy took.batch
-            (run self.old.core.set.window (log_from version (length self.old.lanes) log))
-            (sent_to self.new.lanes) self.new.core }
-
-        ensures lanes { Each (λ _ l m. LanesContinue l m) self.old.lanes self.new.lanes }
-        ensures continues { Continues self.old.core self.new.core }
+        ensures turns { Turns result self.old self.new }
     {
         self.turn_observed(&mut Unobserved)
     }
@@ -203,8 +156,6 @@ impl Resolver {
             × SettledFrom version self.old.core.set.window log self.old.lanes clients.old result }
         ensures stands { (version : ℤ) (log : List Step) → StandsOverFrom version self.old log
             → StandsOverFrom version self.new log }
-        ensures resolving { (version : ℤ) → IsResolvingFrom version self.old
-            → IsResolvingFrom version self.new }
         ensures complete { (result.complete ≡ true) ↔ IsComplete self.old clients.old }
         // A client that has taken answers to their end has taken all that were sent.
         ensures ended { (proxy : ℕ) (client : ClientEnds)

@@ -1,17 +1,14 @@
 //! The resolver over values, which stops for good at the first refusal.
 
-ghost use Rattle.std.specs.Prelude.{◌≡◌, ◌≢◌, ◌<◌, ◌≤◌, ◌≤ℤ◌, ◌<ℤ◌, ◌↔◌, pos, negsuc, List, []};
+ghost use Rattle.std.specs.Prelude.{◌≡◌, ◌≢◌, ◌<◌, ◌≤◌, ◌≤ℤ◌, ◌↔◌, pos, negsuc, List, []};
 ghost use Rattle.std.specs.Prelude.{◌∷◌, ◌++◌, length};
 ghost use Rattle.std.specs.Prelude.{Some, None, Err};
-ghost use Rattle.std.specs.Prelude.{◌+◌, ◌^◌, OnOk, IfOk, IfErr, IfSome, IsTrue, option_to_list};
+ghost use Rattle.std.specs.Prelude.{◌+◌, ◌^◌, IfOk, IfErr, IfSome, IsTrue, option_to_list};
 ghost use Rattle.keyspace.specs.Run.{Step, Take, Finish, run};
-ghost use Rattle.stepmap.specs.declared.step_map.TheConstants.{MAX_LIMIT};
-ghost use Rattle.conflict.specs.declared.conflict_set.TheConstants.{MAX_WINDOW};
-ghost use Rattle.chain.specs.declared.gate.TheConstants.{MAX_HELD};
 ghost use Rattle.resolver.specs.Owed.{owed_to, given_oldest, owed_count};
-ghost use Rattle.resolver.specs.Core.{Given, Continues, IsCore, StopsAtLimit};
+ghost use Rattle.resolver.specs.Core.{Given, IsCore};
 ghost use Rattle.resolver.specs.Stands.{Stands, given_also};
-ghost use Rattle.resolver.specs.Admits.{Admits};
+ghost use Rattle.resolver.specs.CoreCalls.{AreSettings, IsNewCore, AddsStep, Admits};
 ghost use Rattle.resolver.specs.Observed.{HasSeen};
 ghost use Rattle.resolver.specs.OpeningLog.{opening_log};
 
@@ -69,17 +66,8 @@ impl Core {
     /// back it remembers writes, in versions; its conflict set never keeps more boundaries than
     /// `limit`.
     pub fn new(alloc: Global, proxies: usize, window: i64, limit: usize) -> Result<Self, OpenError>
-        requires least_proxies { 1 ≤ proxies }
-        requires most_proxies { proxies ≤ MAX_PROXIES }
-        requires least_window { pos 1 ≤ℤ window }
-        requires most_window { window ≤ℤ MAX_WINDOW }
-        requires least_limit { 1 ≤ limit }
-        requires most_limit { limit ≤ MAX_LIMIT }
-        ensures stands { IfOk result (λ core. Stands core [] (λ _. [])) }
-        ensures open { IfOk result (λ core. core.stop ≡ None) }
-        ensures proxies { IfOk result (λ core. length core.owed ≡ proxies) }
-        ensures window { IfOk result (λ core. core.set.window ≡ window) }
-        ensures limit { IfOk result (λ core. core.set.map.limit ≡ limit) }
+        requires settings { AreSettings proxies window limit }
+        ensures new { IfOk result (IsNewCore proxies window limit []) }
     {
         let Ok(set) = ConflictSet::new(alloc, window, limit) else {
             return Err(OpenError::Memory);
@@ -110,18 +98,9 @@ impl Core {
         limit: usize,
         version: i64,
     ) -> Result<Self, Stop>
-        requires least_proxies { 1 ≤ proxies }
-        requires most_proxies { proxies ≤ MAX_PROXIES }
-        requires least_window { pos 1 ≤ℤ window }
-        requires most_window { window ≤ℤ MAX_WINDOW }
-        requires least_limit { 1 ≤ limit }
-        requires most_limit { limit ≤ MAX_LIMIT }
+        requires settings { AreSettings proxies window limit }
         requires least_version { negsuc 0 ≤ℤ version }
-        ensures stands { IfOk result (λ core. Stands core (opening_log proxies version) (λ _. [])) }
-        ensures open { IfOk result (λ core. core.stop ≡ None) }
-        ensures proxies { IfOk result (λ core. length core.owed ≡ proxies) }
-        ensures window { IfOk result (λ core. core.set.window ≡ window) }
-        ensures limit { IfOk result (λ core. core.set.map.limit ≡ limit) }
+        ensures new { IfOk result (IsNewCore proxies window limit (opening_log proxies version)) }
         ensures full { (result ≡ Err Stop.ArenaFull) ↔ (pos 0 ≤ℤ version) × (limit < 3) }
         ensures not_gate { result ≢ Err Stop.GateFull }
     {
@@ -151,21 +130,7 @@ impl Core {
     /// it are still handed out.
     pub fn admit(&mut self, proxy: usize, batch: Batch) -> Result<(), Stop>
         requires known { proxy < length self.old.owed }
-        ensures stands { self.old.stop ≡ None → (log : List Step) (given : Given)
-            → Stands self.old log given
-            → Stands self.new (log ++ Take proxy batch ∷ []) given }
-        ensures open { OnOk result ((self.old.stop ≡ None) × (self.new.stop ≡ None)) }
-        ensures stops { IfErr result (λ stop. self.new.stop ≡ Some stop) }
-        ensures stopped { IfSome self.old.stop (λ stop. (result ≡ Err stop)
-            × (self.new ≡ self.old)) }
-        ensures continues { Continues self.old self.new }
-        ensures gate_full { self.old.stop ≡ None → (result ≡ Err Stop.GateFull)
-            ↔ (self.old.version <ℤ batch.previous) × (length self.old.held ≡ MAX_HELD) }
-        ensures arena_full { self.old.stop ≡ None → result ≡ Err Stop.ArenaFull
-            → (log : List Step) (given : Given)
-            → Stands self.old log given
-            → StopsAtLimit self.old.set.map.limit self.old.set.window proxy batch
-            (run self.old.set.window log) given self.new }
+        ensures admits { Admits result proxy batch self.old self.new }
     {
         self.admit_observed(&mut Unobserved, proxy, batch)
     }
@@ -210,15 +175,8 @@ impl Core {
     ///
     /// An error is final, as that of [`admit`](Self::admit) is.
     pub fn finish(&mut self) -> Result<(), Stop>
-        ensures stands { self.old.stop ≡ None → (log : List Step) (given : Given)
-            → Stands self.old log given
-            → Stands self.new (log ++ Finish ∷ []) given }
-        ensures open { OnOk result ((self.old.stop ≡ None) × (self.new.stop ≡ None)) }
-        ensures stops { IfErr result (λ stop. self.new.stop ≡ Some stop) }
-        ensures stopped { IfSome self.old.stop (λ stop. (result ≡ Err stop)
-            × (self.new ≡ self.old)) }
+        ensures adds { AddsStep Finish result self.old self.new }
         ensures memory { self.old.stop ≡ None → IfErr result (λ stop. stop ≡ Stop.Memory) }
-        ensures continues { Continues self.old self.new }
     {
         if let Some(stop) = self.stop {
             return Err(stop);

@@ -1,23 +1,17 @@
 //! The opening of a resolver and its clients.
 
-ghost use Rattle.std.specs.Prelude.{◌≡◌, ◌≢◌, ◌≤◌, ◌≤ℤ◌, ◌<◌, ◌↔◌, pos, negsuc, [], length, None};
-ghost use Rattle.std.specs.Prelude.{All, IfOk, Err};
-ghost use Rattle.stepmap.specs.declared.step_map.TheConstants.{MAX_LIMIT};
-ghost use Rattle.conflict.specs.declared.conflict_set.TheConstants.{MAX_WINDOW};
-ghost use Rattle.lane.specs.Lane.{SameLane};
+ghost use Rattle.std.specs.Prelude.{◌≡◌, ◌≢◌, ◌≤◌, ◌≤ℤ◌, ◌<◌, ◌↔◌, pos, negsuc, IfOk, Err};
 ghost use Rattle.lane.specs.declared.ends.TheConstants.{MAX_CAPACITY};
-ghost use Rattle.resolver.specs.declared.resolver_core.TheConstants.{MAX_PROXIES};
-ghost use Rattle.resolver.specs.Lanes.{Lanes};
-ghost use Rattle.resolver.specs.Resolver.{StandsOver, StandsOverFrom, IsResolving};
-ghost use Rattle.resolver.specs.Resolver.{IsResolvingFrom, AreClients, IsNewClient};
-ghost use Rattle.resolver.specs.Parts.{AreNewLanes, AreConnected};
+ghost use Rattle.resolver.specs.CoreCalls.{AreSettings};
+ghost use Rattle.resolver.specs.Opens.{Opens};
+ghost use Rattle.resolver.specs.Parts.{AreConnected};
 
 use crate::client::Client;
 use crate::proxy_lanes::ProxyLanes;
 use crate::resolver::Resolver;
-use crate::resolver_core::{Core, MAX_PROXIES};
+use crate::resolver_core::Core;
 use crate::stop::{OpenError, Stop};
-use lane::{LaneError, MAX_CAPACITY, lane};
+use lane::{MAX_CAPACITY, lane};
 use std::alloc::Global;
 
 /// Opens a resolver for this number of proxies, and a client for each, at its number. A lane holds
@@ -30,23 +24,11 @@ pub fn open(
     window: i64,
     limit: usize,
 ) -> Result<(Resolver, Vec<Client>), OpenError>
-    requires least_proxies { 1 ≤ proxies }
-    requires most_proxies { proxies ≤ MAX_PROXIES }
+    requires settings { AreSettings proxies window limit }
     requires least_capacity { 1 ≤ capacity }
     requires most_capacity { capacity ≤ MAX_CAPACITY }
-    requires least_window { pos 1 ≤ℤ window }
-    requires most_window { window ≤ℤ MAX_WINDOW }
-    requires least_limit { 1 ≤ limit }
-    requires most_limit { limit ≤ MAX_LIMIT }
-    ensures stands { IfOk result (λ opened. StandsOver opened.0 []) }
-    ensures resolving { IfOk result (λ opened. IsResolving opened.0) }
-    ensures no_stop { IfOk result (λ opened. opened.0.core.stop ≡ None) }
-    ensures next { IfOk result (λ opened. opened.0.next ≡ 0) }
-    ensures window { IfOk result (λ opened. opened.0.core.set.window ≡ window) }
-    ensures limit { IfOk result (λ opened. opened.0.core.set.map.limit ≡ limit) }
-    ensures proxies { IfOk result (λ opened. length opened.1.items ≡ proxies) }
-    ensures clients { IfOk result (λ opened. AreClients opened.0.lanes opened.1.items) }
-    ensures new_clients { IfOk result (λ opened. All (IsNewClient capacity) opened.1.items) }
+    ensures opens { IfOk result (λ opened. Opens (negsuc 0) proxies capacity window limit opened.0
+        opened.1.items) }
 {
     let core = Core::new(alloc, proxies, window, limit)?;
     let (all_lanes, clients) = connect_all(alloc, proxies, capacity)?;
@@ -69,25 +51,12 @@ pub fn open_at(
     limit: usize,
     version: i64,
 ) -> Result<(Resolver, Vec<Client>), Stop>
-    requires least_proxies { 1 ≤ proxies }
-    requires most_proxies { proxies ≤ MAX_PROXIES }
+    requires settings { AreSettings proxies window limit }
     requires least_capacity { 1 ≤ capacity }
     requires most_capacity { capacity ≤ MAX_CAPACITY }
-    requires least_window { pos 1 ≤ℤ window }
-    requires most_window { window ≤ℤ MAX_WINDOW }
-    requires least_limit { 1 ≤ limit }
-    requires most_limit { limit ≤ MAX_LIMIT }
     requires least_version { negsuc 0 ≤ℤ version }
-    ensures stands { IfOk result (λ opened. StandsOverFrom version opened.0 []) }
-    ensures resolving { IfOk result (λ opened. IsResolvingFrom version opened.0) }
-    ensures no_stop { IfOk result (λ opened. opened.0.core.stop ≡ None) }
-    ensures version { IfOk result (λ opened. opened.0.core.version ≡ version) }
-    ensures next { IfOk result (λ opened. opened.0.next ≡ 0) }
-    ensures window { IfOk result (λ opened. opened.0.core.set.window ≡ window) }
-    ensures limit { IfOk result (λ opened. opened.0.core.set.map.limit ≡ limit) }
-    ensures proxies { IfOk result (λ opened. length opened.1.items ≡ proxies) }
-    ensures clients { IfOk result (λ opened. AreClients opened.0.lanes opened.1.items) }
-    ensures new_clients { IfOk result (λ opened. All (IsNewClient capacity) opened.1.items) }
+    ensures opens { IfOk result (λ opened. Opens version proxies capacity window limit opened.0
+        opened.1.items) }
     ensures full { (result ≡ Err Stop.ArenaFull) ↔ (pos 0 ≤ℤ version) × (limit < 3) }
     ensures not_gate { result ≢ Err Stop.GateFull }
 {
@@ -112,27 +81,13 @@ fn connect_all(
     let mut all_lanes = Vec::with_capacity(alloc, proxies)?;
     let mut clients = Vec::with_capacity(alloc, proxies)?;
     for _ in 0..proxies {
-        let (proxy_lanes, client) = connect(alloc, capacity)?;
-        all_lanes.push_reserved(proxy_lanes);
-        clients.push_reserved(client);
+        let (send_requests, take_requests) = lane(alloc, capacity)?;
+        let (send_replies, take_replies) = lane(alloc, capacity)?;
+        all_lanes.push_reserved(ProxyLanes::new(take_requests, send_replies));
+        clients.push_reserved(Client {
+            requests: send_requests,
+            replies: take_replies,
+        });
     }
     Ok((all_lanes, clients))
-}
-
-// Makes the two lanes of a proxy.
-fn connect(alloc: Global, capacity: usize) -> Result<(ProxyLanes, Client), LaneError>
-    requires least_capacity { 1 ≤ capacity }
-    requires most_capacity { capacity ≤ MAX_CAPACITY }
-    ensures proxy_lanes { IfOk result (λ ends. AreNewLanes ends.0) }
-    ensures client { IfOk result (λ ends. IsNewClient capacity ends.1) }
-    ensures requests { IfOk result (λ ends. SameLane ends.1.requests ends.0.lanes.requests) }
-    ensures replies { IfOk result (λ ends. SameLane ends.0.lanes.replies ends.1.replies) }
-{
-    let (send_requests, take_requests) = lane(alloc, capacity)?;
-    let (send_replies, take_replies) = lane(alloc, capacity)?;
-    let client = Client {
-        requests: send_requests,
-        replies: take_replies,
-    };
-    Ok((ProxyLanes::new(take_requests, send_replies), client))
 }

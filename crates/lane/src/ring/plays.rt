@@ -20,9 +20,9 @@ impl<T> Play<Option<T>, Known<T>> for Claims {
 }
 
 /// The port stores tail, one larger, and gives the slot back.
-pub(crate) struct Sends;
+pub(crate) struct StoresTail;
 
-impl<T> Play<Option<T>, Known<T>> for Sends {
+impl<T> Play<Option<T>, Known<T>> for StoresTail {
     ghost then = { λ step old _ new. Sent step.slots old new };
 }
 
@@ -48,9 +48,9 @@ impl<T> Play<Option<T>, Known<T>> for Finds {
 }
 
 /// The intake stores head, one larger, and gives the slot back.
-pub(crate) struct Takes;
+pub(crate) struct StoresHead;
 
-impl<T> Play<Option<T>, Known<T>> for Takes {
+impl<T> Play<Option<T>, Known<T>> for StoresHead {
     ghost then = { λ step old _ new. Took step.slots old new };
 }
 

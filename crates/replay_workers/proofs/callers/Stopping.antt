@@ -1,5 +1,5 @@
 -- A resolver from turn to turn, with what the stop that it meets tells of its log.
-use Rattle.std.specs.Prelude.{◌≡◌, ℕ, ℤ, negsuc, ◌<ℤ◌, ◌⊎◌, List, [], ◌∷◌, ◌++◌, length, Option, None, Some, IsSome, IfSome, Result, Ok, Err, OnOk, IfOk, IfErr, is_some}
+use Rattle.std.specs.Prelude.{◌≡◌, ℕ, ℤ, negsuc, ◌<ℤ◌, ◌⊎◌, List, [], ◌∷◌, ◌++◌, length, Option, None, Some, IsSome, IfSome, Result, Ok, Err, is_some}
 use Rattle.std.proofs.Common.{refl, sym, ap, subst, ◌∙◌, inl, inr}
 use Rattle.keyspace.specs.declared.batch.Batch.{Batch}
 use Rattle.keyspace.specs.Run.{Step, Take, Finish, run}
@@ -10,8 +10,8 @@ use Rattle.resolver.specs.declared.turn.Turn.{Turn}
 use Rattle.resolver.specs.declared.turn.Turn.TheVariants as turn
 use Rattle.resolver.specs.Core.{CoreState, Given, Continues, StopsAtLimit}
 use Rattle.resolver.specs.Lanes.{sent_to}
-use Rattle.resolver.specs.OpeningLog.{log_from}
-use Rattle.resolver.specs.Resolver.{ResolverState, StandsOver, StandsOverFrom, TakesFrom, Finishes, TakesNoStep, StepsBy}
+use Rattle.resolver.specs.Resolver.{ResolverState, StandsOver, TakesFrom, Finishes, TakesNoStep, StepsFor, taken_by}
+use Rattle.resolver.specs.Turns.{Turns}
 use Rattle.resolver.proofs.callers.Standing.{IsIn-standing}
 use Rattle.replay_workers.specs.Stops.{FillsArena, IsStopOf, IsAccountedFor}
 
@@ -93,7 +93,7 @@ module _ (old new : ResolverState) (goes : Continues old.core new.core) (Before 
       accounted before.log (step.adds (negsuc 0) before.log before.stands) None none tt
       (rests (none ∙ sym was) step before.log before.stands before.also)
 
-  turned : (t : Turn) → old.core.stop ≡ None → StepsBy t old new → new.core.stop ≡ None → IsAccountedWith Before old
+  turned : (t : Turn) → old.core.stop ≡ None → StepsFor (taken_by t) old new → new.core.stop ≡ None → IsAccountedWith Before old
       → IsAccountedWith After new
   turned (turn.Took proxy) was step none before =
       accounted (before.log ++ Take proxy step.batch ∷ []) (step.adds (negsuc 0) before.log before.stands) None none tt
@@ -161,35 +161,22 @@ module _ (old new : ResolverState) (goes : Continues old.core new.core) (Before 
       let same : stop ≡ first = cc in
       stopped_before (Some first) is refl (no_step (ap is_some is)) (now ∙ ap (λ (s : Stop). Some s) same) before
 
-  pub after_turn : (result : Result Turn Stop) → IfOk result (λ turn. StepsBy turn old new)
-      → IfErr result (λ _. old.core.stop ≡ None → ((proxy : ℕ) × TakesFrom proxy old new) ⊎ Finishes old new)
-      → (IsSome old.core.stop → TakesNoStep old new) → IfErr result (λ stop. new.core.stop ≡ Some stop)
-      → IfSome old.core.stop (λ stop. result ≡ Err stop) → OnOk result (new.core.stop ≡ None)
-      → (old.core.stop ≡ None → result ≡ Err resolver.GateFull → AtFullGate)
-      → (old.core.stop ≡ None → result ≡ Err resolver.ArenaFull → (version : ℤ) (log : List Step)
-      → StandsOverFrom version old log → AtFullArena (log_from version (length old.lanes) log))
-      → IsAccountedWith Before old → IsAccountedWith After new
-  after_turn (Ok turn) step met no_step now stays none gate arena before =
-      turned turn (unstopped turn old.core.stop stays) step none before
-  after_turn (Err stop) step met no_step now stays none gate arena before =
-      erred stop old.core.stop refl now met no_step stays (λ was is. gate was (ap Err is))
-      (λ was is. arena was (ap Err is) (negsuc 0)) before
+  pub after_turn : (result : Result Turn Stop) → Turns result old new → IsAccountedWith Before old
+      → IsAccountedWith After new
+  after_turn (Ok turn) turns before =
+      let steps = turns.steps in
+      turned turn (unstopped turn old.core.stop steps.stop_stays) steps.log steps.no_stop before
+  after_turn (Err stop) turns before =
+      let steps = turns.steps in
+      erred stop old.core.stop refl steps.stop steps.stop_met turns.stopped steps.stop_stays
+      (λ was is. steps.gate_full was (ap Err is)) (λ was is. steps.arena_full was (ap Err is) (negsuc 0)) before
 
 -- nothing else is true of the log
-pub accounted_turn : (old new : ResolverState) → Continues old.core new.core → (result : Result Turn Stop)
-    → IfOk result (λ turn. StepsBy turn old new)
-    → IfErr result (λ _. old.core.stop ≡ None → ((proxy : ℕ) × TakesFrom proxy old new) ⊎ Finishes old new)
-    → (IsSome old.core.stop → TakesNoStep old new) → IfErr result (λ stop. new.core.stop ≡ Some stop)
-    → IfSome old.core.stop (λ stop. result ≡ Err stop) → OnOk result (new.core.stop ≡ None)
-    → (old.core.stop ≡ None → result ≡ Err resolver.GateFull → (proxy : ℕ) × (took : TakesFrom proxy old new)
-    × (old.core.version <ℤ took.batch.previous) × (length old.core.held ≡ MAX_HELD))
-    → (old.core.stop ≡ None → result ≡ Err resolver.ArenaFull → (version : ℤ) (log : List Step)
-    → StandsOverFrom version old log → (proxy : ℕ) × (took : TakesFrom proxy old new)
-    × StopsAtLimit old.core.set.map.limit old.core.set.window proxy took.batch
-    (run old.core.set.window (log_from version (length old.lanes) log)) (sent_to new.lanes) new.core)
-    → IsAccountedFor old → IsAccountedFor new
-accounted_turn old new goes result step met no_step now stays none gate arena before =
+pub accounted_turn : (old new : ResolverState) (result : Result Turn Stop) → Turns result old new → IsAccountedFor old
+    → IsAccountedFor new
+accounted_turn old new result turns before =
     let also : IsAccountedWith (λ _. Unit {0}) new =
-    after_turn old new goes (λ _. Unit {0}) (λ _. Unit {0}) (λ _ _ _ _ _ _. tt) (λ _ _ _ _ _. tt) (λ _ _ _ _ _. tt) result step met no_step
-    now stays none gate arena (record { log = before.log; stands = before.stands; met = before.met; also = tt }) in
+    after_turn old new turns.steps.continues (λ _. Unit {0}) (λ _. Unit {0}) (λ _ _ _ _ _ _. tt) (λ _ _ _ _ _. tt)
+    (λ _ _ _ _ _. tt) result turns
+    (record { log = before.log; stands = before.stands; met = before.met; also = tt }) in
     record { log = also.log; stands = also.stands; met = also.met }

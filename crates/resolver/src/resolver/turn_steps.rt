@@ -1,18 +1,14 @@
 //! The steps of a turn: a batch is taken, answers are sent, and the reply lanes are closed.
 
-ghost use Rattle.std.specs.Prelude.{◌≡◌, ℕ, ℤ, ◌+◌, ◌⊎◌, ◌↔◌, ◌≢◌, ◌<ℤ◌, true, false, List, []};
-ghost use Rattle.std.specs.Prelude.{length, Option, Some, None, Ok, Err, IfErr, OnOk, IfSome};
-ghost use Rattle.std.specs.Prelude.{slice_get};
-ghost use Rattle.keyspace.specs.Run.{Step, run};
-ghost use Rattle.chain.specs.declared.gate.TheConstants.{MAX_HELD};
+ghost use Rattle.std.specs.Prelude.{◌≡◌, ℕ, ℤ, ◌↔◌, ◌≢◌, true, false, List, [], length, Some};
+ghost use Rattle.std.specs.Prelude.{None, IfOk, OnOk, IsSome, IfSome, slice_get};
+ghost use Rattle.keyspace.specs.Run.{Step};
 ghost use Rattle.lane.specs.Lane.{PortContinues};
 ghost use Rattle.resolver.specs.Owed.{owed_to};
-ghost use Rattle.resolver.specs.Core.{Continues, StopsAtLimit, made_to};
-ghost use Rattle.resolver.specs.OpeningLog.{log_from};
-ghost use Rattle.resolver.specs.Lanes.{Lanes, all_ended, Each, LanesContinue, IsLookedThrough};
-ghost use Rattle.resolver.specs.Lanes.{ComesBefore, IsFull, sent_to};
-ghost use Rattle.resolver.specs.Resolver.{StandsOverFrom, TakesFrom, Finishes, TakesNoStep};
-ghost use Rattle.resolver.specs.Resolver.{IsThrough, SameExcept};
+ghost use Rattle.resolver.specs.Core.{made_to};
+ghost use Rattle.resolver.specs.Lanes.{Lanes, all_ended, Each, IsFull, sent_to};
+ghost use Rattle.resolver.specs.Resolver.{StandsOverFrom, IsThrough, SameExcept};
+ghost use Rattle.resolver.specs.Turns.{TurnSteps};
 ghost use Rattle.resolver.specs.Observed.{ObservesStep};
 
 use super::Resolver;
@@ -24,37 +20,11 @@ impl Resolver {
     // Takes a batch of the next proxy that has one and admits it, and returns the proxy; or
     // finishes the core, once all have ended. The observer sees each batch that is processed.
     pub(super) fn step<O: Observer>(&mut self, observer: &mut O) -> Result<Option<usize>, Stop>
-        ensures took { (proxy : ℕ) → result ≡ Ok (Some proxy) → TakesFrom proxy self.old self.new }
-        ensures still_open { (proxy : ℕ) → result ≡ Ok (Some proxy)
-            → all_ended self.new.lanes ≡ false }
-        ensures none { result ≡ Ok None → Finishes self.old self.new
-            ⊎ TakesNoStep self.old self.new }
-        ensures stop_met { IfErr result (λ _. self.old.core.stop ≡ None
-            → ((proxy : ℕ) × TakesFrom proxy self.old self.new) ⊎ Finishes self.old self.new) }
-        ensures stopped { IfSome self.old.core.stop (λ stop. (result ≡ Err stop)
-            × (self.new ≡ self.old)) }
-        ensures stop { IfErr result (λ stop. self.new.core.stop ≡ Some stop) }
-        ensures no_stop { OnOk result (self.new.core.stop ≡ None) }
-        ensures looked_through { result ≡ Ok None
-            → Each (λ _ l m. IsLookedThrough l m) self.old.lanes self.new.lanes }
-        ensures passed { (proxy : ℕ) → result ≡ Ok (Some proxy)
-            → Each (λ passed l m. ComesBefore self.old.next passed proxy
-            → IsLookedThrough l m) self.old.lanes self.new.lanes }
-        ensures next { (proxy : ℕ) → result ≡ Ok (Some proxy) → self.new.next ≡ proxy + 1 }
-        ensures next_stays { result ≡ Ok None → self.new.next ≡ self.old.next }
-        ensures gate_full { self.old.core.stop ≡ None → result ≡ Err Stop.GateFull
-            → (proxy : ℕ) × (took : TakesFrom proxy self.old self.new)
-            × (self.old.core.version <ℤ took.batch.previous)
-            × (length self.old.core.held ≡ MAX_HELD) }
-        ensures arena_full { self.old.core.stop ≡ None → result ≡ Err Stop.ArenaFull
-            → (version : ℤ) (log : List Step) → StandsOverFrom version self.old log
-            → (proxy : ℕ) × (took : TakesFrom proxy self.old self.new)
-            × StopsAtLimit self.old.core.set.map.limit self.old.core.set.window proxy took.batch
-            (run self.old.core.set.window (log_from version (length self.old.lanes) log))
-            (sent_to self.new.lanes) self.new.core }
+        ensures steps { TurnSteps (λ taken. taken) result self.old self.new }
+        ensures stopped { IsSome self.old.core.stop → self.new ≡ self.old }
+        ensures still_open { IfOk result (λ taken. IsSome taken
+            → all_ended self.new.lanes ≡ false) }
         ensures replies { Each (λ _ l m. m.replies ≡ l.replies) self.old.lanes self.new.lanes }
-        ensures lanes { Each (λ _ l m. LanesContinue l m) self.old.lanes self.new.lanes }
-        ensures continues { Continues self.old.core self.new.core }
         ensures open { OnOk result (self.old.core.stop ≡ None) }
         ensures sees { ObservesStep (O.has_seen observer.old) (O.has_seen observer.new) self.old
             self.new }

@@ -1,20 +1,15 @@
 //! How a core answers: it holds a batch, judges it or finds the reply of a repeat, and so for all
 //! that leave.
 
-ghost use Rattle.std.specs.Prelude.{◌≡◌, ◌≢◌, ℕ, ℤ, ◌<◌, ◌≤ℤ◌, ◌<ℤ◌, ◌↔◌, List, length};
-ghost use Rattle.std.specs.Prelude.{Some, None, Err};
-ghost use Rattle.std.specs.Prelude.{OnOk, OnErr, IfOk, IfErr};
+ghost use Rattle.std.specs.Prelude.{◌≡◌, ◌≢◌, ℕ, ℤ, ◌<◌, ◌≤ℤ◌, ◌<ℤ◌, ◌↔◌, length, Some, None};
+ghost use Rattle.std.specs.Prelude.{Err, OnOk, OnErr, IfOk, IfErr};
 ghost use Rattle.keyspace.specs.Found.{found, reply_or_never};
-ghost use Rattle.keyspace.specs.Processed.{Processed};
 ghost use Rattle.keyspace.specs.Run.{State, Take, Finish, answer, process, leave_all, step};
 ghost use Rattle.keyspace.specs.Run as reference;
 ghost use Rattle.chain.specs.declared.gate.TheConstants.{MAX_HELD};
 ghost use Rattle.chain.specs.Replies.{reply_of};
-ghost use Rattle.resolver.specs.Core.{Given, IsIn, Continues, MadeBetween, StopsIn};
-ghost use Rattle.resolver.specs.Core.{StopsAsTheyLeave};
-ghost use Rattle.resolver.specs.Core.{StopsAtLimit};
-ghost use Rattle.resolver.specs.Core.{kept_also};
-ghost use Rattle.resolver.specs.Observed.{HasSeenBetween};
+ghost use Rattle.resolver.specs.Core.{Given, IsIn, StopsAsTheyLeave, StopsAtLimit, kept_also};
+ghost use Rattle.resolver.specs.CoreCalls.{Advances, AdvancesByOne, Answers, Shows, ShowsOne};
 
 use super::Core;
 use crate::stop::Stop;
@@ -34,28 +29,17 @@ impl Core {
     ) -> Result<(), Stop>
         requires known { proxy < length self.old.owed }
         requires open { self.old.stop ≡ None }
-        ensures ok { OnOk result ((state : State) (given : Given) → IsIn state given self.old
-            → IsIn (step self.old.set.window (Take proxy batch) state) given self.new) }
-        ensures err { OnErr result ((state : State) (given : Given) → IsIn state given self.old
-            → MadeBetween state (step self.old.set.window (Take proxy batch) state) given
-            self.new) }
+        ensures advances { Advances (step self.old.set.window (Take proxy batch)) result self.old
+            self.new }
+        ensures shows { Shows (step self.old.set.window (Take proxy batch)) result self.old
+            (O.has_seen observer.old) (O.has_seen observer.new) }
         ensures open { OnOk result (self.new.stop ≡ None) }
-        ensures continues { Continues self.old self.new }
         ensures gate_full { (result ≡ Err Stop.GateFull)
             ↔ (self.old.version <ℤ batch.previous) × (length self.old.held ≡ MAX_HELD) }
         ensures arena_full { result ≡ Err Stop.ArenaFull → (state : State) (given : Given)
             → IsIn state given self.old
             → StopsAtLimit self.old.set.map.limit self.old.set.window proxy batch state given
             self.new }
-        ensures seen { OnOk result ((state : State) (given : Given) → IsIn state given self.old
-            → O.has_seen observer.old state.processed
-            → O.has_seen observer.new
-            (step self.old.set.window (Take proxy batch) state).processed) }
-        ensures seen_between { OnErr result ((state : State) (given : Given)
-            → IsIn state given self.old
-            → O.has_seen observer.old state.processed
-            → HasSeenBetween (O.has_seen observer.new) state.processed
-            (step self.old.set.window (Take proxy batch) state).processed) }
         ensures setting { O.setting observer.new ≡ O.setting observer.old }
     {
         if batch.previous > self.version {
@@ -68,14 +52,10 @@ impl Core {
 
     /// Answers every held batch `Held`, in order of arrival.
     pub(super) fn answer_held(&mut self) -> Result<(), Stop>
-        ensures ok { OnOk result ((state : State) (given : Given) → IsIn state given self.old
-            → IsIn (step self.old.set.window Finish state) given self.new) }
-        ensures err { OnErr result ((state : State) (given : Given) → IsIn state given self.old
-            → MadeBetween state (step self.old.set.window Finish state) given self.new) }
+        ensures advances { Advances (step self.old.set.window Finish) result self.old self.new }
         ensures memory { IfErr result (λ stop. stop ≡ Stop.Memory) }
         ensures set { self.new.set ≡ self.old.set }
         ensures stop { self.new.stop ≡ self.old.stop }
-        ensures continues { Continues self.old self.new }
     {
         while let Some((proxy, batch)) = self.gate.first() {
             self.owed.reserve(proxy)?;
@@ -88,14 +68,12 @@ impl Core {
     fn hold(&mut self, proxy: usize, batch: Batch) -> Result<(), Stop>
         requires known { proxy < length self.old.owed }
         requires ahead { self.old.version <ℤ batch.previous }
-        ensures ok { OnOk result ((state : State) (given : Given) → IsIn state given self.old
-            → IsIn (reference.admit self.old.set.window proxy batch state) given self.new) }
-        ensures err { OnErr result (self.new.owed ≡ self.old.owed) }
+        ensures advances { AdvancesByOne (reference.admit self.old.set.window proxy batch) result
+            self.old self.new }
         ensures full { (result ≡ Err Stop.GateFull) ↔ (length self.old.held ≡ MAX_HELD) }
         ensures not_arena { result ≢ Err Stop.ArenaFull }
         ensures set { self.new.set ≡ self.old.set }
         ensures stop { self.new.stop ≡ self.old.stop }
-        ensures continues { Continues self.old self.new }
     {
         match self.gate.hold(proxy, batch) {
             Ok(()) => Ok(()),
@@ -113,23 +91,10 @@ impl Core {
         requires known { proxy < length self.old.owed }
         requires open { self.old.stop ≡ None }
         requires due { batch.previous ≤ℤ self.old.version }
-        ensures ok { OnOk result ((state : State) (given : Given) → IsIn state given self.old
-            → IsIn (reference.admit self.old.set.window proxy batch state) given self.new) }
-        ensures err { OnErr result (self.new.owed ≡ self.old.owed) }
-        ensures open { OnOk result (self.new.stop ≡ None) }
-        ensures held { self.new.held ≡ self.old.held }
-        ensures continues { Continues self.old self.new }
-        ensures not_gate { result ≢ Err Stop.GateFull }
-        ensures arena_full { result ≡ Err Stop.ArenaFull → (state : State) (given : Given)
-            → IsIn state given self.old
-            → StopsIn self.old.set.map.limit self.old.set.window state proxy batch given
-            self.new }
-        ensures seen { OnOk result ((state : State) (given : Given) → IsIn state given self.old
-            → O.has_seen observer.old state.processed
-            → O.has_seen observer.new
-            (reference.admit self.old.set.window proxy batch state).processed) }
-        ensures unseen { OnErr result ((ps : List Processed) → O.has_seen observer.old ps
-            → O.has_seen observer.new ps) }
+        ensures answers { Answers (reference.admit self.old.set.window proxy batch) proxy batch
+            result self.old self.new }
+        ensures shows { ShowsOne (reference.admit self.old.set.window proxy batch) result self.old
+            (O.has_seen observer.old) (O.has_seen observer.new) }
         ensures setting { O.setting observer.new ≡ O.setting observer.old }
     {
         if batch.previous < self.version {
@@ -142,11 +107,9 @@ impl Core {
     // Answers a repeat with the reply that is kept of the proxy for the version, or with `Never`.
     fn repeat(&mut self, proxy: usize, version: i64) -> Result<(), Stop>
         requires known { proxy < length self.old.owed }
-        ensures ok { OnOk result ((state : State) (given : Given) → IsIn state given self.old
-            → IsIn (answer proxy (found state.processed proxy version) state) given self.new) }
+        ensures advances { AdvancesByOne (λ state. answer proxy
+            (found state.processed proxy version) state) result self.old self.new }
         ensures others { self.new ≡ record self.old { owed = self.new.owed } }
-        ensures proxies { length self.new.owed ≡ length self.old.owed }
-        ensures err { OnErr result (self.new.owed ≡ self.old.owed) }
         ensures memory { IfErr result (λ stop. stop ≡ Stop.Memory) }
     {
         self.owed.reserve(proxy)?;
@@ -167,22 +130,10 @@ impl Core {
         requires known { proxy < length self.old.owed }
         requires open { self.old.stop ≡ None }
         requires next { batch.previous ≡ self.old.version }
-        ensures ok { OnOk result ((state : State) (given : Given) → IsIn state given self.old
-            → IsIn (process self.old.set.window proxy batch state) given self.new) }
-        ensures err { OnErr result (self.new.owed ≡ self.old.owed) }
-        ensures open { OnOk result (self.new.stop ≡ None) }
-        ensures held { self.new.held ≡ self.old.held }
-        ensures continues { Continues self.old self.new }
-        ensures not_gate { result ≢ Err Stop.GateFull }
-        ensures arena_full { result ≡ Err Stop.ArenaFull → (state : State) (given : Given)
-            → IsIn state given self.old
-            → StopsIn self.old.set.map.limit self.old.set.window state proxy batch given
-            self.new }
-        ensures seen { OnOk result ((state : State) (given : Given) → IsIn state given self.old
-            → O.has_seen observer.old state.processed
-            → O.has_seen observer.new (process self.old.set.window proxy batch state).processed) }
-        ensures unseen { OnErr result ((ps : List Processed) → O.has_seen observer.old ps
-            → O.has_seen observer.new ps) }
+        ensures answers { Answers (process self.old.set.window proxy batch) proxy batch result
+            self.old self.new }
+        ensures shows { ShowsOne (process self.old.set.window proxy batch) result self.old
+            (O.has_seen observer.old) (O.has_seen observer.new) }
         ensures setting { O.setting observer.new ≡ O.setting observer.old }
     {
         laws::one_reply();
@@ -206,24 +157,14 @@ impl Core {
     // rises.
     fn release<O: Observer>(&mut self, observer: &mut O) -> Result<(), Stop>
         requires open { self.old.stop ≡ None }
-        ensures ok { OnOk result ((state : State) (given : Given) → IsIn state given self.old
-            → IsIn (leave_all self.old.set.window state) given self.new) }
-        ensures err { OnErr result ((state : State) (given : Given) → IsIn state given self.old
-            → MadeBetween state (leave_all self.old.set.window state) given self.new) }
+        ensures advances { Advances (leave_all self.old.set.window) result self.old self.new }
+        ensures shows { Shows (leave_all self.old.set.window) result self.old
+            (O.has_seen observer.old) (O.has_seen observer.new) }
         ensures open { OnOk result (self.new.stop ≡ None) }
-        ensures continues { Continues self.old self.new }
         ensures not_gate { result ≢ Err Stop.GateFull }
         ensures arena_full { result ≡ Err Stop.ArenaFull → (state : State) (given : Given)
             → IsIn state given self.old
             → StopsAsTheyLeave self.old.set.map.limit self.old.set.window state given self.new }
-        ensures seen { OnOk result ((state : State) (given : Given) → IsIn state given self.old
-            → O.has_seen observer.old state.processed
-            → O.has_seen observer.new (leave_all self.old.set.window state).processed) }
-        ensures seen_between { OnErr result ((state : State) (given : Given)
-            → IsIn state given self.old
-            → O.has_seen observer.old state.processed
-            → HasSeenBetween (O.has_seen observer.new) state.processed
-            (leave_all self.old.set.window state).processed) }
         ensures setting { O.setting observer.new ≡ O.setting observer.old }
     {
         laws::leaving();

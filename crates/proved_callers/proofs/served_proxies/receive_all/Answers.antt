@@ -48,9 +48,9 @@ module _ (g : Over) (c : In_ok-receive-2 g) where
 
   turned : AreServing WINDOW c.turn.new.self before sent (c.loop.first.items ∷ c.loop.second.items ∷ [])
   turned =
-      let is = c.turn.ensures in
+      let is = c.turn.ensures.turns in
       serving_turned WINDOW c.loop.resolver before sent (c.loop.first.items ∷ c.loop.second.items ∷ [])
-      c.loop.invariant c.turn.new.self (is.resolving (negsuc 0) c.loop.invariant.resolving) is.continues is.lanes
+      c.loop.invariant c.turn.new.self (is.resolving (negsuc 0) c.loop.invariant.resolving) is.steps.continues is.steps.lanes
 
   first_received : AreServing WINDOW c.turn.new.self between sent
       (c.receive.new.received.items ∷ c.loop.second.items ∷ [])

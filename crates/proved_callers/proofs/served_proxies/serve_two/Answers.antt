@@ -9,12 +9,12 @@ use Rattle.proved_callers.proofs.served_proxies.serve_two.Goals as goal
 
 pub serve-requires : goal.serve-requires
 serve-requires c =
-    let is = c.in_ok-resolver.ensures in
+    let is = c.in_ok-resolver.ensures.opens in
     let clients = c.in_ok-resolver.clients.items in
     record {
       serving =
           subst (λ (lent : List Client). AreServing WINDOW c.in_ok-resolver.resolver lent ([] ∷ [] ∷ []) ([] ∷ [] ∷ []))
           (sym c.deref_mut.ensures.value)
-          (serving_opened WINDOW c.in_ok-resolver.resolver clients 1 is.resolving is.window is.clients is.proxies is.new_clients);
+          (serving_opened WINDOW c.in_ok-resolver.resolver clients 1 is.resolving is.window is.same is.proxies is.new_clients);
       new = subst (λ (lent : List Client). All (IsNewClient 1) lent) (sym c.deref_mut.ensures.value) is.new_clients;
     }

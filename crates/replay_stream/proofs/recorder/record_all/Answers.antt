@@ -9,6 +9,6 @@ pub returns-in-End : goal.returns-in-End
 returns-in-End g c =
     let state = state_by g.W.Sink.given g.W.Sink.failures in
     let start : Recorder g.row.W.Denot = record { answers = c.args.answers; out = c.args.out; failure = None } in
-    let waits = recorder_waits state start c.loop.recorder c.take.new.self c.loop.invariant c.take.ensures.intake
-    c.in-End.ensures.taken in
-    record { recorded = has_recorded state start (record c.loop.recorder { answers = c.take.new.self }) refl waits c.in-End.ensures.end }
+    let waits = recorder_waits state start c.loop.recorder c.take.new.self c.loop.invariant c.take.ensures.takes.intake
+    c.in-End.ensures.takes.taken in
+    record { recorded = has_recorded state start (record c.loop.recorder { answers = c.take.new.self }) refl waits c.in-End.ensures.takes.end }

@@ -33,7 +33,7 @@ turn_to_end-requires g c =
     let outs = c.args.records.items in
     let clients = c.in_ok-resolver.clients.items in
     let tasks = c.in_ok-tasks.tasks.items in
-    let same : length readers ≡ length clients = omega (arith, c.in_ok-resolver.ensures.proxies, c.len-count.ensures) in
+    let same : length readers ≡ length clients = omega (arith, c.in_ok-resolver.ensures.opens.proxies, c.len-count.ensures) in
     let as_many : length outs ≡ length clients = omega (arith, same, c.requires.as_many) in
     record {
       numbered = subst AreNumbered (sym (ap outlets_of c.deref_mut.ensures.value ∙ c.in_ok-proxies.ensures.outlets))
@@ -53,7 +53,7 @@ join_all-streamed-requires-clause-room g c =
     let tasks = c.in_ok-tasks.tasks.items in
     let started = c.in_ok-proxies.proxies.items in
     let ended = c.turn_to_end.new.proxies in
-    let same : length readers ≡ length clients = omega (arith, c.in_ok-resolver.ensures.proxies, c.len-count.ensures) in
+    let same : length readers ≡ length clients = omega (arith, c.in_ok-resolver.ensures.opens.proxies, c.len-count.ensures) in
     let as_many : length outs ≡ length clients = omega (arith, same, c.requires.as_many) in
     let given = c.in_ok-tasks.ensures.given in
     let turned = c.turn_to_end.ensures.threads ∙ ap (map threads_of) c.deref_mut.ensures.value in
@@ -71,7 +71,7 @@ join_all-streamed-requires-clause-ends g c =
     let tasks = c.in_ok-tasks.tasks.items in
     let started = c.in_ok-proxies.proxies.items in
     let ended = c.turn_to_end.new.proxies in
-    let same : length readers ≡ length clients = omega (arith, c.in_ok-resolver.ensures.proxies, c.len-count.ensures) in
+    let same : length readers ≡ length clients = omega (arith, c.in_ok-resolver.ensures.opens.proxies, c.len-count.ensures) in
     let as_many : length outs ≡ length clients = omega (arith, same, c.requires.as_many) in
     let given = c.in_ok-tasks.ensures.given in
     let turned = c.turn_to_end.ensures.threads ∙ ap (map threads_of) c.deref_mut.ensures.value in
@@ -105,7 +105,7 @@ join_all-streamed-requires-clause-passed g c =
     let tasks = c.in_ok-tasks.tasks.items in
     let started = c.in_ok-proxies.proxies.items in
     let ended = c.turn_to_end.new.proxies in
-    let same : length readers ≡ length clients = omega (arith, c.in_ok-resolver.ensures.proxies, c.len-count.ensures) in
+    let same : length readers ≡ length clients = omega (arith, c.in_ok-resolver.ensures.opens.proxies, c.len-count.ensures) in
     let as_many : length outs ≡ length clients = omega (arith, same, c.requires.as_many) in
     let given = c.in_ok-tasks.ensures.given in
     let turned = c.turn_to_end.ensures.threads ∙ ap (map threads_of) c.deref_mut.ensures.value in
@@ -122,7 +122,7 @@ settle-account-requires g c =
     let tasks = c.in_ok-tasks.tasks.items in
     let started = c.in_ok-proxies.proxies.items in
     let ended = c.turn_to_end.new.proxies in
-    let same : length readers ≡ length clients = omega (arith, c.in_ok-resolver.ensures.proxies, c.len-count.ensures) in
+    let same : length readers ≡ length clients = omega (arith, c.in_ok-resolver.ensures.opens.proxies, c.len-count.ensures) in
     let as_many : length outs ≡ length clients = omega (arith, same, c.requires.as_many) in
     let given = c.in_ok-tasks.ensures.given in
     let turned = c.turn_to_end.ensures.threads ∙ ap (map threads_of) c.deref_mut.ensures.value in
@@ -151,7 +151,7 @@ settle-account-requires g c =
     let lanes = c.turn_to_end.new.resolver.lanes in
     record {
       clients = subst (λ (clients : List Client). AreClients lanes clients) (sym (c.as_mut_slice.ensures.value ∙ joined.2.clients))
-          (clients_continue c.in_ok-resolver.resolver.lanes lanes clients (map client_of joined.0) c.in_ok-resolver.ensures.clients
+          (clients_continue c.in_ok-resolver.resolver.lanes lanes clients (map client_of joined.0) c.in_ok-resolver.ensures.opens.same
           c.turn_to_end.ensures.lanes
           (clients_joined c.args.options.reports readers outs clients tasks same as_many given style has_failed before after ended fresh threads goes passed g.S.Source.remaining records joined.0 worked));
     }
@@ -164,7 +164,7 @@ returns g c =
     let tasks = c.in_ok-tasks.tasks.items in
     let started = c.in_ok-proxies.proxies.items in
     let ended = c.turn_to_end.new.proxies in
-    let same : length readers ≡ length clients = omega (arith, c.in_ok-resolver.ensures.proxies, c.len-count.ensures) in
+    let same : length readers ≡ length clients = omega (arith, c.in_ok-resolver.ensures.opens.proxies, c.len-count.ensures) in
     let as_many : length outs ≡ length clients = omega (arith, same, c.requires.as_many) in
     let given = c.in_ok-tasks.ensures.given in
     let turned = c.turn_to_end.ensures.threads ∙ ap (map threads_of) c.deref_mut.ensures.value in
@@ -193,11 +193,11 @@ returns g c =
     let resolver = c.turn_to_end.new.resolver in
     let account = c.settle-account.result in
     let reported = c.turn_to_end.ensures.accounted
-    (accounted_new c.in_ok-resolver.resolver c.in_ok-resolver.ensures.stands c.in_ok-resolver.ensures.no_stop) in
+    (accounted_new c.in_ok-resolver.resolver c.in_ok-resolver.ensures.opens.stands c.in_ok-resolver.ensures.opens.no_stop) in
     let kept : to_z w64 (of_z w64 c.args.options.window) ≡ c.args.options.window =
     first_of (search rules, grind (arith, ints, to_z-of_z)) in
-    let window_is = c.turn_to_end.ensures.continues.window ∙ c.in_ok-resolver.ensures.window ∙ kept in
-    let limit_is = c.turn_to_end.ensures.continues.limit ∙ c.in_ok-resolver.ensures.limit in
+    let window_is = c.turn_to_end.ensures.continues.window ∙ c.in_ok-resolver.ensures.opens.window ∙ kept in
+    let limit_is = c.turn_to_end.ensures.continues.limit ∙ c.in_ok-resolver.ensures.opens.limit in
     let returned = c.as_mut_slice.ensures.value ∙ joined.2.clients in
     let windowed = subst (λ (window : ℤ). Settled window reported.log resolver.lanes c.as_mut_slice.result.now account) window_is
     (c.settle-account.ensures.settled (negsuc 0) reported.log reported.stands) in
@@ -224,7 +224,7 @@ returns g c =
           (sym c.join_all-streamed.ensures.failed)
           (is_streamed c.args.options.reports readers outs clients tasks same as_many given style has_failed before after ended fresh threads goes passed
           g.S.Source.remaining records joined.0 worked c.args.options c.new-printer.ensures.style refl reported.log resolver.lanes account streamed
-          c.in_ok-resolver.ensures.new_clients settled entire joined.2 met);
+          c.in_ok-resolver.ensures.opens.new_clients settled entire joined.2 met);
       unwritten =
           joined.2.unwritten ∙ sym (map-map cause (λ (j : Joined g.row.W.Denot). j.recorder) joined.0)
           ∙ ap (map cause) (sym joined.2.recorders);

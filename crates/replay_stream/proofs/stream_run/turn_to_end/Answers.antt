@@ -12,13 +12,11 @@ loop-preserved-in-Ok-Took g c =
     let round = c.pass_each-ended.ensures in
     let state = state_by g.O.Sink.given g.O.Sink.failures in
     record {
-      resolving = λ first. c.turn.ensures.resolving (negsuc 0) (c.loop.invariant.resolving first);
+      resolving = λ first. c.turn.ensures.turns.resolving (negsuc 0) (c.loop.invariant.resolving first);
       accounted = λ first.
-          accounted_turn c.loop.resolver c.turn.new.self c.turn.ensures.continues c.turn.result c.turn.ensures.step
-          c.turn.ensures.stop_met c.turn.ensures.stopped c.turn.ensures.stop c.turn.ensures.stop_stays c.turn.ensures.no_stop
-          c.turn.ensures.gate_full c.turn.ensures.arena_full (c.loop.invariant.accounted first);
-      continues = core_continues _ c.loop.resolver.core _ c.loop.invariant.continues c.turn.ensures.continues;
-      lanes = lanes_continue _ c.loop.resolver.lanes _ c.loop.invariant.lanes c.turn.ensures.lanes;
+          accounted_turn c.loop.resolver c.turn.new.self c.turn.result c.turn.ensures.turns (c.loop.invariant.accounted first);
+      continues = core_continues _ c.loop.resolver.core _ c.loop.invariant.continues c.turn.ensures.turns.steps.continues;
+      lanes = lanes_continue _ c.loop.resolver.lanes _ c.loop.invariant.lanes c.turn.ensures.turns.steps.lanes;
       style = round.style ∙ c.loop.invariant.style;
       numbered = round.numbered;
       threads = round.threads ∙ c.loop.invariant.threads;
@@ -33,13 +31,11 @@ loop-preserved-in-Ok-Idle g c =
     let round = c.pass_each-ended.ensures in
     let state = state_by g.O.Sink.given g.O.Sink.failures in
     record {
-      resolving = λ first. c.turn.ensures.resolving (negsuc 0) (c.loop.invariant.resolving first);
+      resolving = λ first. c.turn.ensures.turns.resolving (negsuc 0) (c.loop.invariant.resolving first);
       accounted = λ first.
-          accounted_turn c.loop.resolver c.turn.new.self c.turn.ensures.continues c.turn.result c.turn.ensures.step
-          c.turn.ensures.stop_met c.turn.ensures.stopped c.turn.ensures.stop c.turn.ensures.stop_stays c.turn.ensures.no_stop
-          c.turn.ensures.gate_full c.turn.ensures.arena_full (c.loop.invariant.accounted first);
-      continues = core_continues _ c.loop.resolver.core _ c.loop.invariant.continues c.turn.ensures.continues;
-      lanes = lanes_continue _ c.loop.resolver.lanes _ c.loop.invariant.lanes c.turn.ensures.lanes;
+          accounted_turn c.loop.resolver c.turn.new.self c.turn.result c.turn.ensures.turns (c.loop.invariant.accounted first);
+      continues = core_continues _ c.loop.resolver.core _ c.loop.invariant.continues c.turn.ensures.turns.steps.continues;
+      lanes = lanes_continue _ c.loop.resolver.lanes _ c.loop.invariant.lanes c.turn.ensures.turns.steps.lanes;
       style = round.style ∙ c.loop.invariant.style;
       numbered = round.numbered;
       threads = round.threads ∙ c.loop.invariant.threads;
@@ -54,13 +50,11 @@ loop-preserved-in-Ok-Done g c =
     let round = c.pass_each-ended.ensures in
     let state = state_by g.O.Sink.given g.O.Sink.failures in
     record {
-      resolving = λ first. c.turn.ensures.resolving (negsuc 0) (c.loop.invariant.resolving first);
+      resolving = λ first. c.turn.ensures.turns.resolving (negsuc 0) (c.loop.invariant.resolving first);
       accounted = λ first.
-          accounted_turn c.loop.resolver c.turn.new.self c.turn.ensures.continues c.turn.result c.turn.ensures.step
-          c.turn.ensures.stop_met c.turn.ensures.stopped c.turn.ensures.stop c.turn.ensures.stop_stays c.turn.ensures.no_stop
-          c.turn.ensures.gate_full c.turn.ensures.arena_full (c.loop.invariant.accounted first);
-      continues = core_continues _ c.loop.resolver.core _ c.loop.invariant.continues c.turn.ensures.continues;
-      lanes = lanes_continue _ c.loop.resolver.lanes _ c.loop.invariant.lanes c.turn.ensures.lanes;
+          accounted_turn c.loop.resolver c.turn.new.self c.turn.result c.turn.ensures.turns (c.loop.invariant.accounted first);
+      continues = core_continues _ c.loop.resolver.core _ c.loop.invariant.continues c.turn.ensures.turns.steps.continues;
+      lanes = lanes_continue _ c.loop.resolver.lanes _ c.loop.invariant.lanes c.turn.ensures.turns.steps.lanes;
       style = round.style ∙ c.loop.invariant.style;
       numbered = round.numbered;
       threads = round.threads ∙ c.loop.invariant.threads;
@@ -75,13 +69,11 @@ loop-preserved g c =
     let round = c.pass_each-ended.ensures in
     let state = state_by g.O.Sink.given g.O.Sink.failures in
     record {
-      resolving = λ first. c.turn.ensures.resolving (negsuc 0) (c.loop.invariant.resolving first);
+      resolving = λ first. c.turn.ensures.turns.resolving (negsuc 0) (c.loop.invariant.resolving first);
       accounted = λ first.
-          accounted_turn c.loop.resolver c.turn.new.self c.turn.ensures.continues c.turn.result c.turn.ensures.step
-          c.turn.ensures.stop_met c.turn.ensures.stopped c.turn.ensures.stop c.turn.ensures.stop_stays c.turn.ensures.no_stop
-          c.turn.ensures.gate_full c.turn.ensures.arena_full (c.loop.invariant.accounted first);
-      continues = core_continues _ c.loop.resolver.core _ c.loop.invariant.continues c.turn.ensures.continues;
-      lanes = lanes_continue _ c.loop.resolver.lanes _ c.loop.invariant.lanes c.turn.ensures.lanes;
+          accounted_turn c.loop.resolver c.turn.new.self c.turn.result c.turn.ensures.turns (c.loop.invariant.accounted first);
+      continues = core_continues _ c.loop.resolver.core _ c.loop.invariant.continues c.turn.ensures.turns.steps.continues;
+      lanes = lanes_continue _ c.loop.resolver.lanes _ c.loop.invariant.lanes c.turn.ensures.turns.steps.lanes;
       style = round.style ∙ c.loop.invariant.style;
       numbered = round.numbered;
       threads = round.threads ∙ c.loop.invariant.threads;
@@ -93,20 +85,18 @@ loop-preserved g c =
 
 pub returns-then-ended-clause-lanes : goal.returns-then-ended-clause-lanes
 returns-then-ended-clause-lanes g c =
-    lanes_continue _ c.loop.resolver.lanes _ c.loop.invariant.lanes c.turn.ensures.lanes
+    lanes_continue _ c.loop.resolver.lanes _ c.loop.invariant.lanes c.turn.ensures.turns.steps.lanes
 
 pub returns-then-ended-clause-passed : goal.returns-then-ended-clause-passed
 returns-then-ended-clause-passed g c = c.pass_each-ended.ensures.passed (search rules)
 
 pub returns-then-owed-eq0-clause-accounted : goal.returns-then-owed-eq0-clause-accounted
 returns-then-owed-eq0-clause-accounted g c = λ first.
-    accounted_turn c.loop.resolver c.turn.new.self c.turn.ensures.continues c.turn.result c.turn.ensures.step
-    c.turn.ensures.stop_met c.turn.ensures.stopped c.turn.ensures.stop c.turn.ensures.stop_stays c.turn.ensures.no_stop
-    c.turn.ensures.gate_full c.turn.ensures.arena_full (c.loop.invariant.accounted first)
+    accounted_turn c.loop.resolver c.turn.new.self c.turn.result c.turn.ensures.turns (c.loop.invariant.accounted first)
 
 pub returns-then-owed-eq0-clause-lanes : goal.returns-then-owed-eq0-clause-lanes
 returns-then-owed-eq0-clause-lanes g c =
-    lanes_continue _ c.loop.resolver.lanes _ c.loop.invariant.lanes c.turn.ensures.lanes
+    lanes_continue _ c.loop.resolver.lanes _ c.loop.invariant.lanes c.turn.ensures.turns.steps.lanes
 
 pub returns-then-owed-eq0-clause-passed : goal.returns-then-owed-eq0-clause-passed
 returns-then-owed-eq0-clause-passed g c = c.pass_each-ended.ensures.passed (search rules)

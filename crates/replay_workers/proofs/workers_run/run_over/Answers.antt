@@ -48,7 +48,7 @@ join_all-outcome-requires-clause-room g c =
     let share = share_of (vec_len c.args.streams) in
     let clients = c.in_ok-resolver.clients.items in
     let workers = c.in_ok-workers.workers.items in
-    let same : length streams ≡ length clients = omega (arith, c.in_ok-resolver.ensures.proxies, c.len-proxies.ensures) in
+    let same : length streams ≡ length clients = omega (arith, c.in_ok-resolver.ensures.opens.proxies, c.len-proxies.ensures) in
     let count = started_count c.args.options.style share clients streams workers same c.in_ok-workers.ensures.given in
     omega (arith, count, c.in_ok-outcome.ensures.room, c.len-proxies.ensures)
 
@@ -58,7 +58,7 @@ join_all-outcome-requires-clause-streams_room g c =
     let share = share_of (vec_len c.args.streams) in
     let clients = c.in_ok-resolver.clients.items in
     let workers = c.in_ok-workers.workers.items in
-    let same : length streams ≡ length clients = omega (arith, c.in_ok-resolver.ensures.proxies, c.len-proxies.ensures) in
+    let same : length streams ≡ length clients = omega (arith, c.in_ok-resolver.ensures.opens.proxies, c.len-proxies.ensures) in
     let count = started_count c.args.options.style share clients streams workers same c.in_ok-workers.ensures.given in
     omega (arith, count, c.in_ok-ended.ensures.capacity, c.len-proxies.ensures)
 
@@ -70,12 +70,12 @@ settle-account-requires g c =
     let lanes = c.turn_to_end-occupancy.new.resolver.lanes in
     let worked = c.join_all-outcome.ensures.worked in
     let back = map (λ (f : Finished). f.client) (finished_of worked.0) in
-    let same : length streams ≡ length clients = omega (arith, c.in_ok-resolver.ensures.proxies, c.len-proxies.ensures) in
+    let same : length streams ≡ length clients = omega (arith, c.in_ok-resolver.ensures.opens.proxies, c.len-proxies.ensures) in
     let all_returned = subst (λ given. AllZip (HasWorkedOn g.B.Batches.gives g.B.Batches.is_at_end g.B.Batches.is_at_fault g.B.Batches.stays) given worked.0) c.in_ok-workers.ensures.given worked.1 in
     record {
       clients = subst (λ (clients : List Client). AreClients lanes clients)
           (sym (c.as_mut_slice.ensures.value ∙ worked.2.clients))
-          (clients_continue c.in_ok-resolver.resolver.lanes lanes clients back c.in_ok-resolver.ensures.clients
+          (clients_continue c.in_ok-resolver.resolver.lanes lanes clients back c.in_ok-resolver.ensures.opens.same
           c.turn_to_end-occupancy.ensures.lanes (clients_back g.B.Batches.gives g.B.Batches.is_at_end g.B.Batches.is_at_fault g.B.Batches.stays c.args.options.style share 0 clients streams worked.0 same all_returned));
     }
 
@@ -85,15 +85,15 @@ returns g c =
     let share = share_of (vec_len c.args.streams) in
     let clients = c.in_ok-resolver.clients.items in
     let worked = c.join_all-outcome.ensures.worked in
-    let same : length streams ≡ length clients = omega (arith, c.in_ok-resolver.ensures.proxies, c.len-proxies.ensures) in
+    let same : length streams ≡ length clients = omega (arith, c.in_ok-resolver.ensures.opens.proxies, c.len-proxies.ensures) in
     let all_returned = subst (λ given. AllZip (HasWorkedOn g.B.Batches.gives g.B.Batches.is_at_end g.B.Batches.is_at_fault g.B.Batches.stays) given worked.0) c.in_ok-workers.ensures.given worked.1 in
     let resolver = c.turn_to_end-occupancy.new.resolver in
     let account = c.settle-account.result in
     let back = map (λ (f : Finished). f.client) (finished_of worked.0) in
     let kept : to_z w64 (of_z w64 c.args.options.window) ≡ c.args.options.window =
     first_of (search rules, grind (arith, ints, to_z-of_z)) in
-    let window_is = c.turn_to_end-occupancy.ensures.continues.window ∙ c.in_ok-resolver.ensures.window ∙ kept in
-    let limit_is = c.turn_to_end-occupancy.ensures.continues.limit ∙ c.in_ok-resolver.ensures.limit in
+    let window_is = c.turn_to_end-occupancy.ensures.continues.window ∙ c.in_ok-resolver.ensures.opens.window ∙ kept in
+    let limit_is = c.turn_to_end-occupancy.ensures.continues.limit ∙ c.in_ok-resolver.ensures.opens.limit in
     let returned = c.as_mut_slice.ensures.value ∙ worked.2.clients in
     let settled : (log : List Step) → StandsOver resolver log → Settled c.args.options.window log resolver.lanes back account =
     λ log stands. subst (λ (back : List Client). Settled c.args.options.window log resolver.lanes back account) returned
@@ -120,9 +120,9 @@ returns g c =
     (subst (λ (stop : Option Stop). IfSome stop (IsStopOf resolver.core.set.map.limit resolver.core.set.window log))
     (sym c.settle-account.ensures.stop) is)) in
     let reported = c.turn_to_end-occupancy.ensures.accounted
-    (accounted_new c.in_ok-resolver.resolver c.in_ok-resolver.ensures.stands c.in_ok-resolver.ensures.no_stop) in
+    (accounted_new c.in_ok-resolver.resolver c.in_ok-resolver.ensures.opens.stands c.in_ok-resolver.ensures.opens.no_stop) in
     let ran = is_run g.B.Batches.gives g.B.Batches.is_at_end g.B.Batches.is_at_fault g.B.Batches.stays c.args.options share streams clients worked.0 outcome c.join_all-outcome.result.1.items reported.log resolver.lanes
-    account same c.in_ok-resolver.ensures.new_clients all_returned worked.2 worked.3 (settled reported.log reported.stands) entire (met reported.log reported.met) in
+    account same c.in_ok-resolver.ensures.opens.new_clients all_returned worked.2 worked.3 (settled reported.log reported.stands) entire (met reported.log reported.met) in
     let occupancy = c.turn_to_end-occupancy.result in
     let Seen = g.O.Observer.has_seen c.turn_to_end-occupancy.new.observer in
     let measured : g.O.Observer.has_seen c.args.observer.now []
@@ -130,13 +130,13 @@ returns g c =
     (EndsAt g.B.Batches.stays c.join_all-outcome.result.1.items) Seen occupancy c.args.options streams
     (map (vec_items {X = Line} {Z = Global}) outcome.lines.items) outcome.failures.items (is_complete outcome account) account.stop =
     λ first.
-    let saw = c.turn_to_end-occupancy.ensures.measured c.in_ok-resolver.ensures.stands c.in_ok-resolver.ensures.no_stop first in
+    let saw = c.turn_to_end-occupancy.ensures.measured c.in_ok-resolver.ensures.opens.stands c.in_ok-resolver.ensures.opens.no_stop first in
     let log_is = is_run_log g.B.Batches.gives g.B.Batches.is_at_end g.B.Batches.is_at_fault g.B.Batches.stays c.args.options share streams clients worked.0 outcome c.join_all-outcome.result.1.items saw.log resolver.lanes
-    account same c.in_ok-resolver.ensures.new_clients all_returned worked.2 worked.3 (settled saw.log saw.stands) entire (met saw.log saw.met) in
+    account same c.in_ok-resolver.ensures.opens.new_clients all_returned worked.2 worked.3 (settled saw.log saw.stands) entire (met saw.log saw.met) in
     record {
       observed = record {
         run = is_run g.B.Batches.gives g.B.Batches.is_at_end g.B.Batches.is_at_fault g.B.Batches.stays c.args.options share streams clients worked.0 outcome c.join_all-outcome.result.1.items saw.log resolver.lanes
-            account same c.in_ok-resolver.ensures.new_clients all_returned worked.2 worked.3 (settled saw.log saw.stands) entire
+            account same c.in_ok-resolver.ensures.opens.new_clients all_returned worked.2 worked.3 (settled saw.log saw.stands) entire
             (met saw.log saw.met);
         seen = subst (λ (log : List Step). HasSeen Seen account.stop c.args.options.window log) (sym log_is)
             (subst (λ (window : ℤ). HasSeen Seen account.stop window saw.log) window_is
@@ -170,6 +170,6 @@ returns g c =
           (sym (written_back outcome.clients.len now outcome.clients.items same_clients.count outcome.clients.ok.0))
           (capacities_stay c.args.options.capacity outcome.clients.items now same_clients
           (subst (All (HasCapacity c.args.options.capacity)) (sym worked.2.clients)
-          (capacities c.args.options.capacity clients back c.in_ok-resolver.ensures.new_clients
+          (capacities c.args.options.capacity clients back c.in_ok-resolver.ensures.opens.new_clients
           (clients_back g.B.Batches.gives g.B.Batches.is_at_end g.B.Batches.is_at_fault g.B.Batches.stays c.args.options.style share 0 clients streams worked.0 same all_returned))));
     }

@@ -11,13 +11,13 @@ returns-then-is_err-clause-measured g c =
     measured_turn c.args.resolver.now now c.turn_observed-turn.result turned.turns (g.O.Observer.has_seen c.args.observer.now)
     (g.O.Observer.has_seen c.turn_observed-turn.new.observer) turned.sees_taken turned.sees_finish turned.sees_nothing
     c.args.occupancy.now c.args.occupancy.now
-    (λ none. stopped_if c.turn_observed-turn.result now.core.stop (sym c.is_err.ensures.value ∙ c.if-is_err.true) turned.turns.stop none)
+    (λ none. stopped_if c.turn_observed-turn.result now.core.stop (sym c.is_err.ensures.value ∙ c.if-is_err.true) turned.turns.steps.stop none)
     (λ stop is. refl)
 
 pub returns-then-is_err-clause-boundaries : goal.returns-then-is_err-clause-boundaries
 returns-then-is_err-clause-boundaries g c =
     stopped_if c.turn_observed-turn.result c.turn_observed-turn.new.self.core.stop (sym c.is_err.ensures.value ∙ c.if-is_err.true)
-    c.turn_observed-turn.ensures.turns.stop
+    c.turn_observed-turn.ensures.turns.steps.stop
 
 pub returns-clause-measured : goal.returns-clause-measured
 returns-clause-measured g c =
@@ -34,7 +34,7 @@ returns-clause-measured g c =
       c.boundaries.ensures.steps,
       c.boundaries.ensures.window,
     ))
-    (unstopped_if c.turn_observed-turn.result now.core.stop (sym c.is_err.ensures.value ∙ c.if-is_err.false) turned.turns.no_stop)
+    (unstopped_if c.turn_observed-turn.result now.core.stop (sym c.is_err.ensures.value ∙ c.if-is_err.false) turned.turns.steps.no_stop)
 
 pub returns-clause-boundaries : goal.returns-clause-boundaries
 returns-clause-boundaries g c = λ none. ap (λ (o : Occupancy). o.boundaries) c.note.ensures.noted ∙ c.boundaries.ensures.count

@@ -29,12 +29,11 @@ loop-preserved-in-Ok-Took g c =
     record {
       resolving = λ first. turns.resolving (negsuc 0) (c.loop.invariant.resolving first);
       accounted = λ first.
-          accounted_turn c.loop.resolver c.turn_and_note.new.resolver turns.continues c.turn_and_note.result turns.step turns.stop_met
-          turns.stopped turns.stop turns.stop_stays turns.no_stop turns.gate_full turns.arena_full (c.loop.invariant.accounted first);
+          accounted_turn c.loop.resolver c.turn_and_note.new.resolver c.turn_and_note.result turns (c.loop.invariant.accounted first);
       measured = λ stands none first. c.turn_and_note.ensures.measured (c.loop.invariant.measured stands none first);
       setting = c.turn_and_note.ensures.setting ∙ c.loop.invariant.setting;
-      continues = core_continues _ c.loop.resolver.core _ c.loop.invariant.continues turns.continues;
-      lanes = lanes_continue _ c.loop.resolver.lanes _ c.loop.invariant.lanes turns.lanes;
+      continues = core_continues _ c.loop.resolver.core _ c.loop.invariant.continues turns.steps.continues;
+      lanes = lanes_continue _ c.loop.resolver.lanes _ c.loop.invariant.lanes turns.steps.lanes;
     }
 
 pub loop-preserved-in-Ok-Idle : goal.loop-preserved-in-Ok-Idle
@@ -43,12 +42,11 @@ loop-preserved-in-Ok-Idle g c =
     record {
       resolving = λ first. turns.resolving (negsuc 0) (c.loop.invariant.resolving first);
       accounted = λ first.
-          accounted_turn c.loop.resolver c.turn_and_note.new.resolver turns.continues c.turn_and_note.result turns.step turns.stop_met
-          turns.stopped turns.stop turns.stop_stays turns.no_stop turns.gate_full turns.arena_full (c.loop.invariant.accounted first);
+          accounted_turn c.loop.resolver c.turn_and_note.new.resolver c.turn_and_note.result turns (c.loop.invariant.accounted first);
       measured = λ stands none first. c.turn_and_note.ensures.measured (c.loop.invariant.measured stands none first);
       setting = c.turn_and_note.ensures.setting ∙ c.loop.invariant.setting;
-      continues = core_continues _ c.loop.resolver.core _ c.loop.invariant.continues turns.continues;
-      lanes = lanes_continue _ c.loop.resolver.lanes _ c.loop.invariant.lanes turns.lanes;
+      continues = core_continues _ c.loop.resolver.core _ c.loop.invariant.continues turns.steps.continues;
+      lanes = lanes_continue _ c.loop.resolver.lanes _ c.loop.invariant.lanes turns.steps.lanes;
     }
 
 pub loop-preserved : goal.loop-preserved
@@ -57,19 +55,17 @@ loop-preserved g c =
     record {
       resolving = λ first. turns.resolving (negsuc 0) (c.loop.invariant.resolving first);
       accounted = λ first.
-          accounted_turn c.loop.resolver c.turn_and_note.new.resolver turns.continues c.turn_and_note.result turns.step turns.stop_met
-          turns.stopped turns.stop turns.stop_stays turns.no_stop turns.gate_full turns.arena_full (c.loop.invariant.accounted first);
+          accounted_turn c.loop.resolver c.turn_and_note.new.resolver c.turn_and_note.result turns (c.loop.invariant.accounted first);
       measured = λ stands none first. c.turn_and_note.ensures.measured (c.loop.invariant.measured stands none first);
       setting = c.turn_and_note.ensures.setting ∙ c.loop.invariant.setting;
-      continues = core_continues _ c.loop.resolver.core _ c.loop.invariant.continues turns.continues;
-      lanes = lanes_continue _ c.loop.resolver.lanes _ c.loop.invariant.lanes turns.lanes;
+      continues = core_continues _ c.loop.resolver.core _ c.loop.invariant.continues turns.steps.continues;
+      lanes = lanes_continue _ c.loop.resolver.lanes _ c.loop.invariant.lanes turns.steps.lanes;
     }
 
 pub returns-in-Ok-Done-clause-accounted : goal.returns-in-Ok-Done-clause-accounted
 returns-in-Ok-Done-clause-accounted g c = λ first.
     let turns = c.turn_and_note.ensures.turns in
-    accounted_turn c.loop.resolver c.turn_and_note.new.resolver turns.continues c.turn_and_note.result turns.step turns.stop_met
-    turns.stopped turns.stop turns.stop_stays turns.no_stop turns.gate_full turns.arena_full (c.loop.invariant.accounted first)
+    accounted_turn c.loop.resolver c.turn_and_note.new.resolver c.turn_and_note.result turns (c.loop.invariant.accounted first)
 
 pub returns-in-Ok-Done-clause-measured : goal.returns-in-Ok-Done-clause-measured
 returns-in-Ok-Done-clause-measured g c = λ stands none first. c.turn_and_note.ensures.measured (c.loop.invariant.measured stands none first)
@@ -79,13 +75,12 @@ returns-in-Ok-Done-clause-resolving g c = λ first. c.turn_and_note.ensures.turn
 
 pub returns-in-Ok-Done-clause-lanes : goal.returns-in-Ok-Done-clause-lanes
 returns-in-Ok-Done-clause-lanes g c =
-    lanes_continue _ c.loop.resolver.lanes _ c.loop.invariant.lanes c.turn_and_note.ensures.turns.lanes
+    lanes_continue _ c.loop.resolver.lanes _ c.loop.invariant.lanes c.turn_and_note.ensures.turns.steps.lanes
 
 pub returns-in-Err-clause-accounted : goal.returns-in-Err-clause-accounted
 returns-in-Err-clause-accounted g c = λ first.
     let turns = c.turn_and_note.ensures.turns in
-    accounted_turn c.loop.resolver c.turn_and_note.new.resolver turns.continues c.turn_and_note.result turns.step turns.stop_met
-    turns.stopped turns.stop turns.stop_stays turns.no_stop turns.gate_full turns.arena_full (c.loop.invariant.accounted first)
+    accounted_turn c.loop.resolver c.turn_and_note.new.resolver c.turn_and_note.result turns (c.loop.invariant.accounted first)
 
 pub returns-in-Err-clause-measured : goal.returns-in-Err-clause-measured
 returns-in-Err-clause-measured g c = λ stands none first. c.turn_and_note.ensures.measured (c.loop.invariant.measured stands none first)
@@ -95,7 +90,7 @@ returns-in-Err-clause-resolving g c = λ first. c.turn_and_note.ensures.turns.re
 
 pub returns-in-Err-clause-lanes : goal.returns-in-Err-clause-lanes
 returns-in-Err-clause-lanes g c =
-    lanes_continue _ c.loop.resolver.lanes _ c.loop.invariant.lanes c.turn_and_note.ensures.turns.lanes
+    lanes_continue _ c.loop.resolver.lanes _ c.loop.invariant.lanes c.turn_and_note.ensures.turns.steps.lanes
 
 pub returns-in-Ok-Done-clause-boundaries : goal.returns-in-Ok-Done-clause-boundaries
 returns-in-Ok-Done-clause-boundaries g c = c.turn_and_note.ensures.boundaries

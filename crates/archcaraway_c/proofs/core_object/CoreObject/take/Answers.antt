@@ -16,7 +16,7 @@ returns-clause-room c =
     let continues = ap (λ (parts : CoreParts). parts.core.stop) c.self.view_is ∙ c.requires.continues in
     subst (λ (parts : CoreParts). OnOk c.admit.result (¬ IsGateFull parts.core c.args.batch)) c.self.view_is
     (on_ok _ c.admit.result (λ x is full.
-    let both = sym is ∙ (c.admit.ensures.gate_full continues).1 full in
+    let both = sym is ∙ (c.admit.ensures.admits.gate_full continues).1 full in
     absurd cc))
 
 pub returns-clause-stops : goal.returns-clause-stops
@@ -26,12 +26,12 @@ returns-clause-stops c =
     StopsAt parts.core c.admit.new.self c.args.proxy c.args.batch stop)) c.self.view_is
     (on_err _ _ c.admit.result (λ stop is met. record {
       met = met;
-      taken = λ log given stands. c.admit.ensures.stands continues log given stands;
+      taken = λ log given stands. c.admit.ensures.admits.adds.stands continues log given stands;
       gate_full = (
-        λ full. (c.admit.ensures.gate_full continues).0 (is ∙ ap Err full),
+        λ full. (c.admit.ensures.admits.gate_full continues).0 (is ∙ ap Err full),
         λ full.
-            let both = sym is ∙ (c.admit.ensures.gate_full continues).1 full in
+            let both = sym is ∙ (c.admit.ensures.admits.gate_full continues).1 full in
             cc,
       );
-      arena_full = λ full. c.admit.ensures.arena_full continues (is ∙ ap Err full);
-    }) c.admit.ensures.stops)
+      arena_full = λ full. c.admit.ensures.admits.arena_full continues (is ∙ ap Err full);
+    }) c.admit.ensures.admits.adds.stops)

@@ -1,4 +1,4 @@
-use Rattle.std.proofs.Common.{length, drop, ap, sym, subst, ◌∙◌}
+use Rattle.std.proofs.Common.{rules, length, drop, ap, sym, subst, ◌∙◌}
 use Rattle.lane.specs.Lane.{PortView, IntakeView}
 use Rattle.lane.specs.Ring.{Agree}
 use Rattle.lane.specs.Ends.{port_of}
@@ -7,8 +7,8 @@ use Rattle.lane.specs.declared.ring.Known.{Known}
 use Rattle.lane.proofs.Beside.{as_lane, beside}
 use Rattle.lane.proofs.intake.Intake.take_beside.Goals as goal
 
-pub returns-clause-lane : goal.returns-clause-lane
-returns-clause-lane g c =
+pub returns-clause-meets : goal.returns-clause-meets
+returns-clause-meets g c =
     let T = g.row.T.Denot in
     let sends = ap (λ (v : Known T). v.sends) c.join.ensures.both in
     let same = (λ i. (c.deref-3.ensures i).shared.table_id.slots) ∙ sym (λ i. (c.deref-2.ensures i).shared.table_id.slots) in
@@ -16,10 +16,17 @@ returns-clause-lane g c =
     let port = ap (λ (v : Known T). v.port) c.part.ensures.port ∙ now.1 in
     let intake = ap (λ (v : Known T). v.intake) c.part.ensures.intake in
     let slots = c.deref-2.result.now.shared.table_id.slots in
-    as_lane _ _ _ _ slots _ _ (subst (λ p. Agree p c.part.new.intake.me.0.intake slots) (sym port)
-    (subst (λ t. Agree c.join.new.intake.me.0.port t slots) (sym intake) now.0))
-    ((λ i. (c.deref-2.ensures i).shared.table_id.slots) ∙ ap (λ (v : IntakeView T). v.capacity) c.self.view_is ∙ sym c.requires.same_lane.capacity
-    ∙ sym (ap (λ (v : PortView T). v.capacity) c.port.view_is))
+    record {
+      before = search rules;
+      after = as_lane _ _ _ _ slots _ _ (subst (λ p. Agree p c.part.new.intake.me.0.intake slots) (sym port)
+          (subst (λ t. Agree c.join.new.intake.me.0.port t slots) (sym intake) now.0))
+          ((λ i. (c.deref-2.ensures i).shared.table_id.slots) ∙ ap (λ (v : IntakeView T). v.capacity) c.self.view_is
+          ∙ sym c.requires.same_lane.capacity ∙ sym (ap (λ (v : PortView T). v.capacity) c.port.view_is));
+      port = search rules;
+      sent = search rules;
+      closed = search rules;
+      looked = search rules;
+    }
 
 pub returns-clause-next : goal.returns-clause-next
 returns-clause-next g c =

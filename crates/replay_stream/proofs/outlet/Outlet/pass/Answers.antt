@@ -22,6 +22,6 @@ returns-in-Item-clause-passes g c =
     let state = state_by g.O.Sink.given g.O.Sink.failures in
     passes_after c.args.printer.now.style c.args.printer.now.failed c.print.new.printer.failed (state c.args.out.now)
     (state c.print.new.out) c.args.self.now c.is_lagging.new.self c.print.new.self c.pass_on.new.self c.take.new.self
-    c.in-Item.answer c.is_lagging.ensures.others (c.is_lagging.ensures.none c.if-is_lagging.false) c.take.ensures.intake
-    c.in-Item.ensures.taken c.print.ensures.others c.pass_on.ensures.others c.is_lagging.ensures.passed c.pass_on.ensures.passed
+    c.in-Item.answer c.is_lagging.ensures.others (c.is_lagging.ensures.none c.if-is_lagging.false) c.take.ensures.takes.intake
+    c.in-Item.ensures.takes.taken c.print.ensures.others c.pass_on.ensures.others c.is_lagging.ensures.passed c.pass_on.ensures.passed
     c.print.ensures.text c.print.ensures.stays c.print.ensures.lost c.print.ensures.nothing

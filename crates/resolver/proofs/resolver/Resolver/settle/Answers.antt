@@ -124,9 +124,3 @@ returns-clause-clients c =
 pub returns-clause-stands : goal.returns-clause-stands
 returns-clause-stands c =
     stands_settled c.args.self.now _ (returns-clause-core c) (returns-clause-lanes c)
-
-pub returns-clause-resolving : goal.returns-clause-resolving
-returns-clause-resolving c = λ version before. record {
-  log = before.log;
-  stands = returns-clause-stands c version before.log before.stands;
-}

@@ -1,4 +1,4 @@
-use Rattle.std.proofs.Common.{◌≡◌, ℕ, ◌+◌, ◌<◌, length, None, Err, sym, ap, subst, ◌∙◌, refl, inl, inr, true, false}
+use Rattle.std.proofs.Common.{rules, ◌≡◌, ℕ, ◌+◌, ◌<◌, length, None, Err, sym, ap, subst, ◌∙◌, refl, inl, inr, true, false}
 use Rattle.std.specs.Prelude.{◌<ℤ◌}
 use Rattle.chain.specs.declared.gate.TheConstants.{MAX_HELD}
 use Rattle.std.specs.Vec.{with_items}
@@ -13,7 +13,6 @@ use Rattle.resolver.specs.Parts.{Parts, resolver_of, lanes_of, AreParts, FindsOn
 use Rattle.resolver.proofs.Stops.{same_stop, IfErr-always}
 use Rattle.resolver.proofs.Stepping.{
   none_of,
-  ok_some,
   same_bools,
   other_than_false,
   newly_ended,
@@ -81,8 +80,8 @@ module _ (g : Over) (c : goal.After-from_residual g) where
   stopped_takes =
       subst (λ r. TakesFrom c.in-Some-take_from.proxy r (resolver_of stopped_new)) c.self.view_is
       (takes_from stopped_old stopped_new c.self.inside.next c.in-Some-take_from.proxy c.in-Some-take_from.batch
-      stopped_found c.self.invariant stopped_running c.admit_observed.ensures.admits.continues refl refl refl
-      (c.admit_observed.ensures.admits.stands stopped_running))
+      stopped_found c.self.invariant stopped_running c.admit_observed.ensures.admits.adds.continues refl refl refl
+      (c.admit_observed.ensures.admits.adds.stands stopped_running))
 
 -- a batch was found, and it was admitted
 module _ (g : Over) (c : goal.In_ok-admit_observed-in-Some-take_from g) where
@@ -118,110 +117,111 @@ module _ (g : Over) (c : goal.In_ok-admit_observed-in-Some-take_from g) where
   admitted_takes =
       subst (λ r. TakesFrom c.in-Some-take_from.proxy r (resolver_of admitted_new)) c.self.view_is
       (takes_from admitted_old admitted_new c.self.inside.next c.in-Some-take_from.proxy c.in-Some-take_from.batch
-      admitted_found c.self.invariant admitted_running c.admit_observed.ensures.admits.continues refl refl refl
-      (c.admit_observed.ensures.admits.stands admitted_running))
+      admitted_found c.self.invariant admitted_running c.admit_observed.ensures.admits.adds.continues refl refl refl
+      (c.admit_observed.ensures.admits.adds.stands admitted_running))
 
 pub invariant_of-self : goal.invariant_of-self
 invariant_of-self g c =
     parts_taken (stopped_old g c) (stopped_new g c) c.self.inside.next c.in-Some-take_from.proxy c.in-Some-take_from.batch
-    (stopped_found g c) c.self.invariant (stopped_running g c) c.admit_observed.ensures.admits.continues refl refl refl
+    (stopped_found g c) c.self.invariant (stopped_running g c) c.admit_observed.ensures.admits.adds.continues refl refl refl
 
 pub invariant_of-self-in-Some-take_from : goal.invariant_of-self-in-Some-take_from
 invariant_of-self-in-Some-take_from g c =
     parts_taken (admitted_old g c) (admitted_new g c) c.self.inside.next c.in-Some-take_from.proxy c.in-Some-take_from.batch
-    (admitted_found g c) c.self.invariant (admitted_running g c) c.admit_observed.ensures.admits.continues refl refl refl
+    (admitted_found g c) c.self.invariant (admitted_running g c) c.admit_observed.ensures.admits.adds.continues refl refl refl
 
-pub returns-in_err-admit_observed-in-Some-take_from-clause-stop_met : goal.returns-in_err-admit_observed-in-Some-take_from-clause-stop_met
-returns-in_err-admit_observed-in-Some-take_from-clause-stop_met g c =
-    IfErr-always c.from_residual.result (λ _. inl (c.in-Some-take_from.proxy, stopped_takes g c))
-
-pub returns-in_err-admit_observed-in-Some-take_from-clause-gate_full : goal.returns-in_err-admit_observed-in-Some-take_from-clause-gate_full
-returns-in_err-admit_observed-in-Some-take_from-clause-gate_full g c =
-    λ running is.
-    let stop = c.in_err-admit_observed-in-Some-take_from.field-0.0 in
-    let met = same_stop c.from_residual.result stop GateFull c.from_residual.ensures.1 is in
-    let full = (c.admit_observed.ensures.admits.gate_full (stopped_running g c)).0 (c.in_err-admit_observed-in-Some-take_from.was ∙ ap Err met) in
-    let took = takes_when (stopped_old g c) (stopped_new g c) c.self.inside.next c.in-Some-take_from.proxy c.in-Some-take_from.batch
-    (stopped_found g c) c.self.invariant (stopped_running g c) c.admit_observed.ensures.admits.continues refl refl refl (λ b. (c.self.inside.core.version <ℤ b.previous) × (length c.self.inside.core.held ≡ MAX_HELD)) full
-    (c.admit_observed.ensures.admits.stands (stopped_running g c)) in
-    subst (λ (r : ResolverState). (p : ℕ) × (t : TakesFrom p r (resolver_of (stopped_new g c)))
-    × (r.core.version <ℤ t.batch.previous) × (length r.core.held ≡ MAX_HELD)) c.self.view_is
-    (took.0, took.1, took.2.0, took.2.1)
-
-pub returns-in_err-admit_observed-in-Some-take_from-clause-arena_full : goal.returns-in_err-admit_observed-in-Some-take_from-clause-arena_full
-returns-in_err-admit_observed-in-Some-take_from-clause-arena_full g c =
-    λ running is version log s.
-    let stop = c.in_err-admit_observed-in-Some-take_from.field-0.0 in
-    let met = same_stop c.from_residual.result stop ArenaFull c.from_residual.ensures.1 is in
-    let limit = c.self.inside.core.set.map.limit in
-    let window = c.self.inside.core.set.window in
-    let given = sent_to (lanes_of (stopped_new g c).all_lanes) in
-    let core = (resolver_of (stopped_new g c)).core in
-    let entire = log_from version (length (lanes_of (stopped_old g c).all_lanes)) log in
-    subst (λ (r : ResolverState). (p : ℕ) × (t : TakesFrom p r (resolver_of (stopped_new g c)))
-    × StopsAtLimit r.core.set.map.limit r.core.set.window p t.batch
-    (run r.core.set.window (log_from version (length r.lanes) log)) given core)
-    c.self.view_is
-    (takes_over (stopped_old g c) (stopped_new g c) c.self.inside.next c.in-Some-take_from.proxy c.in-Some-take_from.batch
-    (stopped_found g c) c.self.invariant (stopped_running g c) c.admit_observed.ensures.admits.continues refl refl refl (λ p b. StopsAtLimit limit window p b (run window entire) given core)
-    (stops_at_limit (stopped_old g c) (stopped_new g c) c.self.inside.next c.in-Some-take_from.proxy c.in-Some-take_from.batch
-    (stopped_found g c) c.self.invariant (stopped_running g c) c.admit_observed.ensures.admits.continues refl refl refl version log
-    (subst (λ (r : ResolverState). StandsOverFrom version r log) (sym c.self.view_is) s)
-    (c.admit_observed.ensures.admits.arena_full (stopped_running g c) (c.in_err-admit_observed-in-Some-take_from.was ∙ ap Err met)))
-    (c.admit_observed.ensures.admits.stands (stopped_running g c)))
+pub returns-in_err-admit_observed-in-Some-take_from-clause-steps : goal.returns-in_err-admit_observed-in-Some-take_from-clause-steps
+returns-in_err-admit_observed-in-Some-take_from-clause-steps g c = record {
+  log = search rules;
+  stop_met =
+      IfErr-always c.from_residual.result (λ _. inl (c.in-Some-take_from.proxy, stopped_takes g c));
+  stop = search rules;
+  stop_stays = search rules;
+  no_stop = search rules;
+  looked_through = search rules;
+  passed = search rules;
+  next = search rules;
+  next_stays = search rules;
+  gate_full =
+      λ running is.
+      let stop = c.in_err-admit_observed-in-Some-take_from.field-0.0 in
+      let met = same_stop c.from_residual.result stop GateFull c.from_residual.ensures.1 is in
+      let full = (c.admit_observed.ensures.admits.gate_full (stopped_running g c)).0 (c.in_err-admit_observed-in-Some-take_from.was ∙ ap Err met) in
+      let took = takes_when (stopped_old g c) (stopped_new g c) c.self.inside.next c.in-Some-take_from.proxy c.in-Some-take_from.batch
+      (stopped_found g c) c.self.invariant (stopped_running g c) c.admit_observed.ensures.admits.adds.continues refl refl refl (λ b. (c.self.inside.core.version <ℤ b.previous) × (length c.self.inside.core.held ≡ MAX_HELD)) full
+      (c.admit_observed.ensures.admits.adds.stands (stopped_running g c)) in
+      subst (λ (r : ResolverState). (p : ℕ) × (t : TakesFrom p r (resolver_of (stopped_new g c)))
+      × (r.core.version <ℤ t.batch.previous) × (length r.core.held ≡ MAX_HELD)) c.self.view_is
+      (took.0, took.1, took.2.0, took.2.1);
+  arena_full =
+      λ running is version log s.
+      let stop = c.in_err-admit_observed-in-Some-take_from.field-0.0 in
+      let met = same_stop c.from_residual.result stop ArenaFull c.from_residual.ensures.1 is in
+      let limit = c.self.inside.core.set.map.limit in
+      let window = c.self.inside.core.set.window in
+      let given = sent_to (lanes_of (stopped_new g c).all_lanes) in
+      let core = (resolver_of (stopped_new g c)).core in
+      let entire = log_from version (length (lanes_of (stopped_old g c).all_lanes)) log in
+      subst (λ (r : ResolverState). (p : ℕ) × (t : TakesFrom p r (resolver_of (stopped_new g c)))
+      × StopsAtLimit r.core.set.map.limit r.core.set.window p t.batch
+      (run r.core.set.window (log_from version (length r.lanes) log)) given core)
+      c.self.view_is
+      (takes_over (stopped_old g c) (stopped_new g c) c.self.inside.next c.in-Some-take_from.proxy c.in-Some-take_from.batch
+      (stopped_found g c) c.self.invariant (stopped_running g c) c.admit_observed.ensures.admits.adds.continues refl refl refl (λ p b. StopsAtLimit limit window p b (run window entire) given core)
+      (stops_at_limit (stopped_old g c) (stopped_new g c) c.self.inside.next c.in-Some-take_from.proxy c.in-Some-take_from.batch
+      (stopped_found g c) c.self.invariant (stopped_running g c) c.admit_observed.ensures.admits.adds.continues refl refl refl version log
+      (subst (λ (r : ResolverState). StandsOverFrom version r log) (sym c.self.view_is) s)
+      (c.admit_observed.ensures.admits.arena_full (stopped_running g c) (c.in_err-admit_observed-in-Some-take_from.was ∙ ap Err met)))
+      (c.admit_observed.ensures.admits.adds.stands (stopped_running g c)));
+  lanes =
+      subst (λ (r : ResolverState). Each (λ p l m. LanesContinue l m) r.lanes (lanes_of (stopped_new g c).all_lanes)) c.self.view_is
+      (lanes_taken (stopped_old g c) (stopped_new g c) c.self.inside.next c.in-Some-take_from.proxy c.in-Some-take_from.batch
+      (stopped_found g c) c.self.invariant (stopped_running g c) c.admit_observed.ensures.admits.adds.continues refl refl refl);
+  continues =
+      subst (λ (r : ResolverState). Continues r.core (resolver_of (stopped_new g c)).core) c.self.view_is
+      (continues_taken (stopped_old g c) (stopped_new g c) c.self.inside.next c.in-Some-take_from.proxy c.in-Some-take_from.batch
+      (stopped_found g c) c.self.invariant (stopped_running g c) c.admit_observed.ensures.admits.adds.continues refl refl refl);
+}
 
 pub returns-in_err-admit_observed-in-Some-take_from-clause-replies : goal.returns-in_err-admit_observed-in-Some-take_from-clause-replies
 returns-in_err-admit_observed-in-Some-take_from-clause-replies g c =
     subst (λ (r : ResolverState). Each (λ p l m. m.replies ≡ l.replies) r.lanes (lanes_of (stopped_new g c).all_lanes)) c.self.view_is
     (replies_taken (stopped_old g c) (stopped_new g c) c.self.inside.next c.in-Some-take_from.proxy c.in-Some-take_from.batch
-    (stopped_found g c) c.self.invariant (stopped_running g c) c.admit_observed.ensures.admits.continues refl refl refl)
-
-pub returns-in_err-admit_observed-in-Some-take_from-clause-lanes : goal.returns-in_err-admit_observed-in-Some-take_from-clause-lanes
-returns-in_err-admit_observed-in-Some-take_from-clause-lanes g c =
-    subst (λ (r : ResolverState). Each (λ p l m. LanesContinue l m) r.lanes (lanes_of (stopped_new g c).all_lanes)) c.self.view_is
-    (lanes_taken (stopped_old g c) (stopped_new g c) c.self.inside.next c.in-Some-take_from.proxy c.in-Some-take_from.batch
-    (stopped_found g c) c.self.invariant (stopped_running g c) c.admit_observed.ensures.admits.continues refl refl refl)
-
-pub returns-in_err-admit_observed-in-Some-take_from-clause-continues : goal.returns-in_err-admit_observed-in-Some-take_from-clause-continues
-returns-in_err-admit_observed-in-Some-take_from-clause-continues g c =
-    subst (λ (r : ResolverState). Continues r.core (resolver_of (stopped_new g c)).core) c.self.view_is
-    (continues_taken (stopped_old g c) (stopped_new g c) c.self.inside.next c.in-Some-take_from.proxy c.in-Some-take_from.batch
-    (stopped_found g c) c.self.invariant (stopped_running g c) c.admit_observed.ensures.admits.continues refl refl refl)
+    (stopped_found g c) c.self.invariant (stopped_running g c) c.admit_observed.ensures.admits.adds.continues refl refl refl)
 
 pub returns-in_ok-admit_observed-in-Some-take_from-clause-replies : goal.returns-in_ok-admit_observed-in-Some-take_from-clause-replies
 returns-in_ok-admit_observed-in-Some-take_from-clause-replies g c =
     subst (λ (r : ResolverState). Each (λ p l m. m.replies ≡ l.replies) r.lanes (lanes_of (admitted_new g c).all_lanes)) c.self.view_is
     (replies_taken (admitted_old g c) (admitted_new g c) c.self.inside.next c.in-Some-take_from.proxy c.in-Some-take_from.batch
-    (admitted_found g c) c.self.invariant (admitted_running g c) c.admit_observed.ensures.admits.continues refl refl refl)
+    (admitted_found g c) c.self.invariant (admitted_running g c) c.admit_observed.ensures.admits.adds.continues refl refl refl)
 
-pub returns-in_ok-admit_observed-in-Some-take_from-clause-lanes : goal.returns-in_ok-admit_observed-in-Some-take_from-clause-lanes
-returns-in_ok-admit_observed-in-Some-take_from-clause-lanes g c =
-    subst (λ (r : ResolverState). Each (λ p l m. LanesContinue l m) r.lanes (lanes_of (admitted_new g c).all_lanes)) c.self.view_is
-    (lanes_taken (admitted_old g c) (admitted_new g c) c.self.inside.next c.in-Some-take_from.proxy c.in-Some-take_from.batch
-    (admitted_found g c) c.self.invariant (admitted_running g c) c.admit_observed.ensures.admits.continues refl refl refl)
-
-pub returns-in_ok-admit_observed-in-Some-take_from-clause-continues : goal.returns-in_ok-admit_observed-in-Some-take_from-clause-continues
-returns-in_ok-admit_observed-in-Some-take_from-clause-continues g c =
-    subst (λ (r : ResolverState). Continues r.core (resolver_of (admitted_new g c)).core) c.self.view_is
-    (continues_taken (admitted_old g c) (admitted_new g c) c.self.inside.next c.in-Some-take_from.proxy c.in-Some-take_from.batch
-    (admitted_found g c) c.self.invariant (admitted_running g c) c.admit_observed.ensures.admits.continues refl refl refl)
-
-pub returns-in_ok-admit_observed-in-Some-take_from-clause-took : goal.returns-in_ok-admit_observed-in-Some-take_from-clause-took
-returns-in_ok-admit_observed-in-Some-take_from-clause-took g c =
-    λ proxy is.
-    let same : c.in-Some-take_from.proxy ≡ proxy = ok_some c.in-Some-take_from.proxy proxy is in
-    subst (λ p. TakesFrom p c.args.self.now (resolver_of (admitted_new g c))) same (admitted_takes g c)
-
-pub returns-in_ok-admit_observed-in-Some-take_from-clause-passed : goal.returns-in_ok-admit_observed-in-Some-take_from-clause-passed
-returns-in_ok-admit_observed-in-Some-take_from-clause-passed g c =
-    λ proxy is.
-    let same : c.in-Some-take_from.proxy ≡ proxy = ok_some c.in-Some-take_from.proxy proxy is in
-    subst (λ p. Each (λ q l m. ComesBefore c.args.self.now.next q p → IsLookedThrough l m) c.args.self.now.lanes
-    (lanes_of (admitted_new g c).all_lanes)) same
-    (subst (λ (r : ResolverState). Each (λ q l m. ComesBefore r.next q c.in-Some-take_from.proxy → IsLookedThrough l m) r.lanes
-    (lanes_of (admitted_new g c).all_lanes)) c.self.view_is
-    (passed_taken (admitted_old g c) (admitted_new g c) c.self.inside.next c.in-Some-take_from.proxy c.in-Some-take_from.batch
-    (admitted_found g c) c.self.invariant (admitted_running g c) c.admit_observed.ensures.admits.continues refl refl refl))
+pub returns-in_ok-admit_observed-in-Some-take_from-clause-steps : goal.returns-in_ok-admit_observed-in-Some-take_from-clause-steps
+returns-in_ok-admit_observed-in-Some-take_from-clause-steps g c = record {
+  log =
+      admitted_takes g c;
+  stop_met = search rules;
+  stop = search rules;
+  stop_stays = search rules;
+  no_stop = search rules;
+  looked_through = search rules;
+  passed =
+      subst (λ (r : ResolverState). Each (λ q l m. ComesBefore r.next q c.in-Some-take_from.proxy → IsLookedThrough l m) r.lanes
+      (lanes_of (admitted_new g c).all_lanes)) c.self.view_is
+      (passed_taken (admitted_old g c) (admitted_new g c) c.self.inside.next c.in-Some-take_from.proxy c.in-Some-take_from.batch
+      (admitted_found g c) c.self.invariant (admitted_running g c) c.admit_observed.ensures.admits.adds.continues refl refl refl);
+  next = search rules;
+  next_stays = search rules;
+  gate_full = search rules;
+  arena_full = search rules;
+  lanes =
+      subst (λ (r : ResolverState). Each (λ p l m. LanesContinue l m) r.lanes (lanes_of (admitted_new g c).all_lanes)) c.self.view_is
+      (lanes_taken (admitted_old g c) (admitted_new g c) c.self.inside.next c.in-Some-take_from.proxy c.in-Some-take_from.batch
+      (admitted_found g c) c.self.invariant (admitted_running g c) c.admit_observed.ensures.admits.adds.continues refl refl refl);
+  continues =
+      subst (λ (r : ResolverState). Continues r.core (resolver_of (admitted_new g c)).core) c.self.view_is
+      (continues_taken (admitted_old g c) (admitted_new g c) c.self.inside.next c.in-Some-take_from.proxy c.in-Some-take_from.batch
+      (admitted_found g c) c.self.invariant (admitted_running g c) c.admit_observed.ensures.admits.adds.continues refl refl refl);
+}
 
 -- no batch was found, and nothing was finished
 module _ (g : Over) (c : goal.Then-ended-self g) where
@@ -287,7 +287,7 @@ module _ (g : Over) (c : goal.After-from_residual-in_err-finish-in-None g) where
       none_found_in c.self.inside.all_lanes c.take_from.new.all_lanes c.deref_mut.result.now c.deref_mut.ensures.value c.in-None.ensures.none
 
   refused_continues : Continues c.self.inside.core (c.finish.new.self)
-  refused_continues = c.finish.ensures.continues
+  refused_continues = c.finish.ensures.adds.continues
 
   refused_ended : c.have_ended-ended.result ≡ all_ended (lanes_of (with_items c.self.inside.all_lanes c.take_from.new.all_lanes).items)
   refused_ended = c.have_ended-ended.ensures.all ∙ ap (λ all_lanes. all_ended (lanes_of all_lanes)) c.deref.ensures.value
@@ -304,7 +304,7 @@ module _ (g : Over) (c : goal.After-from_residual-in_err-finish-in-None g) where
   refused_finishes =
       subst (λ r. Finishes r (resolver_of refused_new)) c.self.view_is
       (finishes_now refused_old refused_new refused_found c.self.invariant refused_running refused_continues refl refl refused_before
-      refused_after (c.finish.ensures.stands refused_running))
+      refused_after (c.finish.ensures.adds.stands refused_running))
 
   refused_parts : AreParts refused_new
   refused_parts =
@@ -340,7 +340,7 @@ module _ (g : Over) (c : goal.In_ok-finish-in-None g) where
       none_found_in c.self.inside.all_lanes c.take_from.new.all_lanes c.deref_mut.result.now c.deref_mut.ensures.value c.in-None.ensures.none
 
   finished_continues : Continues c.self.inside.core (c.finish.new.self)
-  finished_continues = c.finish.ensures.continues
+  finished_continues = c.finish.ensures.adds.continues
 
   finished_ended : c.have_ended-ended.result ≡ all_ended (lanes_of (with_items c.self.inside.all_lanes c.take_from.new.all_lanes).items)
   finished_ended = c.have_ended-ended.ensures.all ∙ ap (λ all_lanes. all_ended (lanes_of all_lanes)) c.deref.ensures.value
@@ -357,7 +357,7 @@ module _ (g : Over) (c : goal.In_ok-finish-in-None g) where
   finished_finishes =
       subst (λ r. Finishes r (resolver_of finished_new)) c.self.view_is
       (finishes_now finished_old finished_new finished_found c.self.invariant finished_running finished_continues refl refl finished_before
-      finished_after (c.finish.ensures.stands finished_running))
+      finished_after (c.finish.ensures.adds.stands finished_running))
 
   finished_parts : AreParts finished_new
   finished_parts =
@@ -378,79 +378,97 @@ pub invariant_of-self-in-None : goal.invariant_of-self-in-None
 invariant_of-self-in-None g c =
     finished_parts g c
 
-pub returns-then-ended-self-clause-none : goal.returns-then-ended-self-clause-none
-returns-then-ended-self-clause-none g c =
-    λ _. inr (subst (λ r. TakesNoStep r (resolver_of (same_new g c))) c.self.view_is
-    (takes_no_step (same_old g c) (same_new g c) (same_found g c) c.self.invariant (same_running g c) (same_continues g c) refl refl refl refl (same_all g c)))
+pub returns-then-ended-self-clause-steps : goal.returns-then-ended-self-clause-steps
+returns-then-ended-self-clause-steps g c = record {
+  log =
+      inr (subst (λ r. TakesNoStep r (resolver_of (same_new g c))) c.self.view_is
+      (takes_no_step (same_old g c) (same_new g c) (same_found g c) c.self.invariant (same_running g c) (same_continues g c) refl refl refl refl (same_all g c)));
+  stop_met = search rules;
+  stop = search rules;
+  stop_stays = search rules;
+  no_stop = search rules;
+  looked_through =
+      subst (λ (r : ResolverState). Each (λ p l m. IsLookedThrough l m) r.lanes (lanes_of (same_new g c).all_lanes)) c.self.view_is
+      (all_looked (same_old g c) (same_new g c) (same_found g c) c.self.invariant (same_running g c) (same_continues g c) refl refl);
+  passed = search rules;
+  next = search rules;
+  next_stays = search rules;
+  gate_full = search rules;
+  arena_full = search rules;
+  lanes =
+      subst (λ (r : ResolverState). Each (λ p l m. LanesContinue l m) r.lanes (lanes_of (same_new g c).all_lanes)) c.self.view_is
+      (lanes_looked (same_old g c) (same_new g c) (same_found g c) c.self.invariant (same_running g c) (same_continues g c) refl refl);
+  continues =
+      subst (λ (r : ResolverState). Continues r.core (resolver_of (same_new g c)).core) c.self.view_is
+      (continues_looked (same_old g c) (same_new g c) (same_found g c) c.self.invariant (same_running g c) (same_continues g c) refl refl);
+}
 
-pub returns-in_err-finish-in-None-clause-stop_met : goal.returns-in_err-finish-in-None-clause-stop_met
-returns-in_err-finish-in-None-clause-stop_met g c =
-    IfErr-always c.from_residual-in_err-finish-in-None.result (λ _. inr (refused_finishes g c))
+pub returns-in_err-finish-in-None-clause-steps : goal.returns-in_err-finish-in-None-clause-steps
+returns-in_err-finish-in-None-clause-steps g c = record {
+  log = search rules;
+  stop_met =
+      IfErr-always c.from_residual-in_err-finish-in-None.result (λ _. inr (refused_finishes g c));
+  stop = search rules;
+  stop_stays = search rules;
+  no_stop = search rules;
+  looked_through = search rules;
+  passed = search rules;
+  next = search rules;
+  next_stays = search rules;
+  gate_full = search rules;
+  arena_full = search rules;
+  lanes =
+      subst (λ (r : ResolverState). Each (λ p l m. LanesContinue l m) r.lanes (lanes_of (refused_new g c).all_lanes)) c.self.view_is
+      (lanes_looked (refused_old g c) (refused_new g c) (refused_found g c) c.self.invariant (refused_running g c) (refused_continues g c) refl refl);
+  continues =
+      subst (λ (r : ResolverState). Continues r.core (resolver_of (refused_new g c)).core) c.self.view_is
+      (continues_looked (refused_old g c) (refused_new g c) (refused_found g c) c.self.invariant (refused_running g c) (refused_continues g c) refl refl);
+}
 
-pub returns-in_ok-finish-in-None-clause-none : goal.returns-in_ok-finish-in-None-clause-none
-returns-in_ok-finish-in-None-clause-none g c =
-    λ _. inl (finished_finishes g c)
-
-pub returns-then-ended-self-clause-looked_through : goal.returns-then-ended-self-clause-looked_through
-returns-then-ended-self-clause-looked_through g c =
-    λ _. subst (λ (r : ResolverState). Each (λ p l m. IsLookedThrough l m) r.lanes (lanes_of (same_new g c).all_lanes)) c.self.view_is
-    (all_looked (same_old g c) (same_new g c) (same_found g c) c.self.invariant (same_running g c) (same_continues g c) refl refl)
+pub returns-in_ok-finish-in-None-clause-steps : goal.returns-in_ok-finish-in-None-clause-steps
+returns-in_ok-finish-in-None-clause-steps g c = record {
+  log =
+      inl (finished_finishes g c);
+  stop_met = search rules;
+  stop = search rules;
+  stop_stays = search rules;
+  no_stop = search rules;
+  looked_through =
+      subst (λ (r : ResolverState). Each (λ p l m. IsLookedThrough l m) r.lanes (lanes_of (finished_new g c).all_lanes)) c.self.view_is
+      (all_looked (finished_old g c) (finished_new g c) (finished_found g c) c.self.invariant (finished_running g c) (finished_continues g c) refl refl);
+  passed = search rules;
+  next = search rules;
+  next_stays = search rules;
+  gate_full = search rules;
+  arena_full = search rules;
+  lanes =
+      subst (λ (r : ResolverState). Each (λ p l m. LanesContinue l m) r.lanes (lanes_of (finished_new g c).all_lanes)) c.self.view_is
+      (lanes_looked (finished_old g c) (finished_new g c) (finished_found g c) c.self.invariant (finished_running g c) (finished_continues g c) refl refl);
+  continues =
+      subst (λ (r : ResolverState). Continues r.core (resolver_of (finished_new g c)).core) c.self.view_is
+      (continues_looked (finished_old g c) (finished_new g c) (finished_found g c) c.self.invariant (finished_running g c) (finished_continues g c) refl refl);
+}
 
 pub returns-then-ended-self-clause-replies : goal.returns-then-ended-self-clause-replies
 returns-then-ended-self-clause-replies g c =
     subst (λ (r : ResolverState). Each (λ p l m. m.replies ≡ l.replies) r.lanes (lanes_of (same_new g c).all_lanes)) c.self.view_is
     (replies_looked (same_old g c) (same_new g c) (same_found g c) c.self.invariant (same_running g c) (same_continues g c) refl refl)
 
-pub returns-then-ended-self-clause-lanes : goal.returns-then-ended-self-clause-lanes
-returns-then-ended-self-clause-lanes g c =
-    subst (λ (r : ResolverState). Each (λ p l m. LanesContinue l m) r.lanes (lanes_of (same_new g c).all_lanes)) c.self.view_is
-    (lanes_looked (same_old g c) (same_new g c) (same_found g c) c.self.invariant (same_running g c) (same_continues g c) refl refl)
-
-pub returns-then-ended-self-clause-continues : goal.returns-then-ended-self-clause-continues
-returns-then-ended-self-clause-continues g c =
-    subst (λ (r : ResolverState). Continues r.core (resolver_of (same_new g c)).core) c.self.view_is
-    (continues_looked (same_old g c) (same_new g c) (same_found g c) c.self.invariant (same_running g c) (same_continues g c) refl refl)
-
 pub returns-in_err-finish-in-None-clause-replies : goal.returns-in_err-finish-in-None-clause-replies
 returns-in_err-finish-in-None-clause-replies g c =
     subst (λ (r : ResolverState). Each (λ p l m. m.replies ≡ l.replies) r.lanes (lanes_of (refused_new g c).all_lanes)) c.self.view_is
     (replies_looked (refused_old g c) (refused_new g c) (refused_found g c) c.self.invariant (refused_running g c) (refused_continues g c) refl refl)
-
-pub returns-in_err-finish-in-None-clause-lanes : goal.returns-in_err-finish-in-None-clause-lanes
-returns-in_err-finish-in-None-clause-lanes g c =
-    subst (λ (r : ResolverState). Each (λ p l m. LanesContinue l m) r.lanes (lanes_of (refused_new g c).all_lanes)) c.self.view_is
-    (lanes_looked (refused_old g c) (refused_new g c) (refused_found g c) c.self.invariant (refused_running g c) (refused_continues g c) refl refl)
-
-pub returns-in_err-finish-in-None-clause-continues : goal.returns-in_err-finish-in-None-clause-continues
-returns-in_err-finish-in-None-clause-continues g c =
-    subst (λ (r : ResolverState). Continues r.core (resolver_of (refused_new g c)).core) c.self.view_is
-    (continues_looked (refused_old g c) (refused_new g c) (refused_found g c) c.self.invariant (refused_running g c) (refused_continues g c) refl refl)
-
-pub returns-in_ok-finish-in-None-clause-looked_through : goal.returns-in_ok-finish-in-None-clause-looked_through
-returns-in_ok-finish-in-None-clause-looked_through g c =
-    λ _. subst (λ (r : ResolverState). Each (λ p l m. IsLookedThrough l m) r.lanes (lanes_of (finished_new g c).all_lanes)) c.self.view_is
-    (all_looked (finished_old g c) (finished_new g c) (finished_found g c) c.self.invariant (finished_running g c) (finished_continues g c) refl refl)
 
 pub returns-in_ok-finish-in-None-clause-replies : goal.returns-in_ok-finish-in-None-clause-replies
 returns-in_ok-finish-in-None-clause-replies g c =
     subst (λ (r : ResolverState). Each (λ p l m. m.replies ≡ l.replies) r.lanes (lanes_of (finished_new g c).all_lanes)) c.self.view_is
     (replies_looked (finished_old g c) (finished_new g c) (finished_found g c) c.self.invariant (finished_running g c) (finished_continues g c) refl refl)
 
-pub returns-in_ok-finish-in-None-clause-lanes : goal.returns-in_ok-finish-in-None-clause-lanes
-returns-in_ok-finish-in-None-clause-lanes g c =
-    subst (λ (r : ResolverState). Each (λ p l m. LanesContinue l m) r.lanes (lanes_of (finished_new g c).all_lanes)) c.self.view_is
-    (lanes_looked (finished_old g c) (finished_new g c) (finished_found g c) c.self.invariant (finished_running g c) (finished_continues g c) refl refl)
-
-pub returns-in_ok-finish-in-None-clause-continues : goal.returns-in_ok-finish-in-None-clause-continues
-returns-in_ok-finish-in-None-clause-continues g c =
-    subst (λ (r : ResolverState). Continues r.core (resolver_of (finished_new g c)).core) c.self.view_is
-    (continues_looked (finished_old g c) (finished_new g c) (finished_found g c) c.self.invariant (finished_running g c) (finished_continues g c) refl refl)
-
 pub returns-in_ok-admit_observed-in-Some-take_from-clause-still_open :
     goal.returns-in_ok-admit_observed-in-Some-take_from-clause-still_open
-returns-in_ok-admit_observed-in-Some-take_from-clause-still_open g c = λ proxy is.
+returns-in_ok-admit_observed-in-Some-take_from-clause-still_open g c = λ _.
     some_after (admitted_old g c) (admitted_new g c) c.self.inside.next c.in-Some-take_from.proxy
-    c.in-Some-take_from.batch (admitted_found g c) c.self.invariant (admitted_running g c) c.admit_observed.ensures.admits.continues refl
+    c.in-Some-take_from.batch (admitted_found g c) c.self.invariant (admitted_running g c) c.admit_observed.ensures.admits.adds.continues refl
     refl refl
 
 pub returns-in-Some-clause-sees : goal.returns-in-Some-clause-sees
@@ -463,7 +481,7 @@ returns-in_err-admit_observed-in-Some-take_from-clause-sees g c =
     let after = g.O.Observer.has_seen c.admit_observed.new.observer in
     subst (λ r. ObservesStep before after r (resolver_of (stopped_new g c))) c.self.view_is
     (sees_taken (stopped_old g c) (stopped_new g c) c.self.inside.next c.in-Some-take_from.proxy c.in-Some-take_from.batch
-    (stopped_found g c) c.self.invariant (stopped_running g c) c.admit_observed.ensures.admits.continues refl refl refl
+    (stopped_found g c) c.self.invariant (stopped_running g c) c.admit_observed.ensures.admits.adds.continues refl refl refl
     before after (c.admit_observed.ensures.seen (stopped_running g c)))
 
 pub returns-in_ok-admit_observed-in-Some-take_from-clause-sees :
@@ -474,7 +492,7 @@ returns-in_ok-admit_observed-in-Some-take_from-clause-sees g c =
     subst (λ r. ObservesStep before after r (resolver_of (admitted_new g c))) c.self.view_is
     (sees_taken (admitted_old g c) (admitted_new g c) c.self.inside.next c.in-Some-take_from.proxy
     c.in-Some-take_from.batch (admitted_found g c) c.self.invariant (admitted_running g c)
-    c.admit_observed.ensures.admits.continues refl refl refl before after
+    c.admit_observed.ensures.admits.adds.continues refl refl refl before after
     (c.admit_observed.ensures.seen (admitted_running g c)))
 
 pub returns-then-ended-self-clause-sees : goal.returns-then-ended-self-clause-sees

@@ -13,15 +13,17 @@ returns-in-Err-clause-admits g c =
     let stop = Some c.in-Err.stop in
     let x = Take c.args.proxy c.args.batch in
     record {
-      stands = λ none log given stands.
-          subst (λ (core : CoreState). StoppedIn (log ++ x ∷ []) given (record core { stop = stop })) (sym c.self-2.view_is)
-          (StoppedIn-more old.set.window log x given (record met { stop = stop }) c.take-taken.ensures.continues.window
-          (MadeBetween-stopped stop given met _ _
-          (c.in-Err.ensures.err (run old.set.window log) given (IsIn-standing old.stop log given old none stands))));
-      «open» = search rules;
-      stops = search rules;
-      stopped = search rules;
-      continues = search rules;
+      adds = record {
+        stands = λ none log given stands.
+            subst (λ (core : CoreState). StoppedIn (log ++ x ∷ []) given (record core { stop = stop })) (sym c.self-2.view_is)
+            (StoppedIn-more old.set.window log x given (record met { stop = stop }) c.take-taken.ensures.advances.continues.window
+            (MadeBetween-stopped stop given met _ _
+            (c.in-Err.ensures.advances.err (run old.set.window log) given (IsIn-standing old.stop log given old none stands))));
+        «open» = search rules;
+        stops = search rules;
+        stopped = search rules;
+        continues = search rules;
+      };
       gate_full = search rules;
       arena_full = λ none is log given stands.
           let state = run old.set.window log in
@@ -36,21 +38,23 @@ returns-in-Err-clause-seen g c = λ none log given stands seen.
     let old = c.args.self.now in
     seen_stopped (g.O.Observer.has_seen c.take-taken.new.observer) c.in-Err.stop old.set.window log
     (Take c.args.proxy c.args.batch)
-    (c.in-Err.ensures.seen_between (run old.set.window log) given (IsIn-standing old.stop log given old none stands) seen)
+    (c.in-Err.ensures.shows.seen_between (run old.set.window log) given (IsIn-standing old.stop log given old none stands) seen)
 
 pub returns-in_default-taken-clause-admits : goal.returns-in_default-taken-clause-admits
 returns-in_default-taken-clause-admits g c =
     let old = c.args.self.now in
     let new = c.take-taken.new.self in
     record {
-      stands = λ none log given stands.
-          StandsBy-more old.set.window log (Take c.args.proxy c.args.batch) given new c.take-taken.ensures.continues.window
-          new.stop c.in_default-taken.ensures.«open»
-          (c.in_default-taken.ensures.ok (run old.set.window log) given (IsIn-standing old.stop log given old none stands));
-      «open» = search rules;
-      stops = search rules;
-      stopped = search rules;
-      continues = search rules;
+      adds = record {
+        stands = λ none log given stands.
+            StandsBy-more old.set.window log (Take c.args.proxy c.args.batch) given new c.take-taken.ensures.advances.continues.window
+            new.stop c.in_default-taken.ensures.«open»
+            (c.in_default-taken.ensures.advances.ok (run old.set.window log) given (IsIn-standing old.stop log given old none stands));
+        «open» = search rules;
+        stops = search rules;
+        stopped = search rules;
+        continues = search rules;
+      };
       gate_full = search rules;
       arena_full = search rules;
     }
@@ -60,4 +64,4 @@ returns-in_default-taken-clause-seen g c = λ none log given stands seen.
     let old = c.args.self.now in
     let new = c.take-taken.new in
     seen_more (g.O.Observer.has_seen new.observer) new.self.stop old.set.window log (Take c.args.proxy c.args.batch)
-    (c.in_default-taken.ensures.seen (run old.set.window log) given (IsIn-standing old.stop log given old none stands) seen)
+    (c.in_default-taken.ensures.shows.seen (run old.set.window log) given (IsIn-standing old.stop log given old none stands) seen)

@@ -18,45 +18,71 @@ next g c =
     let test = c.if-batch-self.false in
     grind (arith, ints)
 
-pub returns-then-batch-self-clause-ok : goal.returns-then-batch-self-clause-ok
-returns-then-batch-self-clause-ok g c =
-    on_ok_weaker c.repeat.result (λ ok state given are.
-    let proxy = c.args.proxy in
-    let b = c.args.batch in
-    let fits : SFits w64 b.version = search rules in
-    let previous : SFits w64 b.previous = search rules in
-    let version : SFits w64 c.self.inside.version = search rules in
-    let is = ap (λ k. k.version) c.self.view_is in
-    let below = less_from_test b.previous c.self.inside.version previous version c.if-batch-self.true in
-    let admitted = admit-repeat c.args.self.now.set.window proxy b state
-    (omega (arith, ints, is, are.version, below)) in
-    subst (λ s. IsIn s given c.repeat.new.self)
-    (ap (λ v. answer proxy (found state.processed proxy v) state) (to_z-of_z w64 b.version fits)
-    ∙ sym admitted)
-    (ok state given are)) c.repeat.ensures.ok
+pub returns-then-batch-self-clause-answers : goal.returns-then-batch-self-clause-answers
+returns-then-batch-self-clause-answers g c = record {
+  advances = record {
+    ok =
+        on_ok_weaker c.repeat.result (λ ok state given are.
+        let proxy = c.args.proxy in
+        let b = c.args.batch in
+        let fits : SFits w64 b.version = search rules in
+        let previous : SFits w64 b.previous = search rules in
+        let version : SFits w64 c.self.inside.version = search rules in
+        let is = ap (λ k. k.version) c.self.view_is in
+        let below = less_from_test b.previous c.self.inside.version previous version c.if-batch-self.true in
+        let admitted = admit-repeat c.args.self.now.set.window proxy b state
+        (omega (arith, ints, is, are.version, below)) in
+        subst (λ s. IsIn s given c.repeat.new.self)
+        (ap (λ v. answer proxy (found state.processed proxy v) state) (to_z-of_z w64 b.version fits)
+        ∙ sym admitted)
+        (ok state given are)) c.repeat.ensures.advances.ok;
+    err = search rules;
+    continues = search rules;
+  };
+  «open» = search rules;
+  held = search rules;
+  not_gate = search rules;
+  arena_full = search rules;
+}
 
-pub returns-else-batch-self-clause-ok : goal.returns-else-batch-self-clause-ok
-returns-else-batch-self-clause-ok g c =
-    on_ok_weaker c.process.result (λ ok state given are.
-    let window = c.args.self.now.set.window in
-    let admitted = admit-process window c.args.proxy c.args.batch state (next g c ∙ are.version) in
-    subst (λ s. IsIn s given c.process.new.self) (sym admitted) (ok state given are))
-    c.process.ensures.ok
+pub returns-else-batch-self-clause-answers : goal.returns-else-batch-self-clause-answers
+returns-else-batch-self-clause-answers g c = record {
+  advances = record {
+    ok =
+        on_ok_weaker c.process.result (λ ok state given are.
+        let window = c.args.self.now.set.window in
+        let admitted = admit-process window c.args.proxy c.args.batch state (next g c ∙ are.version) in
+        subst (λ s. IsIn s given c.process.new.self) (sym admitted) (ok state given are))
+        c.process.ensures.answers.advances.ok;
+    err = search rules;
+    continues = search rules;
+  };
+  «open» = search rules;
+  held = search rules;
+  not_gate = search rules;
+  arena_full = search rules;
+}
 
-pub returns-then-batch-self-clause-seen : goal.returns-then-batch-self-clause-seen
-returns-then-batch-self-clause-seen g c =
-    OnOk-always c.repeat.result (λ state given are seen.
-    let previous : SFits w64 c.args.batch.previous = search rules in
-    let version : SFits w64 c.self.inside.version = search rules in
-    let is = ap (λ k. k.version) c.self.view_is in
-    let below = less_from_test c.args.batch.previous c.self.inside.version previous version c.if-batch-self.true in
-    let admitted = admit-repeat c.args.self.now.set.window c.args.proxy c.args.batch state
-    (omega (arith, ints, is, are.version, below)) in
-    subst (λ (s : State). g.O.Observer.has_seen c.args.observer.now s.processed) (sym admitted) seen)
+pub returns-then-batch-self-clause-shows : goal.returns-then-batch-self-clause-shows
+returns-then-batch-self-clause-shows g c = record {
+  seen =
+      OnOk-always c.repeat.result (λ state given are seen.
+      let previous : SFits w64 c.args.batch.previous = search rules in
+      let version : SFits w64 c.self.inside.version = search rules in
+      let is = ap (λ k. k.version) c.self.view_is in
+      let below = less_from_test c.args.batch.previous c.self.inside.version previous version c.if-batch-self.true in
+      let admitted = admit-repeat c.args.self.now.set.window c.args.proxy c.args.batch state
+      (omega (arith, ints, is, are.version, below)) in
+      subst (λ (s : State). g.O.Observer.has_seen c.args.observer.now s.processed) (sym admitted) seen);
+  unseen = search rules;
+}
 
-pub returns-else-batch-self-clause-seen : goal.returns-else-batch-self-clause-seen
-returns-else-batch-self-clause-seen g c =
-    on_ok_weaker c.process.result (λ sees state given are seen.
-    let admitted = admit-process c.args.self.now.set.window c.args.proxy c.args.batch state (next g c ∙ are.version) in
-    subst (λ (s : State). g.O.Observer.has_seen c.process.new.observer s.processed) (sym admitted)
-    (sees state given are seen)) c.process.ensures.seen
+pub returns-else-batch-self-clause-shows : goal.returns-else-batch-self-clause-shows
+returns-else-batch-self-clause-shows g c = record {
+  seen =
+      on_ok_weaker c.process.result (λ sees state given are seen.
+      let admitted = admit-process c.args.self.now.set.window c.args.proxy c.args.batch state (next g c ∙ are.version) in
+      subst (λ (s : State). g.O.Observer.has_seen c.process.new.observer s.processed) (sym admitted)
+      (sees state given are seen)) c.process.ensures.shows.seen;
+  unseen = search rules;
+}

@@ -41,12 +41,16 @@ invariant_of-self c =
     IsCore-first (old d) (now d) (earliest d) c.first.new.self c.loop-proxy.invariant
     c.in-Some.ensures.first c.reserve.new.self.answers (ap length c.reserve.ensures.same)
 
-pub returns-in_err-reserve-clause-err : goal.returns-in_err-reserve-clause-err
-returns-in_err-reserve-clause-err c =
-    OnErr-always c.from_residual.result (λ state given are.
-    let d = (goal.at.returns-in_err-reserve-clause-err c).In-Some in
-    MadeBetween-finish c.args.self.now.set.window (old d) (now d) c.loop-proxy.invariant state given
-    (subst (IsIn state given) (sym c.self.view_is) are) _ c.reserve.ensures.same)
+pub returns-in_err-reserve-clause-advances : goal.returns-in_err-reserve-clause-advances
+returns-in_err-reserve-clause-advances c = record {
+  ok = search rules;
+  err =
+      OnErr-always c.from_residual.result (λ state given are.
+      let d = (goal.at.returns-in_err-reserve-clause-advances c).In-Some in
+      MadeBetween-finish c.args.self.now.set.window (old d) (now d) c.loop-proxy.invariant state given
+      (subst (IsIn state given) (sym c.self.view_is) are) _ c.reserve.ensures.same);
+  continues = search rules;
+}
 
 pub push-requires-clause-known : goal.push-requires-clause-known
 push-requires-clause-known c =
@@ -66,12 +70,16 @@ loop-proxy-preserved c =
     (to_z-of_z w64 c.in-Some.batch.version fits)
     ∙ ap (owed_also c.in-Some.proxy (reported.Held c.in-Some.batch.version)) c.in_ok-reserve.ensures.same)
 
-pub returns-clause-ok : goal.returns-clause-ok
-returns-clause-ok c = λ state given are.
-    let window = c.args.self.now.set.window in
-    let now = c.loop-proxy.self-inside in
-    let core = core_of now.set now.version now.gate now.replies now.owed now.stop in
-    subst (λ hs. IsIn (step window Finish state) given (record core { held = hs }))
-    (sym c.in_default.ensures.unchanged)
-    (IsIn-finish window _ core c.loop-proxy.invariant state given
-    (subst (IsIn state given) (sym c.self.view_is) are) c.in_default.ensures.none)
+pub returns-clause-advances : goal.returns-clause-advances
+returns-clause-advances c = record {
+  ok = λ state given are.
+      let window = c.args.self.now.set.window in
+      let now = c.loop-proxy.self-inside in
+      let core = core_of now.set now.version now.gate now.replies now.owed now.stop in
+      subst (λ hs. IsIn (step window Finish state) given (record core { held = hs }))
+      (sym c.in_default.ensures.unchanged)
+      (IsIn-finish window _ core c.loop-proxy.invariant state given
+      (subst (IsIn state given) (sym c.self.view_is) are) c.in_default.ensures.none);
+  err = search rules;
+  continues = search rules;
+}

@@ -41,15 +41,19 @@ IsIn-held state given core h held is are = record {
   answers = are.answers;
 }
 
-pub returns-clause-ok : goal.returns-clause-ok
-returns-clause-ok c =
+pub returns-clause-advances : goal.returns-clause-advances
+returns-clause-advances c =
     let h : Held = (c.args.proxy, c.args.batch) in
     let before : CoreState = core_of c.self.inside.set c.self.inside.version c.self.inside.gate
     c.self.inside.replies c.self.inside.owed c.self.inside.stop in
     let held : OnOk c.match-hold.result (c.hold.new.self ≡ c.self.inside.gate ++ h ∷ []) = search rules in
-    on_ok_weaker c.match-hold.result (λ same state given are.
-    let was = subst (IsIn state given) (sym c.self.view_is) are in
-    let ahead = admit-ahead c.args.self.now.set.window c.args.proxy c.args.batch state
-    (omega (arith, ints, are.version, c.requires.ahead)) in
-    subst (λ s. IsIn s given (record before { held = c.hold.new.self })) (sym ahead)
-    (IsIn-held state given before h c.hold.new.self same was)) held
+    record {
+      ok = on_ok_weaker c.match-hold.result (λ same state given are.
+          let was = subst (IsIn state given) (sym c.self.view_is) are in
+          let ahead = admit-ahead c.args.self.now.set.window c.args.proxy c.args.batch state
+          (omega (arith, ints, are.version, c.requires.ahead)) in
+          subst (λ s. IsIn s given (record before { held = c.hold.new.self })) (sym ahead)
+          (IsIn-held state given before h c.hold.new.self same was)) held;
+      err = search rules;
+      continues = search rules;
+    }

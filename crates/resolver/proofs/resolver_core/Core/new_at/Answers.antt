@@ -1,4 +1,4 @@
-use Rattle.std.proofs.Common.{w64, to_z, of_z, [], None, sym, subst}
+use Rattle.std.proofs.Common.{rules, w64, to_z, of_z, [], None, sym, subst}
 use Rattle.std.specs.Prelude.{negsuc, ◌≤ℤ◌}
 use Rattle.std.proofs.lemmas.Int.{to_z-of_z}
 use Rattle.keyspace.specs.Run.{run}
@@ -15,14 +15,21 @@ invariant_of-result c =
     c.in_ok-set.ensures.continues c.in_ok-set.ensures.resolved _ c.in_ok-set.ensures.remembers
     (c.in-Ok.ensures.kept set.window)
 
-pub returns-clause-stands : goal.returns-clause-stands
-returns-clause-stands c =
+pub returns-clause-new : goal.returns-clause-new
+returns-clause-new c =
     let set = c.in_ok-set.set in
     let v = to_z w64 (of_z w64 c.args.version) in
     let same = to_z-of_z w64 c.args.version c.ranges.version in
-    subst (λ x. IsIn (run set.window (opening_log c.args.proxies x)) (λ _. [])
-    (core_of set v c.new-2.result c.in-Ok.replies c.in-Ok-new.owed None)) same
-    (is_in_opening set.window c.args.proxies set c.new-2.result c.in-Ok.replies c.in-Ok-new.owed
-    c.new-2.ensures.empty c.in-Ok-new.ensures.empty v
-    (subst (λ x. negsuc 0 ≤ℤ x) (sym same) c.requires.least_version)
-    c.in_ok-set.ensures.remembers (c.in-Ok.ensures.kept set.window))
+    record {
+      stands =
+          subst (λ x. IsIn (run set.window (opening_log c.args.proxies x)) (λ _. [])
+          (core_of set v c.new-2.result c.in-Ok.replies c.in-Ok-new.owed None)) same
+          (is_in_opening set.window c.args.proxies set c.new-2.result c.in-Ok.replies c.in-Ok-new.owed
+          c.new-2.ensures.empty c.in-Ok-new.ensures.empty v
+          (subst (λ x. negsuc 0 ≤ℤ x) (sym same) c.requires.least_version)
+          c.in_ok-set.ensures.remembers (c.in-Ok.ensures.kept set.window));
+      «open» = search rules;
+      proxies = search rules;
+      window = search rules;
+      limit = search rules;
+    }

@@ -39,27 +39,37 @@ use Rattle.resolver.proofs.resolver_core.Core.process.Given.{Over}
 use Rattle.resolver.proofs.resolver_core.Core.process.Goals as goal
 use Rattle.resolver.proofs.resolver_core.Core.process.Goals.{In-Ok}
 
-pub returns-in-Err-clause-arena_full : goal.returns-in-Err-clause-arena_full
-returns-in-Err-clause-arena_full g c = λ is state given are.
-    let full = set_is_full c.in-Err.stop (cc (is, c.from-stop.ensures)) in
-    let was = subst (IsIn state given) (sym c.self.view_is) are in
-    let set = c.self.inside.set in
-    let batch = c.args.batch in
-    let running = c.self.invariant.takes_more (ap (λ k. k.stop) c.self.view_is ∙ c.requires.«open») in
-    let reply = judge set.window (writes state.processed) batch in
-    let over = ((c.in-Err.ensures.stops.map running).full full (writes state.processed) reply was.remembers.covers
-    was.remembers.rooted (c.one_reply.ensures.right set.window (writes state.processed) batch)).over in
-    let new = core_of c.resolve.new.self c.self.inside.version c.self.inside.gate c.self.inside.replies
-    c.reserve.new.self (Some c.from-stop.result) in
-    let same = c.in_ok-reserve.ensures.same ∙ ap (λ k. k.owed) c.self.view_is in
-    record {
-      next = c.requires.next ∙ are.version;
-      made = made_then state given c.args.self.now new are same;
-      exceeds =
-          subst (λ (k : CoreState). IsOverLimit k.set.map.limit (edge k.set.window batch)
-          (writes (process k.set.window c.args.proxy batch state).processed)) c.self.view_is
-          (over_processed set.map.limit set.window state c.args.proxy batch over);
-    }
+pub returns-in-Err-clause-answers : goal.returns-in-Err-clause-answers
+returns-in-Err-clause-answers g c = record {
+  advances = record {
+    ok = search rules;
+    err = search rules;
+    continues = search rules;
+  };
+  «open» = search rules;
+  held = search rules;
+  not_gate = search rules;
+  arena_full = λ is state given are.
+      let full = set_is_full c.in-Err.stop (cc (is, c.from-stop.ensures)) in
+      let was = subst (IsIn state given) (sym c.self.view_is) are in
+      let set = c.self.inside.set in
+      let batch = c.args.batch in
+      let running = c.self.invariant.takes_more (ap (λ k. k.stop) c.self.view_is ∙ c.requires.«open») in
+      let reply = judge set.window (writes state.processed) batch in
+      let over = ((c.in-Err.ensures.stops.map running).full full (writes state.processed) reply was.remembers.covers
+      was.remembers.rooted (c.one_reply.ensures.right set.window (writes state.processed) batch)).over in
+      let new = core_of c.resolve.new.self c.self.inside.version c.self.inside.gate c.self.inside.replies
+      c.reserve.new.self (Some c.from-stop.result) in
+      let same = c.in_ok-reserve.ensures.same ∙ ap (λ k. k.owed) c.self.view_is in
+      record {
+        next = c.requires.next ∙ are.version;
+        made = made_then state given c.args.self.now new are same;
+        exceeds =
+            subst (λ (k : CoreState). IsOverLimit k.set.map.limit (edge k.set.window batch)
+            (writes (process k.set.window c.args.proxy batch state).processed)) c.self.view_is
+            (over_processed set.map.limit set.window state c.args.proxy batch over);
+      };
+}
 
 module _ (g : Over) (c : In-Ok g) where
   -- the core before
@@ -153,38 +163,51 @@ invariant_of-self-2 g c =
     ∙ ap length c.in_ok-reserve.ensures.same)
     (λ proxy v reply is. past g d _ version _ proxy v reply (sym (c.in_ok-keep.ensures.ok proxy v) ∙ is))
 
-pub returns-clause-ok : goal.returns-clause-ok
-returns-clause-ok g c = λ state given are.
-    let d = (goal.at.returns-clause-ok g c).In-Ok in
-    let was = subst (IsIn state given) (sym c.self.view_is) are in
-    let proxies = ap (λ b. length b.owed) c.self.view_is in
-    let batch = c.args.batch in
-    let reply = c.in-Ok.reply in
-    IsIn-process state given (before g d) _ c.args.proxy batch c.args.self.now.set.window reply was
-    (omega (arith, proxies)) (absent g d)
-    (judged g d state given was)
-    (remembers g d (writes state.processed) was.remembers)
-    (record {
-      version = to_z-of_z w64 batch.version (fits g d);
-      held = refl;
-      kept = λ p v.
-          c.in_ok-keep.ensures.ok p v
-          ∙ ap (λ received. kept_also c.args.proxy received reply (reply_of c.self.inside.replies) p v)
-          (to_z-of_z w64 batch.received (received_fits g d));
-      owed =
-          c.push.ensures.answers
-          ∙ ap (owed_also c.args.proxy (reported.Reply reply)) c.in_ok-reserve.ensures.same;
-    })
+pub returns-clause-answers : goal.returns-clause-answers
+returns-clause-answers g c = record {
+  advances = record {
+    ok = λ state given are.
+        let d = (goal.at.returns-clause-answers g c).In-Ok in
+        let was = subst (IsIn state given) (sym c.self.view_is) are in
+        let proxies = ap (λ b. length b.owed) c.self.view_is in
+        let batch = c.args.batch in
+        let reply = c.in-Ok.reply in
+        IsIn-process state given (before g d) _ c.args.proxy batch c.args.self.now.set.window reply was
+        (omega (arith, proxies)) (absent g d)
+        (judged g d state given was)
+        (remembers g d (writes state.processed) was.remembers)
+        (record {
+          version = to_z-of_z w64 batch.version (fits g d);
+          held = refl;
+          kept = λ p v.
+              c.in_ok-keep.ensures.ok p v
+              ∙ ap (λ received. kept_also c.args.proxy received reply (reply_of c.self.inside.replies) p v)
+              (to_z-of_z w64 batch.received (received_fits g d));
+          owed =
+              c.push.ensures.answers
+              ∙ ap (owed_also c.args.proxy (reported.Reply reply)) c.in_ok-reserve.ensures.same;
+        });
+    err = search rules;
+    continues = search rules;
+  };
+  «open» = search rules;
+  held = search rules;
+  not_gate = search rules;
+  arena_full = search rules;
+}
 
 pub see-requires : goal.see-requires
 see-requires g c =
     let known = c.self.invariant.remembers in
     record { entries = (c.in-Ok.ensures.resolves.map.judged known.0 known.1.covers).count }
 
-pub returns-clause-seen : goal.returns-clause-seen
-returns-clause-seen g c = λ state given are seen.
-    let d = (goal.at.returns-clause-seen g c).In-Ok in
-    let was = subst (IsIn state given) (sym c.self.view_is) are in
-    subst (λ (reply : Reply). g.O.Observer.has_seen c.see.new.self
-    (state.processed ++ record { proxy = c.args.proxy; batch = c.args.batch; reply = reply } ∷ []))
-    (judged g d state given was) (c.in_ok-see.ensures.seen state.processed seen)
+pub returns-clause-shows : goal.returns-clause-shows
+returns-clause-shows g c = record {
+  seen = λ state given are seen.
+      let d = (goal.at.returns-clause-shows g c).In-Ok in
+      let was = subst (IsIn state given) (sym c.self.view_is) are in
+      subst (λ (reply : Reply). g.O.Observer.has_seen c.see.new.self
+      (state.processed ++ record { proxy = c.args.proxy; batch = c.args.batch; reply = reply } ∷ []))
+      (judged g d state given was) (c.in_ok-see.ensures.seen state.processed seen);
+  unseen = search rules;
+}

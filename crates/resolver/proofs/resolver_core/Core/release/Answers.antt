@@ -88,16 +88,20 @@ answer-requires-clause-known g c =
     let d = (goal.at.answer-requires-clause-known g c).In-Some in
     leaver_known (before g d) (leaver g d) c.next_for.new.self c.self.inside.version (leaves g d) c.self.invariant
 
-pub returns-in_err-answer-clause-err : goal.returns-in_err-answer-clause-err
-returns-in_err-answer-clause-err g c =
-    OnErr-always c.from_residual.result (λ state given are.
-    let d = (goal.at.returns-in_err-answer-clause-err g c).In-Some in
-    let window = c.args.self.now.set.window in
-    let r = reached g d state given are in
-    let s = now g d state given are in
-    MadeBetween-grown state s (leave_all window state) given (before g d) c.answer.new.self r.are
-    c.in_err-answer.ensures.err (grows_leave r.turns window state)
-    (subst (Grows s) r.same (grows_leave_all window s)))
+pub returns-in_err-answer-clause-advances : goal.returns-in_err-answer-clause-advances
+returns-in_err-answer-clause-advances g c = record {
+  ok = search rules;
+  err =
+      OnErr-always c.from_residual.result (λ state given are.
+      let d = (goal.at.returns-in_err-answer-clause-advances g c).In-Some in
+      let window = c.args.self.now.set.window in
+      let r = reached g d state given are in
+      let s = now g d state given are in
+      MadeBetween-grown state s (leave_all window state) given (before g d) c.answer.new.self r.are
+      c.in_err-answer.ensures.answers.advances.err (grows_leave r.turns window state)
+      (subst (Grows s) r.same (grows_leave_all window s)));
+  continues = search rules;
+}
 
 pub returns-in_err-answer-clause-arena_full : goal.returns-in_err-answer-clause-arena_full
 returns-in_err-answer-clause-arena_full g c = λ is state given are.
@@ -107,7 +111,7 @@ returns-in_err-answer-clause-arena_full g c = λ is state given are.
     let set = c.args.self.now.set in
     let s = others g d state given are in
     let new = c.answer.new.self in
-    let stops = c.in_err-answer.ensures.arena_full (ap Err full) s given (are_without g d state given are) in
+    let stops = c.in_err-answer.ensures.answers.arena_full (ap Err full) s given (are_without g d state given are) in
     StopsAsTheyLeave-left set.window state given (before g d) (g.O.Observer.has_seen c.args.observer.now)
     (g.O.Observer.has_seen c.loop-proxy.observer) (reached g d state given are) (leaver g d)
     c.next_for.new.self (leaves_next g d) set.map.limit new
@@ -127,22 +131,25 @@ loop-proxy-preserved g c =
           (g.O.Observer.has_seen c.loop-proxy.observer) (reached g d state given are) (leaver g d) c.next_for.new.self
           (leaves_next g d) new (g.O.Observer.has_seen c.answer.new.observer)
           (subst (λ w. IsIn (admit w c.in-Some.proxy c.in-Some.batch s) given new) (continues g d).window
-          (c.in_ok-answer.ensures.ok s given at))
+          (c.in_ok-answer.ensures.answers.advances.ok s given at))
           (subst (λ w. g.O.Observer.has_seen c.loop-proxy.observer s.processed
           → g.O.Observer.has_seen c.answer.new.observer (admit w c.in-Some.proxy c.in-Some.batch s).processed)
-          (continues g d).window (c.in_ok-answer.ensures.seen s given at));
-      continues = Continues-then c.args.self.now (without g d) new (continues g d) c.answer.ensures.continues;
-      still = c.in_ok-answer.ensures.«open»;
+          (continues g d).window (c.in_ok-answer.ensures.shows.seen s given at));
+      continues = Continues-then c.args.self.now (without g d) new (continues g d) c.answer.ensures.answers.advances.continues;
+      still = c.in_ok-answer.ensures.answers.«open»;
       setting = c.answer.ensures.setting ∙ c.loop-proxy.invariant.setting;
     }
 
-pub returns-in_err-answer-clause-seen_between : goal.returns-in_err-answer-clause-seen_between
-returns-in_err-answer-clause-seen_between g c =
-    OnErr-always c.from_residual.result (λ state given are.
-    let d = (goal.at.returns-in_err-answer-clause-seen_between g c).In-Some in
-    seen_refused c.args.self.now.set.window state given (before g d) (g.O.Observer.has_seen c.args.observer.now)
-    (g.O.Observer.has_seen c.loop-proxy.observer) (reached g d state given are)
-    (g.O.Observer.has_seen c.answer.new.observer) (c.in_err-answer.ensures.unseen (now g d state given are).processed))
+pub returns-in_err-answer-clause-shows : goal.returns-in_err-answer-clause-shows
+returns-in_err-answer-clause-shows g c = record {
+  seen = search rules;
+  seen_between =
+      OnErr-always c.from_residual.result (λ state given are.
+      let d = (goal.at.returns-in_err-answer-clause-shows g c).In-Some in
+      seen_refused c.args.self.now.set.window state given (before g d) (g.O.Observer.has_seen c.args.observer.now)
+      (g.O.Observer.has_seen c.loop-proxy.observer) (reached g d state given are)
+      (g.O.Observer.has_seen c.answer.new.observer) (c.in_err-answer.ensures.shows.unseen (now g d state given are).processed));
+}
 
 -- none is due at the end
 module _ (g : Over) (c : In_default g) where
@@ -163,16 +170,23 @@ module _ (g : Over) (c : In_default g) where
       (g.O.Observer.has_seen c.args.observer.now) (g.O.Observer.has_seen c.loop-proxy.observer)) (sym c.self.view_is)
       (c.loop-proxy.invariant.reaches state given are)
 
-pub returns-clause-ok : goal.returns-clause-ok
-returns-clause-ok g c = λ state given are.
-    let d = (goal.at.returns-clause-ok g c).In_default in
-    let window = c.args.self.now.set.window in
-    subst (λ hs. IsIn (leave_all window state) given (record (last g d) { held = hs })) (sym c.in_default.ensures.unchanged)
-    (IsIn-reached window state given (last g d) (g.O.Observer.has_seen c.args.observer.now)
-    (g.O.Observer.has_seen c.loop-proxy.observer) (reached_last g d state given are) (none g d))
+pub returns-clause-advances : goal.returns-clause-advances
+returns-clause-advances g c = record {
+  ok = λ state given are.
+      let d = (goal.at.returns-clause-advances g c).In_default in
+      let window = c.args.self.now.set.window in
+      subst (λ hs. IsIn (leave_all window state) given (record (last g d) { held = hs })) (sym c.in_default.ensures.unchanged)
+      (IsIn-reached window state given (last g d) (g.O.Observer.has_seen c.args.observer.now)
+      (g.O.Observer.has_seen c.loop-proxy.observer) (reached_last g d state given are) (none g d));
+  err = search rules;
+  continues = search rules;
+}
 
-pub returns-clause-seen : goal.returns-clause-seen
-returns-clause-seen g c = λ state given are.
-    let d = (goal.at.returns-clause-seen g c).In_default in
-    seen_reached c.args.self.now.set.window state given (last g d) (g.O.Observer.has_seen c.args.observer.now)
-    (g.O.Observer.has_seen c.loop-proxy.observer) (reached_last g d state given are) (none g d)
+pub returns-clause-shows : goal.returns-clause-shows
+returns-clause-shows g c = record {
+  seen = λ state given are.
+      let d = (goal.at.returns-clause-shows g c).In_default in
+      seen_reached c.args.self.now.set.window state given (last g d) (g.O.Observer.has_seen c.args.observer.now)
+      (g.O.Observer.has_seen c.loop-proxy.observer) (reached_last g d state given are) (none g d);
+  seen_between = search rules;
+}

@@ -20,23 +20,31 @@ use Rattle.resolver.proofs.resolver_core.Core.take.Goals.{
   else-batch-self+in_ok-answer,
 }
 
-pub returns-in_err-hold-clause-err : goal.returns-in_err-hold-clause-err
-returns-in_err-hold-clause-err g c =
-    OnErr-always c.from_residual.result (λ state given are.
-    MadeBetween-step c.args.self.now.set.window (Take c.args.proxy c.args.batch) state given c.args.self.now
-    c.hold.new.self are c.in_err-hold.ensures.err)
+pub returns-in_err-hold-clause-advances : goal.returns-in_err-hold-clause-advances
+returns-in_err-hold-clause-advances g c = record {
+  ok = search rules;
+  err =
+      OnErr-always c.from_residual.result (λ state given are.
+      MadeBetween-step c.args.self.now.set.window (Take c.args.proxy c.args.batch) state given c.args.self.now
+      c.hold.new.self are c.in_err-hold.ensures.advances.err);
+  continues = search rules;
+}
 
-pub returns-in_err-answer-clause-err : goal.returns-in_err-answer-clause-err
-returns-in_err-answer-clause-err g c =
-    OnErr-always c.from_residual-in_err-answer.result (λ state given are.
-    MadeBetween-step c.args.self.now.set.window (Take c.args.proxy c.args.batch) state given c.args.self.now
-    c.answer.new.self are c.in_err-answer.ensures.err)
+pub returns-in_err-answer-clause-advances : goal.returns-in_err-answer-clause-advances
+returns-in_err-answer-clause-advances g c = record {
+  ok = search rules;
+  err =
+      OnErr-always c.from_residual-in_err-answer.result (λ state given are.
+      MadeBetween-step c.args.self.now.set.window (Take c.args.proxy c.args.batch) state given c.args.self.now
+      c.answer.new.self are c.in_err-answer.ensures.answers.advances.err);
+  continues = search rules;
+}
 
 pub returns-in_err-answer-clause-arena_full : goal.returns-in_err-answer-clause-arena_full
 returns-in_err-answer-clause-arena_full g c = λ is state given are.
     let full = same_stop c.from_residual-in_err-answer.result c.in_err-answer.field-0.0 ArenaFull
     c.from_residual-in_err-answer.ensures.1 is in
-    inl (c.in_err-answer.ensures.arena_full (ap Err full) state given are)
+    inl (c.in_err-answer.ensures.answers.arena_full (ap Err full) state given are)
 
 module _ (g : Over) (c : After-release g) where
   -- the batch is held or answered by now
@@ -46,18 +54,18 @@ module _ (g : Over) (c : After-release g) where
       let next = admit c.args.self.now.set.window c.args.proxy c.args.batch state in
       elim c.if-batch-self.branch [
         | then-batch-self+in_ok-hold w ↦
-            subst (IsIn next given) (sym w.self-is) (w.in_ok-hold.ensures.ok state given are)
+            subst (IsIn next given) (sym w.self-is) (w.in_ok-hold.ensures.advances.ok state given are)
         | else-batch-self+in_ok-answer w ↦
-            subst (IsIn next given) (sym w.self-is) (w.in_ok-answer.ensures.ok state given are)
+            subst (IsIn next given) (sym w.self-is) (w.in_ok-answer.ensures.answers.advances.ok state given are)
       ]
 
   continues : Continues c.args.self.now c.if-batch-self.self
   continues =
       elim c.if-batch-self.branch [
         | then-batch-self+in_ok-hold w ↦
-            subst (Continues c.args.self.now) (sym w.self-is) w.hold.ensures.continues
+            subst (Continues c.args.self.now) (sym w.self-is) w.hold.ensures.advances.continues
         | else-batch-self+in_ok-answer w ↦
-            subst (Continues c.args.self.now) (sym w.self-is) w.answer.ensures.continues
+            subst (Continues c.args.self.now) (sym w.self-is) w.answer.ensures.answers.advances.continues
       ]
 
   -- and the observer has seen what is processed by then
@@ -80,59 +88,67 @@ module _ (g : Over) (c : After-release g) where
             (subst (λ (s : State). g.O.Observer.has_seen c.args.observer.now s.processed) (sym held) seen)
         | else-batch-self+in_ok-answer w ↦
             subst (λ o. g.O.Observer.has_seen o next) (sym w.observer-is)
-            (w.in_ok-answer.ensures.seen state given are seen)
+            (w.in_ok-answer.ensures.shows.seen state given are seen)
       ]
 
-pub returns-in_err-hold-clause-seen_between : goal.returns-in_err-hold-clause-seen_between
-returns-in_err-hold-clause-seen_between g c =
-    OnErr-always c.from_residual.result (λ state given are seen.
-    seen_none (g.O.Observer.has_seen c.args.observer.now) c.args.self.now.set.window (Take c.args.proxy c.args.batch)
-    state seen)
+pub returns-in_err-hold-clause-shows : goal.returns-in_err-hold-clause-shows
+returns-in_err-hold-clause-shows g c = record {
+  seen = search rules;
+  seen_between =
+      OnErr-always c.from_residual.result (λ state given are seen.
+      seen_none (g.O.Observer.has_seen c.args.observer.now) c.args.self.now.set.window (Take c.args.proxy c.args.batch)
+      state seen);
+}
 
-pub returns-in_err-answer-clause-seen_between : goal.returns-in_err-answer-clause-seen_between
-returns-in_err-answer-clause-seen_between g c =
-    OnErr-always c.from_residual-in_err-answer.result (λ state given are seen.
-    seen_none (g.O.Observer.has_seen c.answer.new.observer) c.args.self.now.set.window (Take c.args.proxy c.args.batch)
-    state (c.in_err-answer.ensures.unseen state.processed seen))
+pub returns-in_err-answer-clause-shows : goal.returns-in_err-answer-clause-shows
+returns-in_err-answer-clause-shows g c = record {
+  seen = search rules;
+  seen_between =
+      OnErr-always c.from_residual-in_err-answer.result (λ state given are seen.
+      seen_none (g.O.Observer.has_seen c.answer.new.observer) c.args.self.now.set.window (Take c.args.proxy c.args.batch)
+      state (c.in_err-answer.ensures.shows.unseen state.processed seen));
+}
 
-pub returns-clause-ok : goal.returns-clause-ok
-returns-clause-ok g c =
-    let d = (goal.at.returns-clause-ok g c).After-release in
-    on_ok_weaker c.release.result (λ ok state given are.
-    let next = admit c.args.self.now.set.window c.args.proxy c.args.batch state in
-    subst (λ w. IsIn (leave_all w next) given c.release.new.self) (continues g d).window
-    (ok next given (admitted g d state given are))) c.release.ensures.ok
+pub returns-clause-advances : goal.returns-clause-advances
+returns-clause-advances g c =
+    let d = (goal.at.returns-clause-advances g c).After-release in
+    record {
+      ok =
+          on_ok_weaker c.release.result (λ ok state given are.
+          let next = admit c.args.self.now.set.window c.args.proxy c.args.batch state in
+          subst (λ w. IsIn (leave_all w next) given c.release.new.self) (continues g d).window
+          (ok next given (admitted g d state given are))) c.release.ensures.advances.ok;
+      err =
+          on_err_weaker c.release.result (λ err state given are.
+          let window = c.args.self.now.set.window in
+          let next = admit window c.args.proxy c.args.batch state in
+          MadeBetween-earlier state next (leave_all window next) given c.release.new.self
+          (grows_admit window c.args.proxy c.args.batch state)
+          (subst (λ w. MadeBetween next (leave_all w next) given c.release.new.self) (continues g d).window
+          (err next given (admitted g d state given are)))) c.release.ensures.advances.err;
+      continues =
+          Continues-then c.args.self.now c.if-batch-self.self c.release.new.self (continues g d) c.release.ensures.advances.continues;
+    }
 
-pub returns-clause-err : goal.returns-clause-err
-returns-clause-err g c =
-    let d = (goal.at.returns-clause-err g c).After-release in
-    on_err_weaker c.release.result (λ err state given are.
-    let window = c.args.self.now.set.window in
-    let next = admit window c.args.proxy c.args.batch state in
-    MadeBetween-earlier state next (leave_all window next) given c.release.new.self
-    (grows_admit window c.args.proxy c.args.batch state)
-    (subst (λ w. MadeBetween next (leave_all w next) given c.release.new.self) (continues g d).window
-    (err next given (admitted g d state given are)))) c.release.ensures.err
-
-pub returns-clause-seen : goal.returns-clause-seen
-returns-clause-seen g c =
-    let d = (goal.at.returns-clause-seen g c).After-release in
-    on_ok_weaker c.release.result (λ sees state given are seen.
-    let next = admit c.args.self.now.set.window c.args.proxy c.args.batch state in
-    subst (λ w. g.O.Observer.has_seen c.release.new.observer (leave_all w next).processed) (continues g d).window
-    (sees next given (admitted g d state given are) (seen_admitted g d state given are seen))) c.release.ensures.seen
-
-pub returns-clause-seen_between : goal.returns-clause-seen_between
-returns-clause-seen_between g c =
-    let d = (goal.at.returns-clause-seen_between g c).After-release in
-    on_err_weaker c.release.result (λ sees state given are seen.
-    let window = c.args.self.now.set.window in
-    let next = admit window c.args.proxy c.args.batch state in
-    let has_seen = g.O.Observer.has_seen c.release.new.observer in
-    seen_earlier has_seen state next (leave_all window next) (grows_admit window c.args.proxy c.args.batch state)
-    (subst (λ w. HasSeenBetween has_seen next.processed (leave_all w next).processed) (continues g d).window
-    (sees next given (admitted g d state given are) (seen_admitted g d state given are seen))))
-    c.release.ensures.seen_between
+pub returns-clause-shows : goal.returns-clause-shows
+returns-clause-shows g c =
+    let d = (goal.at.returns-clause-shows g c).After-release in
+    record {
+      seen =
+          on_ok_weaker c.release.result (λ sees state given are seen.
+          let next = admit c.args.self.now.set.window c.args.proxy c.args.batch state in
+          subst (λ w. g.O.Observer.has_seen c.release.new.observer (leave_all w next).processed) (continues g d).window
+          (sees next given (admitted g d state given are) (seen_admitted g d state given are seen))) c.release.ensures.shows.seen;
+      seen_between =
+          on_err_weaker c.release.result (λ sees state given are seen.
+          let window = c.args.self.now.set.window in
+          let next = admit window c.args.proxy c.args.batch state in
+          let has_seen = g.O.Observer.has_seen c.release.new.observer in
+          seen_earlier has_seen state next (leave_all window next) (grows_admit window c.args.proxy c.args.batch state)
+          (subst (λ w. HasSeenBetween has_seen next.processed (leave_all w next).processed) (continues g d).window
+          (sees next given (admitted g d state given are) (seen_admitted g d state given are seen))))
+          c.release.ensures.shows.seen_between;
+    }
 
 pub returns-clause-arena_full : goal.returns-clause-arena_full
 returns-clause-arena_full g c = λ is state given are.
@@ -144,11 +160,6 @@ returns-clause-arena_full g c = λ is state given are.
     inr (subst (λ n. StopsAsTheyLeave n set.window next given new) (continues g d).limit
     (subst (λ w. StopsAsTheyLeave limit w next given new) (continues g d).window
     (c.release.ensures.arena_full is next given (admitted g d state given are))))
-
-pub returns-clause-continues : goal.returns-clause-continues
-returns-clause-continues g c =
-    let d = (goal.at.returns-clause-continues g c).After-release in
-    Continues-then c.args.self.now c.if-batch-self.self c.release.new.self (continues g d) c.release.ensures.continues
 
 -- the batch isn't ahead, or the gate had room for it
 not_full : (g : Over) (c : After-release g) → c.args.self.now.version <ℤ c.args.batch.previous

@@ -7,5 +7,5 @@ invariant_of-self c =
     record {
       same_lanes =
           AreClients-later s.resolver.lanes c.turn.new.self.lanes s.clients.items s.clients.items s.same_lanes
-          c.turn.ensures.lanes (clients_same s.clients.items);
+          c.turn.ensures.turns.steps.lanes (clients_same s.clients.items);
     }

@@ -1,5 +1,5 @@
 use Rattle.lane.proofs.RingRule.{begins}
-use Rattle.lane.proofs.ring.ring.Goals as goal
+use Rattle.lane.proofs.ends.lane.Goals as goal
 
 pub vacant-requires : goal.vacant-requires
 vacant-requires g c = begins _ c.requires.some
