@@ -1,6 +1,5 @@
 -- In the order in which one reads them aloud.
 pub mod Arena
-pub mod Calls
 pub mod Entry
 pub mod Chunk
 pub mod ChunkLends

@@ -7,7 +7,6 @@ ghost use Rattle.std.specs.Option.{is_some};
 ghost use Rattle.std.specs.Borrow.{sem};
 ghost use Rattle.std.specs.FinMap as map;
 ghost use Rattle.arena.specs.Arena.{size_of, slots_of, wanted_of, record_at, header_at, key_at};
-ghost use Rattle.arena.specs.Calls.{FillsUp};
 ghost use Rattle.arena.specs.Arena.{spare_of, with_header, IsLive, HasRoomFor};
 ghost use Rattle.arena.specs.declared.size.TheConstants.{MAX_LENGTH, SIZES};
 
@@ -105,7 +104,20 @@ impl<H: Copy, A: Allocator + Copy> Arena<H, A> {
     /// slots are spare. No chunk is taken beyond the one that makes them enough.
     pub fn reserve_slots(&mut self, length: usize, count: usize) -> Result<(), ArenaError>
         requires fits { length ≤ MAX_LENGTH }
-        ensures fills { FillsUp (size_of length) count result self.old self.new }
+        ensures room { OnOk result (count ≤ spare_of self.new (size_of length)) }
+        ensures records { self.new.records ≡ self.old.records }
+        ensures spare_stays { spare_of self.old (size_of length)
+            ≤ spare_of self.new (size_of length) }
+        ensures other_sizes { (size : ℕ) → size ≢ size_of length
+            → spare_of self.new size ≡ spare_of self.old size }
+        ensures no_more { count ≤ spare_of self.old (size_of length)
+            → spare_of self.new (size_of length) ≡ spare_of self.old (size_of length) }
+        ensures most { spare_of self.old (size_of length) < count
+            → spare_of self.new (size_of length) < count + slots_of (size_of length) }
+
+        // It is refused `Memory` alone, and only where some is wanted.
+        ensures enough { count ≤ spare_of self.old (size_of length) → IsOk result }
+        ensures memory { IsOkUnless result ArenaError.Memory }
     {
         self.fill_up(size_of(length), count)
     }
@@ -240,7 +252,16 @@ impl<H: Copy, A: Allocator + Copy> Arena<H, A> {
     // Adds chunks until `wanted` slots of the size are spare.
     fn fill_up(&mut self, size: usize, wanted: usize) -> Result<(), ArenaError>
         requires size { size < SIZES }
-        ensures fills { FillsUp size wanted result self.old self.new }
+        ensures room { OnOk result (wanted ≤ spare_of self.new size) }
+        ensures records { self.new.records ≡ self.old.records }
+        ensures spare_stays { spare_of self.old size ≤ spare_of self.new size }
+        ensures other_sizes { (s : ℕ) → s ≢ size → spare_of self.new s ≡ spare_of self.old s }
+        ensures enough { wanted ≤ spare_of self.old size → IsOk result }
+        ensures no_more { wanted ≤ spare_of self.old size
+            → spare_of self.new size ≡ spare_of self.old size }
+        ensures most { spare_of self.old size < wanted
+            → spare_of self.new size < wanted + slots_of size }
+        ensures memory { IsOkUnless result ArenaError.Memory }
     {
         while self.spares.count(size) < wanted {
             self.grow(size)?;
