@@ -1,76 +1,99 @@
-use Rattle.std.proofs.Common.{rules, ◌≡◌, ◌≤◌, ◌+◌, length, arith}
-use Rattle.std.proofs.Common.{List, [], map, Fits, w64}
-use Rattle.std.proofs.lemmas.List.{append-nil, length-map}
-use Rattle.boundaries.specs.Item.{Item, item_of}
-use Rattle.boundaries.specs.Overwrite.{Overwrites, put_of}
+use Rattle.std.proofs.Common.{rules, ℕ, Bool, true, ◌≡◌, ◌∙◌, [], None, refl, ap, subst, append-nil, arith}
+use Rattle.boundaries.specs.declared.walk.LeafOutcome.TheVariants.{Raised}
+use Rattle.boundaries.specs.Item.{item_of}
+use Rattle.boundaries.specs.Overwrite.{IsPartOfPartitioned}
 use Rattle.boundaries.specs.Subtree.{items_in}
-use Rattle.boundaries.proofs.HeadList.{headed_from_list, headed_in_list}
-use Rattle.boundaries.proofs.Inserting.{can_change, tree_put}
-use Rattle.boundaries.proofs.KnownItems.{know_items}
-use Rattle.boundaries.proofs.OverwrittenItems.{length-overwritten, put_most}
-use Rattle.boundaries.proofs.PartWritten.{overwritten}
-use Rattle.boundaries.proofs.tree.Tree.overwrite.Goals as goal
-use Rattle.boundaries.proofs.tree.Tree.overwrite.Goals.{After-len}
+use Rattle.boundaries.specs.Walk.{CanChange, IsChanged, IsRaisedAt, IsRaisedIn}
+use Rattle.boundaries.proofs.ChangedLeaf.{leaf_stored}
+use Rattle.boundaries.proofs.RaisedLeaves.{part_of_raised, raised_tree, root_can, within_raised, written}
+use Rattle.boundaries.proofs.WrittenLeaf.{part_partitioned, raised}
+use Rattle.boundaries.proofs.root.overwrite.Goals.{In-Some, In-Some-write_in_leaf, in-Some+in_default-write_in_leaf, in_default}
+use Rattle.boundaries.proofs.root.overwrite.Goals as goal
 
-pub overwrite-written-requires : goal.overwrite-written-requires
-overwrite-written-requires c =
-    let can = rw (← c.self.view_is) at c.requires.can_overwrite in
-    let headed = headed_from_list (g.Q.Bound.bytes c.args.new.now.to.now) c.self.inside.nodes can.headed in
-    let t = c.self.invariant in
-    let known = can_change t.0 (omega arith) can.to headed ([], [], rw append-nil can.from) can.none_taken in
-    (omega arith, (omega arith, (known, t.1)))
+-- the leaf of the last write, in the tree as it is
+module _ (c : In-Some) where
+  open c use {args.{nodes.{now as nodes}, root.{now as root}, new.{now as new}}, requires.{can_change}, in-Some.{leaf}}
 
-module _ (c : After-len) where
-  open c use {args.{new.{now as new}}, self.{inside as old}, overwrite-written.{result as written, new.{nodes, root, taken}}}
+  abbrev p : ℕ → Bool
+  p = g.P.Bound.below new.from.now
 
-  abbrev was : List Item
-  was = items_in old.nodes old.root.height old.root.slot
+  abbrev q : ℕ → Bool
+  q = g.Q.Bound.below new.to.now
 
-  abbrev now : List Item
-  now = items_in nodes root.height root.slot
+  there : IsRaisedIn nodes leaf root.height root.slot
+  there = rw c.in-Some.is at c.requires.raised
 
-  -- what became of the items
-  done : Overwrites (g.P.Bound.below new.from.now) (g.Q.Bound.below new.to.now) (g.R.Bound.below new.past.now)
-      (item_of new.first) new.second new.last written (map item_of taken.items) was now
-  done =
-      let can = rw (← c.self.view_is) at c.requires.can_overwrite in
-      overwritten _ _ _ new.nested _ _ _ _ _ was now c.overwrite-written.ensures.items can.from can.to can.past can.some
+  first_part : CanChange nodes 0 leaf.slot × IsPartOfPartitioned p (items_in nodes 0 leaf.slot)
+  first_part = part_of_raised leaf p root.height root.slot (root_can can_change.changeable) there can_change.wanted
 
-  -- how many items there are
-  counted : (length now + c.len.result ≡ length was + put_of written) × (1 ≤ length now)
-  counted =
-      let can = rw (← c.self.view_is) at c.requires.can_overwrite in
-      let count = length-overwritten _ _ _ new.nested _ _ _ _ _ was now can.some done in
-      rw (length-map, ← c.len.ensures.value) at count
+  second_part : CanChange nodes 0 leaf.slot × IsPartOfPartitioned q (items_in nodes 0 leaf.slot)
+  second_part =
+      part_of_raised leaf q root.height root.slot (root_can can_change.changeable) there ([], [], rw append-nil can_change.partitioned)
 
-pub overflow_add-self : goal.overflow_add-self
-overflow_add-self c =
-    let fits : Fits w64 c.self.inside.room = search rules in
-    let can = rw (← c.self.view_is) at c.requires.can_overwrite in
-    omega (arith, can.room, c.put.ensures.put, put_most c.overwrite-written.result, c.self.invariant.0.counted)
-
-pub overflow_sub-self : goal.overflow_sub-self
-overflow_sub-self c =
-    omega (arith, counted g (goal.at.overflow_sub-self c).After-len, c.put.ensures.put, c.self.invariant.0.counted)
-
-pub invariant_of-self : goal.invariant_of-self
-invariant_of-self c =
-    let count = counted g (goal.at.invariant_of-self c).After-len in
-    let put = c.put.ensures.put in
-    let can = rw (← c.self.view_is) at c.requires.can_overwrite in
-    let most = put_most c.overwrite-written.result in
-    let was = c.self.invariant.0 in
-    let tree = c.overwrite-written.ensures.tree in (
-      tree_put c.self.inside.nodes _ _ _ _ _ _ _ _ was tree.rooted tree.spare (omega (arith, was.counted))
-          (omega (arith, was.counted)) (omega (arith, can.room, was.counted)),
-      c.overwrite-written.ensures.tree.raised_is,
+pub write_in_leaf-requires : goal.write_in_leaf-requires
+write_in_leaf-requires c =
+    let h = (goal.at.write_in_leaf-requires c).In-Some in
+    let can = (first_part g h).0 in (
+      search rules,
+      (
+        search rules,
+        record {
+          fan_out = can.fan_out;
+          few = can.few;
+          live = can.subtree;
+          some = can.some;
+          keyless = can.keyless;
+          room = can.room;
+          headed = c.requires.can_change.headed;
+          first_bound = part_partitioned (p g h) _ (first_part g h).1;
+          second_bound = part_partitioned (q g h) _ (second_part g h).1;
+          none_taken = c.requires.can_change.none_taken;
+        },
+      ),
     )
 
-pub returns-clause-items : goal.returns-clause-items
-returns-clause-items c = rw (← c.self.view_is) (done g (goal.at.returns-clause-items c).After-len)
+-- the leaf once the run was written over
+changed : (c : In-Some-write_in_leaf) → IsChanged (g.Q.Bound.bytes c.args.new.now.to.now) c.args.nodes.now
+    c.write_in_leaf.new.nodes 0 c.in-Some.leaf.slot (Raised c.in-Some.leaf)
+changed c =
+    let h = (goal.at.In-Some-write_in_leaf c).In-Some in
+    let leaf = c.in-Some.leaf in
+    let new = c.args.new.now in
+    let done = c.in-Some-write_in_leaf.ensures.written in
+    let gives = done.1.gives true None in
+    let answered : IsRaisedAt c.args.nodes.now c.write_in_leaf.new.nodes 0 leaf.slot leaf = record {
+      there = refl;
+      items = rw done.0 at (raised (p g h) (q g h) new.nested (item_of new.first) new.second c.in-Some-write_in_leaf.ended _ _
+          (part_partitioned (p g h) _ (first_part g h).1) done.1.some_before gives.some (rw done.1.given_none at gives.written));
+      filled = λ low. done.1.filled;
+      no_fewer = λ high. absurd (omega (arith, high));
+    } in
+    leaf_stored (Raised leaf) (first_part g h).0 done.1.stored (λ e. absurd (cc))
+    (λ other is. subst (IsRaisedAt c.args.nodes.now c.write_in_leaf.new.nodes 0 leaf.slot) (let same : leaf ≡ other = cc in same) answered)
 
-pub returns-clause-headed : goal.returns-clause-headed
-returns-clause-headed c = headed_in_list _ c.overwrite-written.new.nodes c.overwrite-written.ensures.tree.headed
+pub returns-in-Some-write_in_leaf-clause-items : goal.returns-in-Some-write_in_leaf-clause-items
+returns-in-Some-write_in_leaf-clause-items c =
+    let at = goal.at.returns-in-Some-write_in_leaf-clause-items c in
+    let done = (c.in-Some-write_in_leaf.ensures.written).1 in
+    within_raised c.in-Some.leaf (changed g at.In-Some-write_in_leaf) (q g at.In-Some) _ _ _
+    (root_can c.requires.can_change.changeable) (there g at.In-Some) c.requires.can_change.partitioned (done.gives true None).some
+    done.some_after done.gives
 
-pub returns-clause-known : goal.returns-clause-known
-returns-clause-known c = know_items c.overwrite-written.new.nodes _ _ c.self.inside.room c.overwrite-written.ensures.tree.rooted
+pub returns-in-Some-write_in_leaf-clause-tree : goal.returns-in-Some-write_in_leaf-clause-tree
+returns-in-Some-write_in_leaf-clause-tree c =
+    let at = goal.at.returns-in-Some-write_in_leaf-clause-tree c in
+    let can = c.requires.can_change.changeable in
+    rw c.in-Some.is (raised_tree c.in-Some.leaf can.rooted (written c.in-Some.leaf (changed g at.In-Some-write_in_leaf) _ _
+    (root_can can) (there g at.In-Some)).changed)
+
+-- Where no run was written over, all is as it was.
+pub change-requires : goal.change-requires
+change-requires c =
+    let kept : (c.match-raised.nodes ≡ c.args.nodes.now) × (c.match-raised.taken.items ≡ c.args.taken.now.items) =
+    elim c.match-raised.branch [
+      | in-Some+in_default-write_in_leaf w ↦
+          let none = w.in_default-write_in_leaf.ensures.written in
+          (w.nodes-is ∙ none.0, ap (λ t. t.items) w.taken-is ∙ none.1)
+      | in_default w ↦ (w.nodes-is, ap (λ t. t.items) w.taken-is)
+    ] in
+    (search rules, (search rules, rw (kept.0, kept.1) c.requires.can_change))
