@@ -114,13 +114,10 @@ module _ {old : Store} {height lower slot i x : ℕ} (at : IsAt old.nodes height
   items_kept : items_in b height slot ≡ around at (items_in b lower x)
   items_kept = (step_rebalanced at put refl made).items_are
 
-module _ {old : Store} (leaf : RaisedLeaf) where
-  abbrev a : Arena Node
-  a = old.nodes
-
+module _ (old : Store) (leaf : RaisedLeaf) where
   -- the node at a slot, and the child that leads to the leaf
-  at_raised : (lower slot : ℕ) → CanChange a (suc lower) slot → (h : IsRaisedIn a leaf (suc lower) slot)
-      → IsAt a (suc lower) lower slot h.0 h.1.child
+  at_raised : (lower slot : ℕ) → CanChange old.nodes (suc lower) slot → (h : IsRaisedIn old.nodes leaf (suc lower) slot)
+      → IsAt old.nodes (suc lower) lower slot h.0 h.1.child
   at_raised lower slot can (i, d, within, is, h) = record {
     can = can;
     next = refl;
@@ -132,64 +129,61 @@ module _ {old : Store} (leaf : RaisedLeaf) where
   }
 
   -- The leaf's items are a part of those of the subtree.
-  pub part_of_raised : (is_below : ℕ → Bool) (height slot : ℕ) → CanChange a height slot → IsRaisedIn a leaf height slot
-      → IsPartOfPartitioned is_below (items_in a height slot)
-      → CanChange a 0 leaf.slot × IsPartOfPartitioned is_below (items_in a 0 leaf.slot)
+  pub part_of_raised : (is_below : ℕ → Bool) (height slot : ℕ) → CanChange old.nodes height slot → IsRaisedIn old.nodes leaf height slot
+      → IsPartOfPartitioned is_below (items_in old.nodes height slot)
+      → CanChange old.nodes 0 leaf.slot × IsPartOfPartitioned is_below (items_in old.nodes 0 leaf.slot)
   part_of_raised is_below zero slot can same part =
-      subst (λ s. CanChange a 0 s × IsPartOfPartitioned is_below (items_in a 0 s)) same (can, part)
+      subst (λ s. CanChange old.nodes 0 s × IsPartOfPartitioned is_below (items_in old.nodes 0 s)) same (can, part)
   part_of_raised is_below (suc lower) slot can h part =
       let at = at_raised lower slot can h in
       part_of_raised is_below lower h.1.child (child_can at) h.4.1
-      (part_of_part is_below _ (items_in a lower h.1.child) _ (rw (items_split at) at part))
+      (part_of_part is_below _ (items_in old.nodes lower h.1.child) _ (rw (items_split at) at part))
 
   module _ {new : Store} (put : IsChanged old new 0 leaf.slot (Raised leaf)) where
-    abbrev b : Arena Node
-    b = new.nodes
-
     -- a subtree once the leaf was changed
     pub record IsWritten (height slot : ℕ) : Type 0 where
       pub changed : IsChanged old new height slot (Raised leaf)
       pub before : List Item
       pub after : List Item
-      pub was_is : items_in a height slot ≡ before ++ (items_in a 0 leaf.slot ++ after)
-      pub now_is : items_in b height slot ≡ before ++ (items_in b 0 leaf.slot ++ after)
+      pub was_is : items_in old.nodes height slot ≡ before ++ (items_in old.nodes 0 leaf.slot ++ after)
+      pub now_is : items_in new.nodes height slot ≡ before ++ (items_in new.nodes 0 leaf.slot ++ after)
 
-    pub written : (height slot : ℕ) → CanChange a height slot → IsRaisedIn a leaf height slot → IsWritten height slot
+    pub written : (height slot : ℕ) → CanChange old.nodes height slot → IsRaisedIn old.nodes leaf height slot → IsWritten height slot
     written zero slot can same = rw same record {
       changed = put;
       before = [];
       after = [];
-      was_is = sym (append-nil (items_in a 0 leaf.slot));
-      now_is = sym (append-nil (items_in b 0 leaf.slot));
+      was_is = sym (append-nil (items_in old.nodes 0 leaf.slot));
+      now_is = sym (append-nil (items_in new.nodes 0 leaf.slot));
     }
     written (suc lower) slot can h =
         let at = at_raised lower slot can h in
         let w = written lower h.1.child (child_can at) h.4.1 in
-        let answered = ap (λ (e : NodeEntry). e.version) (get_or_default (entries_at a slot) h.0 at.d h.1 at.within ∙ h.3) ∙ h.4.0 in
+        let answered = ap (λ (e : NodeEntry). e.version) (get_or_default (entries_at old.nodes slot) h.0 at.d h.1 at.within ∙ h.3) ∙ h.4.0 in
         record {
           changed = changed_kept at leaf w.changed answered;
-          before = items_of a lower (take h.0 (entries_at a slot)) ++ w.before;
-          after = w.after ++ items_of a lower (drop (h.0 + 1) (entries_at a slot));
+          before = items_of old.nodes lower (take h.0 (entries_at old.nodes slot)) ++ w.before;
+          after = w.after ++ items_of old.nodes lower (drop (h.0 + 1) (entries_at old.nodes slot));
           was_is = items_split at ∙ simp (w.was_is, append_assoc);
           now_is = items_kept at leaf w.changed answered ∙ simp (w.now_is, append_assoc);
         }
 
     -- The items of a tree of which the leaf was changed, that has items on both sides of a bound.
     pub within_raised : (is_below : ℕ → Bool) (Gives : Option ℕ → List Item → List Item → Type 0) (height slot : ℕ)
-        → CanChange a height slot → IsRaisedIn a leaf height slot → IsPartitioned (λ x. is_below x.key) (items_in a height slot)
-        → items_below is_below (items_in a 0 leaf.slot) ≢ [] → following is_below (items_in a 0 leaf.slot) ≢ []
-        → ((next : Option ℕ) → Gives next (items_in a 0 leaf.slot) (items_in b 0 leaf.slot))
-        → IsChangedWithin is_below Gives None (items_in a height slot) (items_in b height slot)
+        → CanChange old.nodes height slot → IsRaisedIn old.nodes leaf height slot → IsPartitioned (λ x. is_below x.key) (items_in old.nodes height slot)
+        → items_below is_below (items_in old.nodes 0 leaf.slot) ≢ [] → following is_below (items_in old.nodes 0 leaf.slot) ≢ []
+        → ((next : Option ℕ) → Gives next (items_in old.nodes 0 leaf.slot) (items_in new.nodes 0 leaf.slot))
+        → IsChangedWithin is_below Gives None (items_in old.nodes height slot) (items_in new.nodes height slot)
     within_raised is_below Gives height slot can there partitioned some_below some_after gives =
         let w = written height slot can there in
         let p = λ (x : Item). is_below x.key in
-        let items = items_in a 0 leaf.slot in
+        let items = items_in old.nodes 0 leaf.slot in
         let parts = IsPartitioned-parts p w.before (items ++ w.after) (rw w.was_is at partitioned) in
         let rest = IsPartitioned-parts p items w.after parts.1 in
         record {
           before = w.before;
           leaf = items;
-          changed = items_in b 0 leaf.slot;
+          changed = items_in new.nodes 0 leaf.slot;
           following = w.after;
           was_is = w.was_is;
           now_is = w.now_is;

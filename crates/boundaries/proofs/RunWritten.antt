@@ -1,5 +1,5 @@
 -- The items of a leaf of which a run is written over, or its first items are removed.
-use Rattle.std.proofs.Common.{◌≡◌, ◌≢◌, ◌⊎◌, inl, inr, ℕ, ℤ, ◌+◌, ◌-◌, ◌<◌, ◌≤◌, if◌then◌else◌, List, [], ◌∷◌, ◌++◌, Option, None, Some, length, take, drop, map, unwrap_or, refl, sym, ap, ◌∙◌, arith}
+use Rattle.std.proofs.Common.{◌≡◌, ◌≢◌, ◌⊎◌, inl, inr, ℕ, ℤ, ◌+◌, ◌-◌, ◌<◌, ◌≤◌, if◌then◌else◌, List, [], ◌∷◌, ◌++◌, Option, None, Some, length, slice_get, take, drop, map, unwrap_or, refl, sym, ap, ◌∙◌, arith}
 use Rattle.std.specs.Prelude.{slice_range}
 use Rattle.std.proofs.lemmas.List.{drop-take, length-take-le, map-append, same_from_push}
 use mathlib.Core.List.{map-map}
@@ -38,6 +38,16 @@ pub keys_removed : {out : List NodeEntry} (es : List NodeEntry) (begin end : ℕ
 keys_removed es begin end same in_order =
     let all : begin + (end - begin) ≡ end = omega arith in
     rw (same, ← drop-take begin (end - begin) es, all) refl
+
+-- the first of some entries, and its item
+pub record FirstItem (es : List NodeEntry) : Type 0 where
+  pub entry : NodeEntry
+  pub there : slice_get es 0 ≡ Some entry
+  pub items : map item_of es ≡ item_of entry ∷ map item_of (drop 1 es)
+
+pub first_item : (es : List NodeEntry) → 0 < length es → FirstItem es
+first_item [] some = absurd (omega arith)
+first_item (e ∷ es) some = record { entry = e; there = refl; items = refl }
 
 module _ (es : List NodeEntry) (end : ℕ) (some : 0 < end) (within : end ≤ length es) where
   -- the last entry before an index
