@@ -32,7 +32,7 @@ use Rattle.boundaries.proofs.callers.Order.{Rising, rising_from, rising_in_order
 use Rattle.boundaries.proofs.callers.Values.{FirstAfter, first_after_all, value_after, value_front, value_back}
 use Rattle.boundaries.proofs.callers.WritingValues.{begins_before_end}
 use Rattle.keys.proofs.callers.SomeElement.{Any-first, Any-later}
-use Rattle.stepmap.proofs.Looking.{filter_shorter}
+use Rattle.boundaries.proofs.callers.LeftFrom.{filter_shorter}
 
 index_is : (xs ys : List Boundary) (i : ℕ) → i ≤ length xs → take i xs ≡ ys → i ≡ length ys
 index_is xs ys i le e = sym (length-take-le i xs le) ∙ ap length e

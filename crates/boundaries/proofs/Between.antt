@@ -1,23 +1,25 @@
 -- The boundaries between two bounds, and what they say of the values in a range.
-use Rattle.std.proofs.Common.{◌≡◌, ℕ, ◌+◌, ◌-◌, Bool, true, false, not, ◌&&◌, List, [], ◌∷◌, ◌++◌, length, Option, None, Some, take, drop, filter, refl, sym, ◌∙◌, ap, subst, inl, inr, arith, unwrap_or, option_map, length-append}
+use Rattle.std.proofs.Common.{◌≡◌, ℕ, ◌+◌, ◌-◌, Bool, true, false, not, ◌&&◌, List, [], ◌∷◌, ◌++◌, length, Some, take, drop, filter, refl, sym, ◌∙◌, ap, subst, inl, inr, arith, length-append}
 use Rattle.std.specs.Prelude.{ℤ, negsuc, ◌≤ℤ◌, ◌<ℤ◌, Any, slice_range}
 use Rattle.std.proofs.Math.Seq.{take-append_seam, drop-append_seam}
 use Rattle.std.proofs.lemmas.List.{drop-take}
 use Rattle.std.proofs.lemmas.List.Elements.{All-weaker, filter_agree}
-use Rattle.arena.specs.Arena.{Arena, IsLive, key_at}
+use Rattle.arena.specs.Arena.{IsLive}
 use Rattle.boundaries.specs.Item.{Item}
 use Rattle.boundaries.specs.Path.{between}
 use Rattle.keys.specs.Key.{IsBytes, is_before, IsBefore}
 use Rattle.keys.specs.Range.{Holds, IsEmpty}
 use Rattle.keys.specs.declared.range.Range.{Range}
-use Rattle.keys.proofs.callers.KeyOrder.{at_most_before, before_at_most_same, before_trans}
+use Rattle.keys.proofs.callers.KeyOrder.{at_most_before}
 use Rattle.keys.proofs.callers.Booleans.{true_or_false}
 use Rattle.boundaries.specs.Boundary.{Boundary, AreBoundaries, AreInOrder, value_at, last_version, below, from_on}
 use Rattle.boundaries.proofs.Indexes.{up_to, after}
 use Rattle.boundaries.specs.Bound.{is_below_at, slot_is_below}
-use Rattle.boundaries.specs.Stored.{boundary_of, boundaries_of, IsStored}
+use Rattle.boundaries.specs.Stored.{boundary_of}
+use Rattle.boundaries.proofs.StoredItems.{AreKept, boundaries_in}
+use Rattle.boundaries.specs.Bound.{Keys}
 use Rattle.boundaries.proofs.callers.Order.{rising_in_order, rising_filter}
-use Rattle.stepmap.proofs.Looking.{not_not}
+use Rattle.boundaries.proofs.callers.LeftFrom.{not_not}
 use Rattle.boundaries.proofs.callers.Parting.{parted}
 use Rattle.boundaries.proofs.callers.Values.{parted_below}
 use Rattle.boundaries.proofs.IndexFound.{up_to_falls, value_up_to}
@@ -36,55 +38,29 @@ use Rattle.boundaries.proofs.AboveFound.{
 abbrev pub inside : List ℕ → List ℕ → List Boundary → List Boundary
 inside begin end bs = filter (λ b. is_before begin b.key && is_before b.key end) bs
 
--- what comes before a bound at a key comes before each later key
-passes_sooner : (up_to : Bool) (begin end k : List ℕ) → IsBefore begin end → is_below_at up_to begin k ≡ true
-    → is_before k end ≡ true
-passes_sooner true begin end k l h = at_most_before k begin end h l
-passes_sooner false begin end k l h = before_trans k begin end h l
-
-module _ {H : Type 0} (keys : Arena H) where
-  -- a slot that is below a bound at a key is below the bound before a later key
-  pub nested : (up_to : Bool) (begin end : List ℕ) → IsBefore begin end → (slot : ℕ)
-      → slot_is_below keys up_to begin slot ≡ true → slot_is_below keys false end slot ≡ true
-  nested up_to begin end l slot = of_key (key_at keys slot)
-    where
-      of_key : (k : Option (List ℕ)) → unwrap_or (option_map (is_below_at up_to begin) k) false ≡ true
-          → unwrap_or (option_map (is_below_at false end) k) false ≡ true
-      of_key None h = h
-      of_key (Some k) h = passes_sooner up_to begin end k l h
-
-  -- one that is below the bound before a key is below the bound up to it
-  pub nested_around : (key : List ℕ) (slot : ℕ)
-      → slot_is_below keys false key slot ≡ true → slot_is_below keys true key slot ≡ true
-  nested_around key slot = of_key (key_at keys slot)
-    where
-      of_key : (k : Option (List ℕ)) → unwrap_or (option_map (is_below_at false key) k) false ≡ true
-          → unwrap_or (option_map (is_below_at true key) k) false ≡ true
-      of_key None h = h
-      of_key (Some k) h = before_at_most_same k key h
-
+module _ (keys : Keys) where
   -- the items between two bounds have the boundaries between them
-  between_bounds : (tree : Items) → IsStored keys tree → (from_up_to to_up_to : Bool) (begin end : List ℕ)
-      → boundaries_of keys
-      (between (Some (slot_is_below keys from_up_to begin)) (Some (slot_is_below keys to_up_to end)) tree.items)
+  pub between_bounds : (items : List Item) → AreKept keys items → (from_up_to to_up_to : Bool) (begin end : List ℕ)
+      → boundaries_in keys
+      (between (Some (slot_is_below keys from_up_to begin)) (Some (slot_is_below keys to_up_to end)) items)
       ≡ filter (λ b. not (is_below_at from_up_to begin b.key) && is_below_at to_up_to end b.key)
-      (boundaries_of keys tree.items)
-  between_bounds tree s u v begin end =
+      (boundaries_in keys items)
+  between_bounds items s u v begin end =
       let p = λ (x : Item). not (slot_is_below keys u begin x.key) && slot_is_below keys v end x.key in
       let q = λ (b : Boundary). not (is_below_at u begin b.key) && is_below_at v end b.key in
-      filtered (boundary_of keys) p q tree.items
+      filtered (boundary_of keys) p q items
       (All-weaker (λ x. IsLive keys x.key) (λ x. p x ≡ q (boundary_of keys x))
-      (λ x l. rw (slot_is_below_live keys u begin x.key l, slot_is_below_live keys v end x.key l) refl) tree.items s.live)
+      (λ x l. rw (slot_is_below_live keys u begin x.key l, slot_is_below_live keys v end x.key l) refl) items s.live)
 
   -- up to one key and before another
-  pub between_inside : (tree : Items) → IsStored keys tree → (begin end : List ℕ)
-      → boundaries_of keys (between (Some (slot_is_below keys true begin)) (Some (slot_is_below keys false end)) tree.items)
-      ≡ inside begin end (boundaries_of keys tree.items)
-  between_inside tree s begin end =
-      between_bounds tree s true false begin end
+  pub between_inside : (items : List Item) → AreKept keys items → (begin end : List ℕ)
+      → boundaries_in keys (between (Some (slot_is_below keys true begin)) (Some (slot_is_below keys false end)) items)
+      ≡ inside begin end (boundaries_in keys items)
+  between_inside items s begin end =
+      between_bounds items s true false begin end
       ∙ filter_agree (λ b. not (is_below_at true begin b.key) && is_below_at false end b.key)
       (λ b. is_before begin b.key && is_before b.key end)
-      (λ b. ap (λ t. t && is_before b.key end) (sym (not_not (is_before begin b.key)))) (boundaries_of keys tree.items)
+      (λ b. ap (λ t. t && is_before b.key end) (sym (not_not (is_before begin b.key)))) (boundaries_in keys items)
 
 -- one test after the other is both
 filter_both : {X : Type 0} (p q : X → Bool) (xs : List X) → filter p (filter q xs) ≡ filter (λ x. p x && q x) xs

@@ -14,7 +14,7 @@ use Rattle.boundaries.proofs.callers.Partitions.{All-front, All-back, not_true, 
 use Rattle.boundaries.specs.Boundary.{Boundary, AreBoundaries, AreInOrder, RiseFrom, below, from_on}
 use Rattle.boundaries.specs.Written.{closed_at, written_to}
 use Rattle.boundaries.proofs.Closing.{closed_same}
-use Rattle.stepmap.proofs.Looking.{filter_yes, filter_no}
+use Rattle.boundaries.proofs.callers.LeftFrom.{filter_yes, filter_no}
 use Rattle.boundaries.proofs.callers.Order.{rise_lower, rise_swap, rising_in_order}
 use Rattle.boundaries.proofs.callers.Values.{parted_below}
 use Rattle.boundaries.proofs.callers.WritingValues.{begins_before_end}

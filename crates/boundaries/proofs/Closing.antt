@@ -17,7 +17,7 @@ none_of : {X : Type 0} (P : X → Type 0) (xs : List X) → All (λ x. ¬ P x) x
 none_of P xs all a = all a.0 a.1 a.2 (subst P (sym a.3) a.4)
 
 -- a key after one isn't the empty key
-after_empty : (j k : List ℕ) → IsBefore j k → is_before [] k ≡ true
+pub after_empty : (j k : List ℕ) → IsBefore j k → is_before [] k ≡ true
 after_empty j k l =
     elim (true_or_false (is_before [] k)) [
       | inl t ↦ t

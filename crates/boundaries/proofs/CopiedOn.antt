@@ -9,16 +9,17 @@ use Rattle.keys.specs.declared.range.Range.{Range}
 use Rattle.keys.proofs.callers.KeyHeads.{after_by_first, before_after_first}
 use Rattle.keys.proofs.callers.Booleans.{not_both_ways}
 use Rattle.keys.proofs.callers.KeyOrder.{before_trans, before_at_most_same, not_before_itself, not_before_if}
-use Rattle.arena.specs.Arena.{Arena}
 use Rattle.boundaries.specs.Path.{following as items_after}
 use Rattle.boundaries.proofs.callers.Partitions.{All-back}
 use Rattle.boundaries.specs.Boundary.{Boundary, AreBoundaries, AreInOrder, RiseFrom, value_from, value_at, last_version, below, from_on}
 use Rattle.keys.specs.declared.key.TheConstants.{MAX_KEY_LENGTH}
 use Rattle.boundaries.specs.Copying.{following, greatest_of_length, IsCopiedTo}
 use Rattle.boundaries.specs.Bound.{is_below_at, slot_is_below}
-use Rattle.boundaries.specs.Stored.{boundaries_of, first_key, IsStored}
+use Rattle.boundaries.proofs.StoredItems.{AreKept, boundaries_in}
+use Rattle.boundaries.specs.Bound.{Keys}
+use Rattle.boundaries.specs.Boundary.{first_key}
 use Rattle.boundaries.specs.Written.{closed_at, written}
-use Rattle.stepmap.proofs.Looking.{below_middle, filter_yes, filter_no, not_not}
+use Rattle.boundaries.proofs.callers.LeftFrom.{below_middle, filter_yes, filter_no, not_not}
 use Rattle.boundaries.proofs.Partitioning.{stored_partitioned}
 use Rattle.boundaries.proofs.callers.Order.{Rising, rising_in_order, rise_middle, rise_above, rise_lower}
 use Rattle.boundaries.proofs.callers.Values.{value_back, last_has}
@@ -301,9 +302,9 @@ module _ (bs : List Boundary) (are : AreBoundaries bs) where
             (written_boundaries range filled version copy (subst (λ v. negsuc 0 ≤ℤ v) (sym is) least) copy_are)
 
 -- the items behind the bound up to a key are those of the boundaries after the key
-pub after_stored : {H : Type 0} (keys : Arena H) (tree : Items) → IsStored keys tree → (key : List ℕ)
-    → boundaries_of keys (items_after (slot_is_below keys true key) tree.items) ≡ following key (boundaries_of keys tree.items)
-after_stored keys tree s key =
-    (stored_partitioned keys tree s true key).following
+pub after_stored : (keys : Keys) (items : List Item) → AreKept keys items → (key : List ℕ)
+    → boundaries_in keys (items_after (slot_is_below keys true key) items) ≡ following key (boundaries_in keys items)
+after_stored keys items s key =
+    (stored_partitioned keys items s true key).following
     ∙ filter_agree (λ b. not (is_below_at true key b.key)) (λ b. is_before key b.key)
-    (λ b. sym (not_not (is_before key b.key))) (boundaries_of keys tree.items)
+    (λ b. sym (not_not (is_before key b.key))) (boundaries_in keys items)

@@ -4,7 +4,6 @@ use Rattle.std.specs.Prelude.{ℕ, ℤ, pos, ◌-ℤ◌, int_lt, ◌<ℤ◌, ◌
 use Rattle.std.proofs.Math.Seq.{drop-append_seam}
 use Rattle.std.proofs.lemmas.Bool.{cases_Bool}
 use Rattle.std.proofs.lemmas.Int.{ints}
-use Rattle.arena.specs.Arena.{Arena}
 use Rattle.boundaries.specs.Item.{IsGreatest, Item}
 use Rattle.boundaries.specs.Path.{items_below, between, from_last}
 use Rattle.boundaries.specs.Items.{IsLast}
@@ -14,12 +13,15 @@ use Rattle.keys.specs.Range.{Holds, IsEmpty}
 use Rattle.keys.specs.declared.range.Range.{Range}
 use Rattle.boundaries.specs.Boundary.{Boundary, AreBoundaries, value_at}
 use Rattle.boundaries.specs.Bound.{slot_is_below}
-use Rattle.boundaries.specs.Stored.{boundary_of, boundaries_of, IsStored}
-use Rattle.boundaries.proofs.Between.{nested, between_inside, above_by_begin, above_by_inside, inside_if_above}
+use Rattle.boundaries.specs.Stored.{boundary_of}
+use Rattle.boundaries.proofs.StoredItems.{AreKept, boundaries_in}
+use Rattle.boundaries.specs.Bound.{Keys}
+use Rattle.boundaries.proofs.Nested.{nested}
+use Rattle.boundaries.proofs.Between.{between_inside, above_by_begin, above_by_inside, inside_if_above}
 use Rattle.boundaries.proofs.Partitioning.{stored_partitioned}
 use Rattle.boundaries.proofs.LastFound.{some_is_below, last_boundary, value_of_last}
 use Rattle.keys.proofs.callers.SomeElement.{Any-weaker, Any-first, Any-later, Any-cases, Any-map, Any-unmap}
-use Rattle.stepmap.proofs.Removal.{lt_from_test, le_from_test}
+use Rattle.boundaries.proofs.callers.Unexpired.{lt_from_test, le_from_test}
 use Rattle.boundaries.proofs.callers.WritingValues.{begins_before_end}
 
 -- a list with an element has a last one
@@ -46,7 +48,7 @@ above_or_not s v = elim (cases_Bool (int_lt s v)) [
   | inr f ↦ inr (le_from_test s v f)
 ]
 
-module _ {H : Type 0} (keys : Arena H) (tree : Items) (stored : IsStored keys tree) (range : Range)
+module _ (keys : Keys) (items : List Item) (stored : AreKept keys items) (range : Range)
     (filled : ¬ IsEmpty range) where
   abbrev p : ℕ → Bool
   p = slot_is_below keys true range.begin
@@ -55,26 +57,26 @@ module _ {H : Type 0} (keys : Arena H) (tree : Items) (stored : IsStored keys tr
   q = slot_is_below keys false range.end
 
   abbrev bs : List Boundary
-  bs = boundaries_of keys tree.items
+  bs = boundaries_in keys items
 
   abbrev inner : List Item
-  inner = between (Some p) (Some q) tree.items
+  inner = between (Some p) (Some q) items
 
-  last_up_to : (x : Item) × IsLast x (items_below p tree.items)
-  last_up_to = last_of (items_below p tree.items) (some_is_below keys tree stored range.begin)
+  last_up_to : (x : Item) × IsLast x (items_below p items)
+  last_up_to = last_of (items_below p items) (some_is_below keys items stored range.begin)
 
-  found_are : from_last p (Some q) tree.items ≡ last_up_to.0 ∷ inner
+  found_are : from_last p (Some q) items ≡ last_up_to.0 ∷ inner
   found_are =
       last_and_between (λ (x : Item). p x.key) (λ (x : Item). q x.key)
-      (λ x. nested keys true range.begin range.end (begins_before_end range filled) x.key) tree.items
-      (stored_partitioned keys tree stored true range.begin).partitioned
-      ∙ ap (λ xs. xs ++ inner) (last_alone last_up_to.0 (items_below p tree.items) last_up_to.1)
+      (λ x. nested keys true range.begin range.end (begins_before_end range filled) x.key) items
+      (stored_partitioned keys items stored true range.begin).partitioned
+      ∙ ap (λ xs. xs ++ inner) (last_alone last_up_to.0 (items_below p items) last_up_to.1)
 
   at_begin : last_up_to.0.version ≡ value_at bs range.begin
   at_begin =
       let x = last_up_to.0 in
       sym (value_of_last range.begin bs stored.in_order (boundary_of keys x)
-      (last_boundary keys tree stored true range.begin x last_up_to.1))
+      (last_boundary keys items stored true range.begin x last_up_to.1))
 
   module _ (are : AreBoundaries bs) (s : ℤ) where
     abbrev IsAbove : Item → Type 0
@@ -86,31 +88,31 @@ module _ {H : Type 0} (keys : Arena H) (tree : Items) (stored : IsStored keys tr
     abbrev AboveSomewhere : Type 0
     AboveSomewhere = (key : List ℕ) × IsBytes key × Holds range key × (s <ℤ value_at bs key)
 
-    answered : Any IsAbove (from_last p (Some q) tree.items) → AboveSomewhere
+    answered : Any IsAbove (from_last p (Some q) items) → AboveSomewhere
     answered a = elim (Any-cases IsAbove last_up_to.0 inner (subst (Any IsAbove) found_are a)) [
       | inl first ↦ above_by_begin range filled bs are last_up_to.0.version at_begin s first
       | inr later ↦ above_by_inside range filled bs are last_up_to.0.version at_begin s
-          (subst (Any Above) (between_inside keys tree stored range.begin range.end)
+          (subst (Any Above) (between_inside keys items stored range.begin range.end)
           (Any-map (boundary_of keys) Above inner later))
     ]
 
-    found : (key : List ℕ) → Holds range key → s <ℤ value_at bs key → Any IsAbove (from_last p (Some q) tree.items)
+    found : (key : List ℕ) → Holds range key → s <ℤ value_at bs key → Any IsAbove (from_last p (Some q) items)
     found key held lt =
         subst (Any IsAbove) (sym found_are)
         (elim (above_or_not s last_up_to.0.version) [
           | inl first ↦ Any-first IsAbove last_up_to.0 inner first
           | inr le ↦ Any-later IsAbove last_up_to.0 inner
               (Any-unmap (boundary_of keys) Above inner
-              (subst (Any Above) (sym (between_inside keys tree stored range.begin range.end))
+              (subst (Any Above) (sym (between_inside keys items stored range.begin range.end))
               (inside_if_above range filled bs are last_up_to.0.version at_begin s le key held lt)))
         ])
 
     -- the function is above the number in the range exactly where one of them is
-    pub above_answered : Any IsAbove (from_last p (Some q) tree.items) ↔ AboveSomewhere
+    pub above_answered : Any IsAbove (from_last p (Some q) items) ↔ AboveSomewhere
     above_answered = (answered, λ a. found a.0 a.2 a.3)
 
   -- the greatest version of them is the greatest value in the range
-  module _ (are : AreBoundaries bs) (r : ℤ) (greatest : IsGreatest (λ x. x.version) r (from_last p (Some q) tree.items)) where
+  module _ (are : AreBoundaries bs) (r : ℤ) (greatest : IsGreatest (λ x. x.version) r (from_last p (Some q) items)) where
     pub range_bound : (key : List ℕ) → Holds range key → value_at bs key ≤ℤ r
     range_bound key held = elim (above_or_not r (value_at bs key)) [
       | inl lt ↦
@@ -124,6 +126,6 @@ module _ {H : Type 0} (keys : Arena H) (tree : Items) (stored : IsStored keys tr
     range_reached =
         let s : ℤ = r -ℤ pos 1 in
         let near = Any-weaker (λ (x : Item). x.version ≡ r) (λ x. s <ℤ x.version) (λ x is. omega (arith, ints, is))
-        (from_last p (Some q) tree.items) greatest.reached in
+        (from_last p (Some q) items) greatest.reached in
         let above = answered are s near in
         (above.0, above.1, above.2, omega (arith, ints, above.3, range_bound above.0 above.2))

@@ -24,7 +24,6 @@ use Rattle.std.proofs.Common.{
 use Rattle.std.specs.Prelude.{ℤ, negsuc, All, Any}
 use Rattle.std.proofs.lemmas.List.{map-append}
 use Rattle.std.proofs.lemmas.List.Elements.{All-nil, All-cons, All-head, filter_passes}
-use Rattle.arena.specs.Arena.{Arena}
 use Rattle.boundaries.specs.Item.{Item}
 use Rattle.boundaries.specs.Path.{items_below}
 use Rattle.boundaries.specs.Items.{IsLast}
@@ -35,10 +34,12 @@ use Rattle.keys.proofs.callers.Booleans.{not_both_ways}
 use Rattle.boundaries.specs.Boundary.{Boundary, AreInOrder, value_at, last_version}
 use Rattle.boundaries.proofs.Indexes.{up_to, after}
 use Rattle.boundaries.specs.Bound.{is_below_at, slot_is_below}
-use Rattle.boundaries.specs.Stored.{boundary_of, boundaries_of, IsStored}
+use Rattle.boundaries.specs.Stored.{boundary_of}
+use Rattle.boundaries.proofs.StoredItems.{AreKept, boundaries_in}
+use Rattle.boundaries.specs.Bound.{Keys}
 use Rattle.keys.proofs.callers.KeyOrder.{not_before_if}
 use Rattle.boundaries.proofs.callers.Order.{Rising, rising_in_order, rise_middle}
-use Rattle.stepmap.proofs.Looking.{not_not}
+use Rattle.boundaries.proofs.callers.LeftFrom.{not_not}
 use Rattle.boundaries.proofs.callers.Parting.{parted}
 use Rattle.boundaries.proofs.IndexFound.{up_to_empty, up_to_falls, value_up_to}
 use Rattle.keys.proofs.callers.SomeElement.{Any-parts, Any-push_cases}
@@ -114,20 +115,20 @@ module _ (key : List ℕ) (bs : List Boundary) (o : AreInOrder bs) where
               absurd (not_both_ways (is_before key key) (subst (IsBefore key) c.2 c.1) (not_before_itself key))
         ]
 
-module _ {H : Type 0} (keys : Arena H) (tree : Items) (s : IsStored keys tree) where
+module _ (keys : Keys) (items : List Item) (s : AreKept keys items) where
   -- some item is below a bound up to a key
-  pub some_is_below : (key : List ℕ) → items_below (slot_is_below keys true key) tree.items ≢ []
+  pub some_is_below : (key : List ℕ) → items_below (slot_is_below keys true key) items ≢ []
   some_is_below key none =
-      some_up_to key (boundaries_of keys tree.items) s.in_order
-      (sym (stored_partitioned keys tree s true key).before ∙ ap (boundaries_of keys) none)
+      some_up_to key (boundaries_in keys items) s.in_order
+      (sym (stored_partitioned keys items s true key).before ∙ ap (boundaries_in keys) none)
 
   module _ (up_to : Bool) (key : List ℕ) (x : Item)
-      (last : IsLast x (items_below (slot_is_below keys up_to key) tree.items)) where
+      (last : IsLast x (items_below (slot_is_below keys up_to key) items)) where
     -- the last item's boundary is the last one below the bound
     pub last_boundary :
-        IsLast (boundary_of keys x) (filter (λ b. is_below_at up_to key b.key) (boundaries_of keys tree.items))
+        IsLast (boundary_of keys x) (filter (λ b. is_below_at up_to key b.key) (boundaries_in keys items))
     last_boundary = (
-      boundaries_of keys last.0,
-      sym (stored_partitioned keys tree s up_to key).before ∙ ap (boundaries_of keys) last.1
+      boundaries_in keys last.0,
+      sym (stored_partitioned keys items s up_to key).before ∙ ap (boundaries_in keys) last.1
           ∙ map-append (boundary_of keys) last.0 (x ∷ []),
     )

@@ -1,14 +1,14 @@
 -- What is put in place of a run: one entry, and a second one unless the run is ended.
 use Rattle.std.proofs.Common.{◌≡◌, ◌≢◌, ℕ, ◌≤◌, inl, inr, Bool, true, false, not, ◌&&◌, if◌then◌else◌, List}
-use Rattle.std.proofs.Common.{[], ◌∷◌, ◌++◌, None, length, filter, IsTrue}
+use Rattle.std.proofs.Common.{[], ◌∷◌, ◌++◌, None, Some, length, filter, IsTrue}
 use Rattle.std.proofs.Common.{map, refl, ap, arith}
 use Rattle.std.proofs.lemmas.Bool.{cases_Bool}
 use Rattle.boundaries.specs.declared.entry.NodeEntry.{NodeEntry}
 use Rattle.boundaries.specs.Item.{Item, item_of}
 use Rattle.boundaries.specs.Overwrite.{first_is_below}
-use Rattle.boundaries.specs.Path.{IsPartitioned, items_below, following, first_key}
+use Rattle.boundaries.specs.Path.{IsPartitioned, between, items_below, following, first_key}
 use Rattle.boundaries.specs.Items.{ended_by}
-use Rattle.boundaries.proofs.callers.Partitions.{not_both, none_pass, rest_fails}
+use Rattle.boundaries.proofs.callers.Partitions.{IsPartitioned-parts, not_both, none_pass, rest_fails}
 
 -- the entries that are put in
 abbrev pub entries_put : Bool → NodeEntry → NodeEntry → List NodeEntry
@@ -47,3 +47,11 @@ first_describes r (x ∷ items) partitioned =
           let none = none_pass p (x ∷ items) (rest_fails p x items partitioned f) in
           (λ ok. absurd (not_both (r x.key) ok f), λ some. absurd (some none.0))
     ]
+
+-- Whether the first key behind a bound is below another one tells whether an item stands between the two.
+pub answered_by_first : (q r : ℕ → Bool) (items : List Item) (ended : Bool) → IsPartitioned (λ x. q x.key) items
+    → IsPartitioned (λ x. r x.key) items → ended ≡ first_is_below r (first_key None (following q items))
+    → (IsTrue ended → between (Some q) (Some r) items ≢ []) × (between (Some q) (Some r) items ≢ [] → IsTrue ended)
+answered_by_first q r items ended first second is =
+    let parts = IsPartitioned-parts (λ (x : Item). r x.key) (items_below q items) (following q items) (rw first at second) in
+    rw (between_is q r items, is) (first_describes r (following q items) parts.1)

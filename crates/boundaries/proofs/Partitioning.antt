@@ -5,7 +5,7 @@ use Rattle.std.specs.List.{All}
 use Rattle.std.proofs.lemmas.List.Elements.{All-head, All-tail, All-cons, All-nil, All-weaker}
 use Rattle.std.specs.Cmp.Lexicographic.{slice_cmp}
 use Rattle.std.specs.Ordering.{nat_cmp, is_le, is_lt}
-use Rattle.arena.specs.Arena.{Arena, Record, IsLive, record_at, key_at}
+use Rattle.arena.specs.Arena.{Record, IsLive, record_at, key_at}
 use Rattle.boundaries.specs.Item.{Item}
 use Rattle.boundaries.specs.Path.{IsPartitioned, items_below, following}
 use Rattle.boundaries.proofs.callers.Partitions.{none_pass}
@@ -13,7 +13,9 @@ use Rattle.keys.proofs.callers.KeyOrder.{before_trans, is_le-cmp}
 use Rattle.keys.proofs.callers.Booleans.{true_or_false, false_unless, not_both_ways}
 use Rattle.boundaries.specs.Boundary.{Boundary, RiseFrom}
 use Rattle.boundaries.specs.Bound.{is_below_at, slot_is_below}
-use Rattle.boundaries.specs.Stored.{bytes_at, boundary_of, boundaries_of, IsStored}
+use Rattle.boundaries.specs.Stored.{boundary_of}
+use Rattle.boundaries.proofs.StoredItems.{AreKept, boundaries_in}
+use Rattle.boundaries.specs.Bound.{Keys, bytes_at}
 use Rattle.boundaries.proofs.IndexFound.{up_to_falls}
 use Rattle.boundaries.proofs.callers.Order.{Rising, rising_from, rising_in_order}
 use Rattle.boundaries.proofs.callers.Parting.{FallsAlongKeys}
@@ -83,12 +85,12 @@ pub passes_falls : (up_to : Bool) (key : List ℕ) → FallsAlongKeys (λ b. is_
 passes_falls true key = up_to_falls key
 passes_falls false key = λ b c l h. before_trans b.key c.key key l h
 
-module _ {H : Type 0} (keys : Arena H) where
+module _ (keys : Keys) where
   pub slot_is_below_live : (up_to : Bool) (key : List ℕ) (slot : ℕ) → IsLive keys slot
       → slot_is_below keys up_to key slot ≡ is_below_at up_to key (bytes_at keys slot)
   slot_is_below_live up_to key slot live = of_record (record_at keys slot) live
     where
-      of_record : (r : Option (Record H)) → IsSome r
+      of_record : (r : Option (Record (Unit {0}))) → IsSome r
           → unwrap_or (option_map (is_below_at up_to key) (option_map (λ x. x.key) r)) false
           ≡ is_below_at up_to key (unwrap_or (option_map (λ x. x.key) r) [])
       of_record (Some r) s = refl
@@ -102,23 +104,23 @@ module _ {H : Type 0} (keys : Arena H) where
   -- what a bound does to stored boundaries
   pub record ArePartitioned (items : List Item) (up_to : Bool) (key : List ℕ) : Type 0 where
     pub partitioned : IsPartitioned (λ x. slot_is_below keys up_to key x.key) items
-    pub before : boundaries_of keys (items_below (slot_is_below keys up_to key) items)
-        ≡ filter (λ b. is_below_at up_to key b.key) (boundaries_of keys items)
-    pub following : boundaries_of keys (following (slot_is_below keys up_to key) items)
-        ≡ filter (λ b. not (is_below_at up_to key b.key)) (boundaries_of keys items)
+    pub before : boundaries_in keys (items_below (slot_is_below keys up_to key) items)
+        ≡ filter (λ b. is_below_at up_to key b.key) (boundaries_in keys items)
+    pub following : boundaries_in keys (following (slot_is_below keys up_to key) items)
+        ≡ filter (λ b. not (is_below_at up_to key b.key)) (boundaries_in keys items)
 
-  pub stored_partitioned : (tree : Items) → IsStored keys tree → (up_to : Bool) (key : List ℕ)
-      → ArePartitioned tree.items up_to key
-  stored_partitioned tree s up_to key =
+  pub stored_partitioned : (items : List Item) → AreKept keys items → (up_to : Bool) (key : List ℕ)
+      → ArePartitioned items up_to key
+  stored_partitioned items s up_to key =
       let p = λ (x : Item). slot_is_below keys up_to key x.key in
       let q = λ (b : Boundary). is_below_at up_to key b.key in
-      let agree : All (λ x. p x ≡ q (boundary_of keys x)) tree.items =
+      let agree : All (λ x. p x ≡ q (boundary_of keys x)) items =
       All-weaker (λ x. IsLive keys x.key) (λ x. p x ≡ q (boundary_of keys x))
-      (λ x l. slot_is_below_live up_to key x.key l) tree.items s.live in
+      (λ x l. slot_is_below_live up_to key x.key l) items s.live in
       record {
-        partitioned = partitioned_by (boundary_of keys) p q (passes_falls up_to key) tree.items (rising_in_order _ s.in_order) agree;
-        before = filtered (boundary_of keys) p q tree.items agree;
-        following = filtered (boundary_of keys) (λ x. not (p x)) (λ b. not (q b)) tree.items
+        partitioned = partitioned_by (boundary_of keys) p q (passes_falls up_to key) items (rising_in_order _ s.in_order) agree;
+        before = filtered (boundary_of keys) p q items agree;
+        following = filtered (boundary_of keys) (λ x. not (p x)) (λ b. not (q b)) items
             (All-weaker (λ x. p x ≡ q (boundary_of keys x)) (λ x. not (p x) ≡ not (q (boundary_of keys x)))
-            (λ x e. ap not e) tree.items agree);
+            (λ x e. ap not e) items agree);
       }

@@ -1,21 +1,22 @@
 -- The bound at the cursor of a sweep parts stored boundaries into those that it has passed and those that are left.
-use Rattle.std.proofs.Common.{◌≡◌, ◌≢◌, ℕ, Bool, not, ◌&&◌, List, [], ◌∷◌, ◌++◌, length, Option, None, Some, refl, sym, ◌∙◌, ap, inl, inr, ◌==◌, arith, unwrap_or, option_map, All, IfSome}
-use Rattle.std.specs.Prelude.{ℤ, IsSome, MatchOption}
+use Rattle.std.proofs.Common.{◌≡◌, ◌≢◌, ℕ, Bool, not, ◌&&◌, List, [], ◌∷◌, ◌++◌, length, None, refl, sym, ◌∙◌, ap, inl, inr, ◌==◌, arith, unwrap_or, option_map, All, IfSome}
+use Rattle.std.specs.Prelude.{ℤ}
 use Rattle.std.proofs.lemmas.Bool.{ne_eqb}
 use Rattle.std.proofs.lemmas.List.Elements.{All-head, All-tail, All-cons, All-nil, filter_agree}
-use Rattle.arena.specs.Arena.{Arena}
-use Rattle.boundaries.specs.declared.entry.NodeEntry.{NodeEntry}
-use Rattle.boundaries.specs.Item.{Item, item_of}
+use Rattle.boundaries.specs.Item.{Item}
 use Rattle.boundaries.specs.Path.{IsPartitioned, items_below, following, first_key as first_slot}
 use Rattle.boundaries.specs.Items.{IsLast}
 use Rattle.keys.specs.Key.{is_before}
 use Rattle.keys.proofs.callers.Booleans.{true_or_false}
 use Rattle.boundaries.specs.Boundary.{Boundary, AreInOrder, last_version}
 use Rattle.boundaries.specs.Bound.{is_below_at, slot_is_below}
-use Rattle.boundaries.specs.Stored.{bytes_at, boundary_of, boundaries_of, IsStored, first_key}
+use Rattle.boundaries.specs.Stored.{boundary_of}
+use Rattle.boundaries.proofs.StoredItems.{AreKept, boundaries_in}
+use Rattle.boundaries.specs.Bound.{Keys, bytes_at}
+use Rattle.boundaries.specs.Boundary.{first_key}
 use Rattle.boundaries.specs.Swept.{is_left, left_from, passed_to}
 use Rattle.boundaries.proofs.callers.Order.{not_before_empty}
-use Rattle.stepmap.proofs.Looking.{not_not, empty_passed}
+use Rattle.boundaries.proofs.callers.LeftFrom.{not_not, empty_passed}
 use Rattle.boundaries.proofs.Partitioning.{stored_partitioned}
 
 -- the bound is up to an empty cursor, and before any other
@@ -38,10 +39,10 @@ some_passed cursor (b ∷ bs) o e =
     let k : b ∷ passed_to cursor bs ≡ [] = rw f at e in
     cc
 
-module _ {H : Type 0} (keys : Arena H) where
+module _ (keys : Keys) where
   -- the key of the first slot, if there is one
   pub first_bytes : (items : List Item)
-      → unwrap_or (option_map (bytes_at keys) (first_slot None items)) [] ≡ first_key (boundaries_of keys items)
+      → unwrap_or (option_map (bytes_at keys) (first_slot None items)) [] ≡ first_key (boundaries_in keys items)
   first_bytes [] = refl
   first_bytes (x ∷ xs) = refl
 
@@ -51,41 +52,41 @@ module _ {H : Type 0} (keys : Arena H) where
   first_has P (x ∷ xs) a = All-head (λ x. P x.key) x xs a
 
   -- what the keys of boundaries have, those of their items have
-  pub keys_have : (P : List ℕ → Type 0) (items : List Item) → All (λ b. P b.key) (boundaries_of keys items)
+  pub keys_have : (P : List ℕ → Type 0) (items : List Item) → All (λ b. P b.key) (boundaries_in keys items)
       → All (λ x. P (bytes_at keys x.key)) items
   keys_have P [] a = All-nil (λ x. P (bytes_at keys x.key))
   keys_have P (x ∷ xs) a =
       All-cons (λ y. P (bytes_at keys y.key)) x xs
-      (All-head (λ b. P b.key) (boundary_of keys x) (boundaries_of keys xs) a)
-      (keys_have P xs (All-tail (λ b. P b.key) (boundary_of keys x) (boundaries_of keys xs) a))
+      (All-head (λ b. P b.key) (boundary_of keys x) (boundaries_in keys xs) a)
+      (keys_have P xs (All-tail (λ b. P b.key) (boundary_of keys x) (boundaries_in keys xs) a))
 
   pub last_of : (before : List Item) (x : Item) (v : ℤ)
-      → last_version v (boundaries_of keys (before ++ x ∷ [])) ≡ x.version
+      → last_version v (boundaries_in keys (before ++ x ∷ [])) ≡ x.version
   last_of [] x v = refl
   last_of (y ∷ ys) x v = last_of ys x y.version
 
   pub last_is : (x : Item) (items : List Item) (v : ℤ) → IsLast x items
-      → last_version v (boundaries_of keys items) ≡ x.version
-  last_is x items v l = ap (λ xs. last_version v (boundaries_of keys xs)) l.1 ∙ last_of l.0 x v
+      → last_version v (boundaries_in keys items) ≡ x.version
+  last_is x items v l = ap (λ xs. last_version v (boundaries_in keys xs)) l.1 ∙ last_of l.0 x v
 
   -- what the bound does that the code makes
   pub record ArePassed (items : List Item) (up_to : Bool) (key cursor : List ℕ) : Type 0 where
     pub partitioned : IsPartitioned (λ x. slot_is_below keys up_to key x.key) items
-    pub passed : boundaries_of keys (items_below (slot_is_below keys up_to key) items)
-        ≡ passed_to cursor (boundaries_of keys items)
-    pub left : boundaries_of keys (following (slot_is_below keys up_to key) items)
-        ≡ left_from cursor (boundaries_of keys items)
+    pub passed : boundaries_in keys (items_below (slot_is_below keys up_to key) items)
+        ≡ passed_to cursor (boundaries_in keys items)
+    pub left : boundaries_in keys (following (slot_is_below keys up_to key) items)
+        ≡ left_from cursor (boundaries_in keys items)
     pub some : items_below (slot_is_below keys up_to key) items ≢ []
 
-  pub are_passed : (tree : Items) → IsStored keys tree → (up_to : Bool) (key cursor : List ℕ) (n : ℕ)
-      → key ≡ cursor → length key ≡ n → up_to ≡ (n == 0) → ArePassed tree.items up_to key cursor
-  are_passed tree s up_to key cursor n same len is =
-      let c = stored_partitioned keys tree s up_to key in
+  pub are_passed : (items : List Item) → AreKept keys items → (up_to : Bool) (key cursor : List ℕ) (n : ℕ)
+      → key ≡ cursor → length key ≡ n → up_to ≡ (n == 0) → ArePassed items up_to key cursor
+  are_passed items s up_to key cursor n same len is =
+      let c = stored_partitioned keys items s up_to key in
       let up : up_to ≡ (length cursor == 0) = is ∙ ap (λ m. m == 0) (sym len) ∙ ap (λ k. length k == 0) same in
       let at : (b : Boundary) → is_below_at up_to key b.key ≡ not (is_left cursor b) =
       λ b. ap (λ u. is_below_at u key b.key) up ∙ ap (λ k. is_below_at (length cursor == 0) k b.key) same
       ∙ passes_passed cursor b in
-      let bs = boundaries_of keys tree.items in
+      let bs = boundaries_in keys items in
       let passed = c.before ∙ filter_agree (λ b. is_below_at up_to key b.key) (λ b. not (is_left cursor b)) at bs in
       record {
         partitioned = c.partitioned;
@@ -93,11 +94,5 @@ module _ {H : Type 0} (keys : Arena H) where
         left = c.following
             ∙ filter_agree (λ b. not (is_below_at up_to key b.key)) (is_left cursor)
             (λ b. ap not (at b) ∙ sym (not_not (is_left cursor b))) bs;
-        some = λ none. some_passed cursor bs s.in_order (sym passed ∙ ap (boundaries_of keys) none);
+        some = λ none. some_passed cursor bs s.in_order (sym passed ∙ ap (boundaries_in keys) none);
       }
-
-  -- there is a last one that passes
-  pub is_some : (o : Option NodeEntry) (items : List Item) → items ≢ []
-      → MatchOption o (items ≡ []) (λ e. IsLast (item_of e) items) → IsSome o
-  is_some None items some m = absurd (some m)
-  is_some (Some e) items some m = refl

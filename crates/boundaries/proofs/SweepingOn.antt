@@ -9,9 +9,9 @@ use Rattle.boundaries.specs.Boundary.{Boundary, AreInOrder, last_version}
 use Rattle.boundaries.specs.Stored.{first_key}
 use Rattle.boundaries.specs.Swept.{left_from, passed_to, unexpired}
 use Rattle.boundaries.proofs.callers.Order.{rising_in_order, not_empty_if_after}
-use Rattle.stepmap.proofs.Looking.{parted_left, left_middle}
+use Rattle.boundaries.proofs.callers.LeftFrom.{parted_left, left_middle}
 use Rattle.keys.proofs.callers.SomeElement.{Any-first, Any-right}
-use Rattle.stepmap.proofs.Sweeps.{new_of, last_passed, looked, unseen, Stands, stands, swept_has}
+use Rattle.boundaries.proofs.callers.Sweeps.{new_of, last_passed, looked, unseen, Stands, stands, swept_has}
 use Rattle.boundaries.proofs.UnexpiredRun.{passed_middle}
 
 last_version-append : (before : ℤ) (bs cs : List Boundary)

@@ -1,35 +1,38 @@
 -- A run of stored boundaries is swept of expired items that begins at a key.
 use Rattle.std.proofs.Common.{◌≡◌, ◌≢◌, ℕ, ◌≤◌, Bool, true, false, not, ◌&&◌, List, [], ◌∷◌, ◌++◌, length, take, drop, map, filter, Some, None, option_map, unwrap_or, refl, sym, ◌∙◌, ap, ap₂, subst, inl, inr, arith, length-append, append_assoc, All, Any}
-use Rattle.std.specs.Prelude.{ℤ, int_lt, nat_eq, IfSome}
-use Rattle.std.specs.List.{IsDistinct}
+use Rattle.std.specs.Prelude.{ℤ, int_lt, IfSome}
+use Rattle.std.specs.List.{Contains}
 use Rattle.std.proofs.Math.Seq.{take-append_seam, drop-append_seam}
 use Rattle.std.proofs.lemmas.List.{map-append, length-map, append-nil}
 use Rattle.std.proofs.lemmas.Bool.{cases_Bool}
 use Rattle.std.proofs.lemmas.List.Elements.{All-nil, All-cons, All-weaker, filter-append, filter_passes}
-use Rattle.arena.specs.Arena.{Arena, IsLive, key_at}
+use Rattle.arena.specs.Arena.{IsLive, record_at}
 use Rattle.keys.specs.Key.{is_before, IsBefore}
 use Rattle.keys.proofs.callers.Booleans.{and_right, false_unless, not_both_ways}
 use Rattle.keys.proofs.callers.KeyOrder.{not_before_if}
 use Rattle.boundaries.specs.declared.expiry.Removal.{Removal}
-use Rattle.boundaries.specs.Heads.{AllAreHeads}
+use Rattle.boundaries.specs.declared.key_bound.KeyBound.{KeyBound}
+use Rattle.boundaries.specs.declared.store.Store.{Store}
 use Rattle.boundaries.specs.Item.{Item}
-use Rattle.boundaries.specs.Path.{IsPartitioned, items_below, following}
-use Rattle.boundaries.specs.Expire.{RemovesExpired}
-use Rattle.boundaries.specs.Items.{unexpired as unexpired_items}
+use Rattle.boundaries.specs.Path.{IsPartitioned, items_below, following, first_key as first_slot}
+use Rattle.boundaries.specs.Expire.{GivesUnexpired}
+use Rattle.boundaries.specs.Items.{IsLast, expired, unexpired as unexpired_items}
 use Rattle.boundaries.proofs.callers.Partitions.{All-back}
 use Rattle.boundaries.specs.Boundary.{Boundary, AreInOrder, RiseFrom, last_version}
 use Rattle.boundaries.specs.Bound.{slot_is_below}
-use Rattle.boundaries.specs.Stored.{bytes_at, boundary_of, boundaries_of, first_key as first_boundary, IsStored, AreIndexed}
+use Rattle.boundaries.specs.Stored.{boundary_of}
+use Rattle.boundaries.proofs.StoredItems.{AreKept, boundaries_in, kept_boundaries, mid_record, now_kept}
+use Rattle.boundaries.proofs.callers.Times.{times}
+use Rattle.std.specs.FinMap as finite
+use Rattle.boundaries.specs.Bound.{Keys, bytes_at}
+use Rattle.boundaries.specs.Boundary.{first_key as first_boundary}
 use Rattle.boundaries.specs.Swept.{is_left, left_from, passed_to, unexpired}
 use Rattle.boundaries.proofs.Partitioning.{stored_partitioned}
-use Rattle.boundaries.proofs.Exchanged.{out_live, out_distinct, kept_boundaries, now_stored, now_headed}
-use Rattle.boundaries.proofs.LastAndInside.{last_of}
-use Rattle.boundaries.proofs.LastFound.{last_boundary, last_if_there, some_is_below}
-use Rattle.stepmap.proofs.Looking.{left_middle, filter_yes, filter_no}
+use Rattle.boundaries.proofs.LastFound.{last_boundary, last_if_there}
+use Rattle.boundaries.proofs.callers.LeftFrom.{left_middle, filter_yes, filter_no}
 use Rattle.boundaries.proofs.callers.Order.{rise_middle, rise_swap}
 use Rattle.boundaries.proofs.Passed.{first_bytes, first_has}
-use Rattle.boundaries.proofs.PlacedKeys.{ArePlaced, none_placed}
-use Rattle.stepmap.proofs.Removal.{unexpired_rises}
+use Rattle.boundaries.proofs.callers.Unexpired.{unexpired_rises}
 use Rattle.boundaries.proofs.Unlinked.{AreParted, slots_of, none_go, unexpired_parted, parted_beside}
 
 -- boundaries in order, around one that isn't the first
@@ -80,8 +83,8 @@ unexpired_in_order edge before (x ∷ xs) ys zs some o = (
 )
 
 -- the last of the items' versions is that of their boundaries
-last_of_versions : {H : Type 0} (keys : Arena H) (xs : List Item) (front : List ℤ) (before last : ℤ)
-    → map (λ (x : Item). x.version) xs ≡ front ++ last ∷ [] → last_version before (boundaries_of keys xs) ≡ last
+last_of_versions : (keys : Keys) (xs : List Item) (front : List ℤ) (before last : ℤ)
+    → map (λ (x : Item). x.version) xs ≡ front ++ last ∷ [] → last_version before (boundaries_in keys xs) ≡ last
 last_of_versions keys [] [] before last e = absurd (cc e)
 last_of_versions keys [] (v ∷ front) before last e = absurd (cc e)
 last_of_versions keys (x ∷ []) [] before last e = let k : x.version ≡ last = cc in k
@@ -90,10 +93,47 @@ last_of_versions keys (x ∷ xs) (v ∷ front) before last e =
     let k : map (λ (x : Item). x.version) xs ≡ front ++ last ∷ [] = cc in
     last_of_versions keys xs front x.version last k
 
-module _ {H : Type 0} (keys : Arena H) where
+-- A run of items was looked at that begins with the last one below the bound, and those that are expired are gone.
+pub record RunExpired (p : ℕ → Bool) (count : ℕ) (edge before : ℤ) (removal : Removal) (was now : List Item) : Type 0 where
+  pub front : List Item
+  pub first : Item
+  pub looked : List Item
+  pub rest : List Item
+  pub front_is : items_below p was ≡ front ++ first ∷ []
+  pub looked_is : first ∷ following p was ≡ looked ++ rest
+  pub looked_at : length looked ≡ removal.looked_at
+  pub some : 1 ≤ removal.looked_at
+  pub few : removal.looked_at ≤ count
+  pub now_is : now ≡ front ++ (unexpired_items edge before looked ++ rest)
+  pub last : IsLast removal.last (map (λ x. x.version) looked)
+  pub next_is : removal.next ≡ first_slot None rest
+
+-- what is said of the items of a tree, where the bound is right after a key
+pub run_expired : {bound : KeyBound} {count : ℕ} {edge before : ℤ} {removal : Removal} {old new : Store} {was now : List Item}
+    (key : List ℕ) → bound.up_to ≡ true → bound.key.now ≡ key → GivesUnexpired bound count edge before removal old new None was now
+    → RunExpired (slot_is_below old.keys true key) count edge before removal was now
+run_expired {bound} {count} {edge} {before} {removal} {old} {new} {was} {now} key up at h =
+    subst (λ p. RunExpired p count edge before removal was now)
+    (ap₂ (slot_is_below old.keys) up at)
+    (record {
+      front = h.front;
+      first = h.first;
+      looked = h.looked;
+      rest = h.rest;
+      front_is = h.front_is;
+      looked_is = h.looked_is;
+      looked_at = h.looked_at;
+      some = h.some;
+      few = h.few;
+      now_is = h.now_is;
+      last = h.last;
+      next_is = h.next_is;
+    })
+
+module _ (keys : Keys) where
   -- items are swept of expired items as their boundaries are
   pub boundaries_unexpired : (edge before : ℤ) (xs : List Item)
-      → boundaries_of keys (unexpired_items edge before xs) ≡ unexpired edge before (boundaries_of keys xs)
+      → boundaries_in keys (unexpired_items edge before xs) ≡ unexpired edge before (boundaries_in keys xs)
   boundaries_unexpired edge before [] = refl
   boundaries_unexpired edge before (x ∷ xs) =
       let i = boundaries_unexpired edge x.version xs in
@@ -103,24 +143,24 @@ module _ {H : Type 0} (keys : Arena H) where
         | inr f ↦ rw f (ap (λ bs. boundary_of keys x ∷ bs) i)
       ]
 
-  module _ (tree : Items) (stored : IsStored keys tree) (key : List ℕ) where
+  module _ (items : List Item) (stored : AreKept keys items) (key : List ℕ) where
     abbrev pub p : ℕ → Bool
     p = slot_is_below keys true key
 
     abbrev bs : List Boundary
-    bs = boundaries_of keys tree.items
+    bs = boundaries_in keys items
 
-    pub key_is_partitioned : IsPartitioned (λ x. p x.key) tree.items
-    key_is_partitioned = (stored_partitioned keys tree stored true key).partitioned
+    pub key_is_partitioned : IsPartitioned (λ x. p x.key) items
+    key_is_partitioned = (stored_partitioned keys items stored true key).partitioned
 
     -- a boundary stands at the key, which isn't the empty one
     module _ (later : key ≢ []) (there : Any (λ b. b.key ≡ key) bs) where
       -- the last item below the bound is that boundary's
-      module _ (front : List Item) (first : Item) (passing_are : items_below p tree.items ≡ front ++ first ∷ []) where
+      module _ (front : List Item) (first : Item) (passing_are : items_below p items ≡ front ++ first ∷ []) where
         abbrev rest : List Item
-        rest = following p tree.items
+        rest = following p items
 
-        items_are : tree.items ≡ front ++ first ∷ rest
+        items_are : items ≡ front ++ first ∷ rest
         items_are = key_is_partitioned ∙ ap (λ xs. xs ++ rest) passing_are ∙ append_assoc front (first ∷ []) rest
 
         abbrev b : Boundary
@@ -128,60 +168,49 @@ module _ {H : Type 0} (keys : Arena H) where
 
         at_key : b.key ≡ key
         at_key =
-            last_if_there key bs stored.in_order b (last_boundary keys tree stored true key first (front, passing_are)) there
+            last_if_there key bs stored.in_order b (last_boundary keys items stored true key first (front, passing_are)) there
 
-        parts : bs ≡ boundaries_of keys front ++ b ∷ boundaries_of keys rest
-        parts = ap (boundaries_of keys) items_are ∙ map-append (boundary_of keys) front (first ∷ rest)
+        parts : bs ≡ boundaries_in keys front ++ b ∷ boundaries_in keys rest
+        parts = ap (boundaries_in keys) items_are ∙ map-append (boundary_of keys) front (first ∷ rest)
 
-        around : IsInside (boundaries_of keys front) b (boundaries_of keys rest)
+        around : IsInside (boundaries_in keys front) b (boundaries_in keys rest)
         around =
-            inside (boundaries_of keys front) b (boundaries_of keys rest) (subst AreInOrder parts stored.in_order)
+            inside (boundaries_in keys front) b (boundaries_in keys rest) (subst AreInOrder parts stored.in_order)
             (λ none. later (sym at_key ∙ none))
 
         -- the sweep has passed those before it, and the others are left
-        passed : passed_to key bs ≡ boundaries_of keys front
+        passed : passed_to key bs ≡ boundaries_in keys front
         passed =
             ap (passed_to key) parts
-            ∙ subst (λ k. passed_to k (boundaries_of keys front ++ b ∷ boundaries_of keys rest) ≡ boundaries_of keys front)
+            ∙ subst (λ k. passed_to k (boundaries_in keys front ++ b ∷ boundaries_in keys rest) ≡ boundaries_in keys front)
             at_key
-            (passed_middle b (boundaries_of keys front) (boundaries_of keys rest) around.before around.after around.filled)
+            (passed_middle b (boundaries_in keys front) (boundaries_in keys rest) around.before around.after around.filled)
 
-        left : left_from key bs ≡ boundaries_of keys (first ∷ rest)
+        left : left_from key bs ≡ boundaries_in keys (first ∷ rest)
         left =
             ap (left_from key) parts
-            ∙ subst (λ k. left_from k (boundaries_of keys front ++ b ∷ boundaries_of keys rest)
-            ≡ b ∷ boundaries_of keys rest) at_key
-            (left_middle b (boundaries_of keys front) (boundaries_of keys rest) around.before around.after around.filled)
-
-        -- that at the empty key passes too
-        more_pass : length (items_below p tree.items) ≡ 1 → ⊥
-        more_pass one =
-            absurd (omega (arith, ap length passing_are, length-append front (first ∷ []), one, some_before front around.some))
-          where
-            some_before : (xs : List Item) → boundaries_of keys xs ≢ [] → 1 ≤ length xs
-            some_before [] some = absurd (some refl)
-            some_before (x ∷ xs) some = omega arith
-
-      pub not_alone : length (items_below p tree.items) ≡ 1 → ⊥
-      not_alone =
-          let last = last_of (items_below p tree.items) (some_is_below keys tree stored key) in
-          more_pass last.1.0 last.0 last.1.1
+            ∙ subst (λ k. left_from k (boundaries_in keys front ++ b ∷ boundaries_in keys rest)
+            ≡ b ∷ boundaries_in keys rest) at_key
+            (left_middle b (boundaries_in keys front) (boundaries_in keys rest) around.before around.after around.filled)
 
       -- a run that begins there is swept of expired items
-      module _ (count : ℕ) (edge before : ℤ) (unexpired_by : Removal) (run : List Item) (next : Items)
-          (h : RemovesExpired p count edge before unexpired_by run None tree.items next.items) where
+      module _ (count : ℕ) (edge before : ℤ) (unexpired_by : Removal) (next : List Item)
+          (h : RunExpired p count edge before unexpired_by items next) where
+        abbrev pub run : List Item
+        run = expired edge before h.looked
+
         abbrev n : ℕ
         n = unexpired_by.looked_at
 
         abbrev looked : List Boundary
-        looked = boundaries_of keys h.looked
+        looked = boundaries_in keys h.looked
 
         abbrev unseen : List Boundary
-        unseen = boundaries_of keys h.rest
+        unseen = boundaries_in keys h.rest
 
         left_is : left_from key bs ≡ looked ++ unseen
         left_is =
-            left h.front h.first h.front_is ∙ ap (boundaries_of keys) h.looked_is
+            left h.front h.first h.front_is ∙ ap (boundaries_in keys) h.looked_is
             ∙ map-append (boundary_of keys) h.looked h.rest
 
         n_is : n ≡ length looked
@@ -202,10 +231,10 @@ module _ {H : Type 0} (keys : Arena H) where
             ∙ last_of_versions keys h.looked h.last.0 before unexpired_by.last h.last.1)
 
         -- what all items have, the one has at which the sweep goes on
-        pub next_has : (P : ℕ → Type 0) → All (λ x. P x.key) tree.items → IfSome unexpired_by.next P
+        pub next_has : (P : ℕ → Type 0) → All (λ x. P x.key) items → IfSome unexpired_by.next P
         next_has P all =
             let Has = λ (x : Item). P x.key in
-            let after_has = All-back Has h.front (h.first ∷ following p tree.items)
+            let after_has = All-back Has h.front (h.first ∷ following p items)
             (subst (All Has) (items_are h.front h.first h.front_is) all) in
             subst (λ o. IfSome o P) (sym h.next_is)
             (first_has keys P h.rest (All-back Has h.looked h.rest (subst (All Has) h.looked_is after_has)))
@@ -216,34 +245,37 @@ module _ {H : Type 0} (keys : Arena H) where
             ap (λ o. unwrap_or (option_map (bytes_at keys) o) []) h.next_is ∙ first_bytes keys h.rest
             ∙ ap first_boundary (sym rest_are)
 
-        items_parts : tree.items ≡ h.front ++ (h.looked ++ h.rest)
+        items_parts : items ≡ h.front ++ (h.looked ++ h.rest)
         items_parts = items_are h.front h.first h.front_is ∙ ap (λ l. h.front ++ l) h.looked_is
 
-        parted : AreParted tree.items next.items run
+        pub parted : AreParted items next run
         parted =
-            subst (λ xs. AreParted tree.items xs run) (sym h.now_is)
+            subst (λ xs. AreParted items xs run) (sym h.now_is)
             (subst (λ xs. AreParted xs (h.front ++ (unexpired_items edge before h.looked ++ h.rest)) run) (sym items_parts)
-            (parted_beside h.front h.looked (unexpired_items edge before h.looked) run h.rest
-            (subst (AreParted h.looked (unexpired_items edge before h.looked)) (sym h.run_is) (unexpired_parted edge before h.looked))))
+            (parted_beside h.front h.looked (unexpired_items edge before h.looked) run h.rest (unexpired_parted edge before h.looked)))
 
-        -- what is taken out may be released
-        pub run_live : All (λ x. IsLive keys x.key) run
-        run_live = out_live keys tree stored next.items run parted
+        -- one stays, since there is one before the run
+        pub some_stays : 1 ≤ length next
+        some_stays =
+            let inside = around h.front h.first h.front_is in
+            let some : 1 ≤ length h.front = some_front h.front inside.some in
+            omega (arith, ap length h.now_is, length-append h.front (unexpired_items edge before h.looked ++ h.rest), some)
+          where
+            some_front : (xs : List Item) → boundaries_in keys xs ≢ [] → 1 ≤ length xs
+            some_front [] some = absurd (some refl)
+            some_front (x ∷ xs) some = omega arith
 
-        pub run_distinct : IsDistinct nat_eq (slots_of run)
-        run_distinct = out_distinct keys tree stored next.items run parted
-
-        now_are : boundaries_of keys next.items
-            ≡ boundaries_of keys h.front ++ (unexpired edge before looked ++ unseen)
+        now_are : boundaries_in keys next
+            ≡ boundaries_in keys h.front ++ (unexpired edge before looked ++ unseen)
         now_are =
             let f = boundary_of keys in
             let kept = unexpired_items edge before h.looked in
-            ap (boundaries_of keys) h.now_is
+            ap (boundaries_in keys) h.now_is
             ∙ map-append f h.front (kept ++ h.rest)
             ∙ ap (λ l. map f h.front ++ l)
             (map-append f kept h.rest ∙ ap (λ l. l ++ map f h.rest) (boundaries_unexpired edge before h.looked))
 
-        now_in_order : AreInOrder (boundaries_of keys next.items)
+        now_in_order : AreInOrder (boundaries_in keys next)
         now_in_order =
             let f = boundary_of keys in
             let old = ap (map f) items_parts ∙ map-append f h.front (h.looked ++ h.rest)
@@ -252,23 +284,23 @@ module _ {H : Type 0} (keys : Arena H) where
             (unexpired_in_order edge before (map f h.front) (map f h.looked) (map f h.rest)
             (around h.front h.first h.front_is).some (subst AreInOrder old stored.in_order))
 
-        module _ (new : Arena H) (released : ArePlaced keys new (slots_of run) []) where
-          same : boundaries_of new next.items ≡ boundaries_of keys next.items
-          same = kept_boundaries keys tree stored next.items run parted new [] released
+        module _ (new : Keys) (released : (slot : ℕ) → ¬ Contains (slots_of run) slot → record_at new slot ≡ record_at keys slot) where
+          same : boundaries_in new next ≡ boundaries_in keys next
+          same = kept_boundaries keys keys new items next run [] stored parted (λ s live. refl) released (All-nil (λ (x : Item). record_at keys x.key ≡ None)) next
+              (λ s some. some)
 
-          pub unexpired_boundaries : boundaries_of new next.items ≡ passed_to key bs
+          pub unexpired_boundaries : boundaries_in new next ≡ passed_to key bs
               ++ (unexpired edge before (take n (left_from key bs)) ++ drop n (left_from key bs))
           unexpired_boundaries =
               same ∙ now_are
               ∙ ap (λ l. l ++ (unexpired edge before looked ++ unseen)) (sym (passed h.front h.first h.front_is))
               ∙ ap₂ (λ xs ys. passed_to key bs ++ (unexpired edge before xs ++ ys)) (sym looked_are) (sym rest_are)
 
-          pub unexpired_indexed : KnowItems next → AllAreHeads (key_at keys) (tree_heads next) → AreIndexed new next
-          unexpired_indexed know headed = record {
-            stored =
-                now_stored keys tree stored next.items run parted new [] released next (none_go next.items)
-                (subst AreInOrder (sym same) now_in_order);
-            headed =
-                now_headed keys tree stored next.items run parted new [] released next (none_go next.items) keys []
-                (none_placed keys) (All-nil (λ q. key_at keys q.slot ≡ Some q.key)) know headed;
-          }
+          pub unexpired_kept : finite.len new.records + length (slots_of run) ≡ finite.len keys.records → AreKept new next
+          unexpired_kept gone =
+              now_kept keys keys new items next run [] stored parted (λ s live. refl) released (All-nil (λ (x : Item). record_at keys x.key ≡ None)) (none_go next)
+              (All-nil (λ (x : Item). IsLive keys x.key)) (λ s. omega arith) (omega arith) gone (subst AreInOrder (sym same) now_in_order)
+
+          pub unexpired_record : (s : ℕ) → 1 ≤ times s (slots_of next) → record_at new s ≡ record_at keys s
+          unexpired_record = mid_record keys keys new items next run [] stored parted (λ s live. refl) released (All-nil (λ (x : Item). record_at keys x.key ≡ None))
+              (none_go next)

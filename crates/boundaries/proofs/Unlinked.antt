@@ -4,7 +4,8 @@ use Rattle.std.specs.List.{All}
 use Rattle.std.proofs.lemmas.Bool.{cases_Bool}
 use Rattle.std.proofs.lemmas.List.{map-append}
 use Rattle.std.proofs.lemmas.List.Elements.{All-head, All-tail}
-use Rattle.arena.specs.Arena.{Arena, IsLive}
+use Rattle.arena.specs.Arena.{IsLive}
+use Rattle.boundaries.specs.Bound.{Keys}
 use Rattle.boundaries.specs.Item.{Item}
 use Rattle.boundaries.specs.Items.{unexpired as unexpired_items, expired}
 use Rattle.boundaries.proofs.callers.Times.{times, once_same, once_cases, times-append}
@@ -13,7 +14,7 @@ use Rattle.boundaries.proofs.callers.Times.{times, once_same, once_cases, times-
 abbrev pub slots_of : List Item → List ℕ
 slots_of items = map (λ x. x.key) items
 
-times_slots : (s : ℕ) (xs ys : List Item)
+pub times_slots : (s : ℕ) (xs ys : List Item)
     → times s (slots_of (xs ++ ys)) ≡ times s (slots_of xs) + times s (slots_of ys)
 times_slots s xs ys =
     ap (times s) (map-append (λ (x : Item). x.key) xs ys) ∙ times-append s (slots_of xs) (slots_of ys)
@@ -74,7 +75,7 @@ value_of_one f (x ∷ xs) zero d lt = omega (arith, once_same (f x))
 value_of_one f (x ∷ xs) (suc i) d lt = omega (arith, value_of_one f xs i d (omega arith))
 
 -- a slot of live items is live
-pub slot_live : {H : Type 0} (keys : Arena H) (xs : List Item) → All (λ x. IsLive keys x.key) xs
+pub slot_live : (keys : Keys) (xs : List Item) → All (λ x. IsLive keys x.key) xs
     → (s : ℕ) → 1 ≤ times s (slots_of xs) → IsLive keys s
 slot_live keys [] a s some = absurd (omega arith)
 slot_live keys (x ∷ xs) a s some = elim (once_cases s x.key) [

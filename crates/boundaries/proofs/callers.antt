@@ -5,9 +5,12 @@ pub mod Partitions
 pub mod Heads
 pub mod Counting
 pub mod InTurn
+pub mod LeftFrom
 pub mod Order
 pub mod Parting
 pub mod SingleKeys
+pub mod Sweeps
+pub mod Unexpired
 pub mod Values
 pub mod WritingOrder
 pub mod WritingValues

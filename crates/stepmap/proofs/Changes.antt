@@ -25,7 +25,7 @@ use Rattle.stepmap.proofs.WrittenMap.{
   written_rest,
   if_some_map,
 }
-use Rattle.stepmap.proofs.Sweeps.{swept_has}
+use Rattle.boundaries.proofs.callers.Sweeps.{swept_has}
 use Rattle.stepmap.proofs.SweptMap.{
   swept_steps,
   swept_count,

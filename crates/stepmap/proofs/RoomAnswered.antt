@@ -12,7 +12,7 @@ use Rattle.stepmap.specs.Rooted.{Rooted}
 use Rattle.stepmap.specs.Counting.{live_count}
 use Rattle.stepmap.proofs.Changes.{raise_keeps}
 use Rattle.stepmap.proofs.Preparing.{room_if, no_room_if, room_stays, full_bound}
-use Rattle.stepmap.proofs.Removal.{unexpired_shorter}
+use Rattle.boundaries.proofs.callers.Unexpired.{unexpired_shorter}
 
 not_below_itself : (edge : ℤ) → int_lt edge edge ≡ false
 not_below_itself edge = grind (arith, ints)
