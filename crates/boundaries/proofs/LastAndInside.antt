@@ -1,10 +1,13 @@
 -- The last boundary up to the begin of a range and those inside it: whether one of them is above a number, and the greatest.
-use Rattle.std.proofs.Common.{◌≡◌, ◌≢◌, ◌-◌, Bool, true, false, List, [], ◌∷◌, ◌++◌, length, length-append, Some, drop, refl, sym, ◌∙◌, ap, subst, inl, inr, ◌⊎◌, arith}
-use Rattle.std.specs.Prelude.{ℕ, ℤ, pos, ◌-ℤ◌, int_lt, ◌<ℤ◌, ◌≤ℤ◌, Any, ◌↔◌}
+use Rattle.std.proofs.Common.{◌≡◌, ◌≢◌, ◌-◌, Bool, true, false, List, [], ◌∷◌, ◌++◌, length, length-append, Some, drop, map, refl, sym, ◌∙◌, ap, subst, inl, inr, ◌⊎◌, arith}
+use Rattle.std.specs.Prelude.{All, ℕ, ℤ, pos, negsuc, ◌-ℤ◌, int_lt, ◌<ℤ◌, ◌≤ℤ◌, Any, ◌↔◌}
 use Rattle.std.proofs.Math.Seq.{drop-append_seam}
 use Rattle.std.proofs.lemmas.Bool.{cases_Bool}
 use Rattle.std.proofs.lemmas.Int.{ints}
-use Rattle.boundaries.specs.Item.{IsGreatest, Item}
+use Rattle.std.proofs.lemmas.List.{map-append, same_from_push}
+use Rattle.std.proofs.lemmas.List.Elements.{All-head}
+use Rattle.boundaries.proofs.callers.Values.{value_has}
+use Rattle.boundaries.specs.Item.{IsGreatest, IsMost, Item, item_version}
 use Rattle.boundaries.specs.Path.{items_below, between, from_last}
 use Rattle.boundaries.specs.Items.{IsLast}
 use Rattle.boundaries.proofs.callers.Lists.{last_and_between}
@@ -47,6 +50,18 @@ above_or_not s v = elim (cases_Bool (int_lt s v)) [
   | inl t ↦ inl (lt_from_test s v t)
   | inr f ↦ inr (le_from_test s v f)
 ]
+
+-- the version of the last item up to a key is the value there
+pub value_of_version : (keys : Keys) (items : List Item) → AreKept keys items → (key : List ℕ) (v : ℤ)
+    → IsLast v (map item_version (items_below (slot_is_below keys true key) items)) → v ≡ value_at (boundaries_in keys items) key
+value_of_version keys items stored key v is =
+    let xs = items_below (slot_is_below keys true key) items in
+    let last = last_of xs (some_is_below keys items stored key) in
+    let x = last.0 in
+    let versions = ap (map item_version) last.1.1 ∙ map-append item_version last.1.0 (x ∷ []) in
+    let same = (same_from_push (map item_version last.1.0) is.0 x.version v (sym versions ∙ is.1)).1 in
+    sym same ∙ sym (value_of_last key (boundaries_in keys items) stored.in_order (boundary_of keys x)
+    (last_boundary keys items stored true key x last.1))
 
 module _ (keys : Keys) (items : List Item) (stored : AreKept keys items) (range : Range)
     (filled : ¬ IsEmpty range) where
@@ -110,6 +125,22 @@ module _ (keys : Keys) (items : List Item) (stored : AreKept keys items) (range 
     -- the function is above the number in the range exactly where one of them is
     pub above_answered : Any IsAbove (from_last p (Some q) items) ↔ AboveSomewhere
     above_answered = (answered, λ a. found a.0 a.2 a.3)
+
+  -- A greatest version that isn't below all of them is one of theirs.
+  pub most_is_greatest : AreBoundaries bs → (least r : ℤ) → least <ℤ negsuc 0
+      → IsMost (λ x. x.version) least (from_last p (Some q) items) r → IsGreatest (λ x. x.version) r (from_last p (Some q) items)
+  most_is_greatest are least r low most = record {
+    bound = most.bound;
+    reached = elim most.reached [
+      | inr any ↦ any
+      | inl is ↦
+          let x = last_up_to.0 in
+          let all : All (λ (y : Item). y.version ≤ℤ r) (x ∷ inner) = rw found_are at most.bound in
+          let high : negsuc 0 ≤ℤ x.version =
+          rw at_begin (value_has (λ w. negsuc 0 ≤ℤ w) (negsuc 0) bs range.begin (omega (arith, ints)) are.versions) in
+          absurd (omega (arith, ints, low, is, high, All-head (λ (y : Item). y.version ≤ℤ r) x inner all))
+    ];
+  }
 
   -- the greatest version of them is the greatest value in the range
   module _ (are : AreBoundaries bs) (r : ℤ) (greatest : IsGreatest (λ x. x.version) r (from_last p (Some q) items)) where

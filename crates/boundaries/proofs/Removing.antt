@@ -50,6 +50,11 @@ last_at es from to e some within is =
     let more = take_more following n e (omega (arith, length-drop from es)) in
     (map version_of (take n following), rw (count, more, get_or-drop from es n e, index, ← is, map-append))
 
+-- that of the last of the first entries
+pub last_of_first : (es : List NodeEntry) (count : ℕ) (e : NodeEntry) → 0 < count → count ≤ length es → e ≡ get_or es (count - 1) e
+    → IsLast e.version (map version_of (take count es))
+last_of_first es count e some within is = let all : count - 0 ≡ count = omega arith in rw all at (last_at es 0 count e some within is)
+
 -- a version that isn't below the edge
 pub not_below : (edge v : ℤ) → int_le edge v ≡ true → int_lt v edge ≡ false
 not_below edge v h = grind (arith, ints)

@@ -1,10 +1,10 @@
 -- A tree in which boundaries are stored: it can be searched and changed, and they are stored again once it was.
-use Rattle.std.proofs.Common.{◌≡◌, ◌≢◌, ℕ, ◌+◌, ◌<◌, ◌≤◌, ◌^◌, Bool, true, List, [], ◌∷◌, ◌++◌, None, Option, Some, length, map, option_map, is_some, false, refl, sym, ◌∙◌, ap, subst, arith, append-nil}
+use Rattle.std.proofs.Common.{◌≡◌, ◌≢◌, ℕ, ◌+◌, ◌-◌, ◌*◌, ◌<◌, ◌≤◌, ◌^◌, Bool, inl, inr, true, List, [], ◌∷◌, ◌++◌, None, Option, Some, length, map, option_map, is_some, false, refl, sym, ◌∙◌, ap, subst, arith, append-nil}
 use Rattle.std.specs.Prelude.{ℤ, nat_eq, slice_get}
 use Rattle.std.specs.List.{All, Contains, IsDistinct}
 use Rattle.std.specs.FinMap as finite
 use Rattle.std.proofs.lemmas.List.{map-append}
-use Rattle.std.proofs.lemmas.List.Elements.{All-head, All-weaker}
+use Rattle.std.proofs.lemmas.List.Elements.{All-cons, All-head, All-nil, All-weaker}
 use Rattle.arena.specs.Arena.{Arena, IsLive, key_at, record_at, spare_of, wanted_of}
 use Rattle.boundaries.specs.declared.entry.NodeEntry.{NodeEntry}
 use Rattle.boundaries.specs.declared.node.Node.{Node}
@@ -14,17 +14,23 @@ use Rattle.boundaries.specs.declared.store.Store.{Store}
 use Rattle.boundaries.specs.declared.tree.Tree.{Tree}
 use Rattle.boundaries.specs.Bound.{Keys, bytes_at, is_below, is_below_at}
 use Rattle.boundaries.specs.Boundary.{Boundary, AreBoundaries, AreInOrder}
-use Rattle.boundaries.specs.Item.{Item}
+use Rattle.boundaries.specs.Item.{Item, item_of}
+use Rattle.boundaries.specs.Store.{AreHeaded, IsTree}
+use Rattle.boundaries.specs.declared.boundary_list.TheConstants.{LONGEST_PATH}
 use Rattle.boundaries.specs.Path.{IsPartitioned}
 use Rattle.boundaries.specs.Overwrite.{CanBeWritten, CanOverwrite, GivesEntire, GivesPart, HasKeyRoom, before_start, bound_to}
 use Rattle.boundaries.specs.Position.{CanReach}
 use Rattle.boundaries.specs.Stored.{AreStored, boundaries_of, boundary_of, overwritten, version_at_end}
-use Rattle.boundaries.specs.Subtree.{entries_at, items_in}
+use Rattle.boundaries.specs.Subtree.{entries_at, items_in, slots_in}
 use Rattle.boundaries.specs.Walk.{CanChangeTree, IsChangedTree, IsNewTree, items_of_tree}
 use Rattle.boundaries.proofs.Closing.{after_empty}
 use Rattle.boundaries.proofs.FirstKeys.{first_describes, items_under, node_describes, node_items}
 use Rattle.boundaries.proofs.Inserting.{can_change, tree_put}
+use Rattle.boundaries.proofs.Frames.{Agree, items_same}
+use Rattle.boundaries.proofs.KeyBytes.{known_bytes}
 use Rattle.boundaries.proofs.KnownItems.{headed_items}
+use Rattle.boundaries.proofs.Puts.{live_by_key}
+use Rattle.boundaries.proofs.Trees.{raised_stays, tree_stays}
 use Rattle.boundaries.proofs.LeafChange.{root_some}
 use Rattle.boundaries.proofs.Overwritten.{parts, middle, part_parts, entire_boundaries, entire_few, entire_kept, entire_record, part_boundaries, part_few, part_fewer, part_kept, part_record, part_written}
 use Rattle.boundaries.proofs.Partitioning.{slot_is_below_live, stored_partitioned}
@@ -32,7 +38,7 @@ use Rattle.boundaries.proofs.PartWritten.{Clears, Overwrites, clears, overwrites
 use Rattle.boundaries.proofs.StoredItems.{AreKept, boundaries_in, gone_distinct, gone_live, kept_items}
 use Rattle.boundaries.proofs.Unlinked.{slots_of}
 use Rattle.boundaries.proofs.callers.Order.{not_before_empty, not_empty_if_after, rise_middle}
-use Rattle.boundaries.proofs.callers.Times.{times}
+use Rattle.boundaries.proofs.callers.Times.{distinct_if_once, once_cases, times}
 use Rattle.boundaries.specs.declared.node.TheConstants.{HALF_FULL}
 
 -- the first of items in order has the empty key
@@ -211,3 +217,48 @@ module _ (old mid : Tree) (new : Overwrite) {room : ℕ} (s : AreStored old room
 
       pub part_unused : (size : ℕ) → spare_of old.store.keys size ≤ spare_of store.keys size
       part_unused size = omega (arith, r.spare size, ap (λ k. spare_of k size) cut.keys)
+
+-- the tree of the empty key alone
+pub stored_one : (tree : Tree) (store : Store) (slot key : ℕ) (version : ℤ) → tree.store ≡ store
+    → tree.root ≡ record { slot = slot; height = 0 } → tree.raised ≡ None → store.removed.items ≡ []
+    → map item_of (entries_at store.nodes slot) ≡ record { key = key; version = version } ∷ [] → key_at store.keys key ≡ Some []
+    → finite.len store.keys.records ≡ 1 → AreHeaded store → IsTree store.nodes slot 0 1 1 → AreStored tree 1
+stored_one tree store slot key version store_is root_is raised none items empty one headed rooted =
+    let items_are : items_of_tree tree ≡ record { key = key; version = version } ∷ [] = rw (store_is, root_is) items in
+    let here : bytes_at tree.store.keys key ≡ [] = rw store_is (known_bytes store.keys key [] empty) in
+    let Live = λ (x : Item). IsLive tree.store.keys x.key in
+    let live : IsLive tree.store.keys key = rw store_is (live_by_key store.keys key [] empty) in
+    record {
+      in_order = subst (λ xs. AreInOrder (map (boundary_of tree.store.keys) xs)) (sym items_are) (here, tt);
+      live = rw items_are (All-cons Live (record { key = key; version = version }) [] live (All-nil Live));
+      distinct = rw items_are (distinct_if_once (key ∷ []) (λ s. elim (once_cases s key) [
+        | inl same ↦ omega (arith, same.1)
+        | inr other ↦ omega (arith, other.1)
+      ]));
+      counted = rw (items_are, store_is) one;
+      headed = rw store_is headed;
+      tree_is = rw (items_are, store_is, root_is) rooted;
+      raised = rw raised tt;
+      none_removed = rw store_is none;
+    }
+
+-- the same boundaries, with memory for more
+pub stored_with : (tree : Tree) (store : Store) (room more : ℕ) → AreStored tree room → store.keys.records ≡ tree.store.keys.records
+    → store.nodes.records ≡ tree.store.nodes.records → store.removed.items ≡ [] → room ≤ more
+    → more + (HALF_FULL - 1) * LONGEST_PATH ≤ (HALF_FULL - 1) * (finite.len tree.store.nodes.records + spare_of store.nodes 0)
+    → AreStored (record tree { store = store }) more
+stored_with tree store room more s keys nodes none wider enough =
+    let a = tree.store.nodes in
+    let b = store.nodes in
+    let agree : Agree a b (slots_in a tree.root.height tree.root.slot) = λ k some. rw nodes refl in
+    let items = items_same a b tree.root.height tree.root.slot agree in
+    record {
+      in_order = rw (items, keys) s.in_order;
+      live = rw (items, keys) s.live;
+      distinct = rw items s.distinct;
+      counted = rw (items, keys) s.counted;
+      headed = λ k. rw (keys, nodes) (s.headed k);
+      tree_is = rw items (tree_stays a b tree.root.slot tree.root.height _ room more nodes s.tree_is wider enough);
+      raised = raised_stays a b tree.root.slot tree.root.height tree.raised nodes s.raised;
+      none_removed = none;
+    }

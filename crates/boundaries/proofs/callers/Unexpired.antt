@@ -27,7 +27,7 @@ use Rattle.std.proofs.lemmas.List.Elements.{All-head, All-tail, All-cons, All-ni
 use Rattle.keys.specs.Key.{is_before}
 use Rattle.keys.proofs.callers.Booleans.{true_or_false, and_left, and_right}
 use Rattle.boundaries.specs.Boundary.{Boundary, RiseFrom, value_from, last_version}
-use Rattle.boundaries.specs.Swept.{unexpired}
+use Rattle.boundaries.specs.Swept.{unexpired, unexpired_all}
 use Rattle.boundaries.proofs.callers.Order.{rise_lower}
 use Rattle.boundaries.proofs.callers.Values.{value_after, first_after_rising}
 use Rattle.stepmap.proofs.Rooting.{end_lower}
@@ -145,3 +145,15 @@ values_after edge v key (p ∷ ps) bs cs h =
       | inr f ↦ rw f
           (values_after edge p.version key ps bs cs h)
     ]
+
+not_below_itself : (edge : ℤ) → int_lt edge edge ≡ false
+not_below_itself edge = grind (arith, ints)
+
+-- all boundaries are swept where the version before the first isn't below the edge
+pub all_unexpired : (edge : ℤ) (bs : List Boundary) → unexpired edge edge bs ≡ unexpired_all edge bs
+all_unexpired edge [] = refl
+all_unexpired edge (b ∷ bs) = rw (not_below_itself edge) refl
+
+pub all_shorter : (edge : ℤ) (bs : List Boundary) → length (unexpired_all edge bs) ≤ length bs
+all_shorter edge [] = omega arith
+all_shorter edge (b ∷ bs) = omega (arith, unexpired_shorter edge b.version bs)

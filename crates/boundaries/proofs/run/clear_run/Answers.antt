@@ -6,7 +6,7 @@ use Rattle.boundaries.specs.Subtree.{entries_at}
 use Rattle.boundaries.proofs.ChangedLeaf.{put_stored_in}
 use Rattle.boundaries.proofs.Headed.{headed_at}
 use Rattle.boundaries.proofs.Placing.{entries_from_header, put_entries}
-use Rattle.boundaries.proofs.Removing.{last_at}
+use Rattle.boundaries.proofs.Removing.{last_of_first}
 use Rattle.boundaries.proofs.run.clear_run.Goals.{After-entries}
 use Rattle.boundaries.proofs.run.clear_run.Goals as goal
 
@@ -40,7 +40,7 @@ returns c =
         entries = put ∙ (rw (← there) at c.remove.ensures.entries);
         removed = rw (can.none_removed, ← read at) at c.put_removed.ensures.removed;
         last_is = rw (read at, to_z-of_z w64 e.version (search rules))
-            (last_at es 0 c.args.end e can.some (rw (read at) at can.within) c.index-entries-end.is);
+            (last_of_first es c.args.end e can.some (rw (read at) at can.within) c.index-entries-end.is);
         stored = put_stored_in slot node refl refl can.live can.sound headed;
         keys = refl;
       };

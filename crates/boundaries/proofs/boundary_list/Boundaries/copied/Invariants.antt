@@ -6,7 +6,7 @@ use Rattle.boundaries.proofs.boundary_list.Boundaries.copied.Given as goal
 
 -- the boundaries before the one at `from` are copied
 abbrev pub invariant-loop-copy : goal.invariant-loop-copy
-invariant-loop-copy g l = record {
+invariant-loop-copy l = record {
   copied : IsCopiedTo l.from.items l.self.boundaries l.copy.boundaries;
   boundaries : AreBoundaries l.copy.boundaries;
   any_from : MAX_KEY_LENGTH ≤ vec_capacity l.from;
@@ -14,4 +14,4 @@ invariant-loop-copy g l = record {
 }
 
 abbrev pub decreases-loop-copy : goal.decreases-loop-copy
-decreases-loop-copy g l = length l.self.boundaries - length l.copy.boundaries
+decreases-loop-copy l = length l.self.boundaries - length l.copy.boundaries

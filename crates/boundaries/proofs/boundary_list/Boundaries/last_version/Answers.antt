@@ -6,7 +6,7 @@ use Rattle.boundaries.proofs.CopiedOn.{value_at_greatest}
 use Rattle.boundaries.proofs.boundary_list.Boundaries.last_version.Goals as goal
 
 pub returns : goal.returns
-returns g c =
+returns c =
     let bs = c.args.self.now.boundaries in
     let fits : FitsSigned w64 c.version_at.result = search rules in
     record {

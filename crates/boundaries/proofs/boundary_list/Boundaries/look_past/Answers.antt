@@ -20,16 +20,16 @@ use Rattle.boundaries.proofs.Passed.{first_bytes, first_has, keys_have}
 use Rattle.boundaries.proofs.boundary_list.Boundaries.look_past.Goals as goal
 
 pub last_and_next-last-requires : goal.last_and_next-last-requires
-last_and_next-last-requires g c =
+last_and_next-last-requires c =
     let b = c.self.inside in (search rules, can_search b.keys b.tree c.self.invariant true c.args.key.now)
 
 pub unwrap-requires : goal.unwrap-requires
-unwrap-requires g c =
+unwrap-requires c =
     some_since c.last_and_next-last.result.0 _ _ c.last_and_next-last.ensures.last
     (some_is_below c.self.inside.keys c.self.inside.tree c.self.invariant.stored c.args.key.now)
 
 pub move_to-requires-clause-live : goal.move_to-requires-clause-live
-move_to-requires-clause-live g c =
+move_to-requires-clause-live c =
     let keys = c.self.inside.keys in
     let p = slot_is_below keys true c.args.key.now in
     let items = c.self.inside.tree.items in
@@ -38,7 +38,7 @@ move_to-requires-clause-live g c =
     (All-filter (λ x. not (p x.key)) (λ x. IsLive keys x.key) items c.self.invariant.stored.live))
 
 pub move_to-requires-clause-fits : goal.move_to-requires-clause-fits
-move_to-requires-clause-fits g c =
+move_to-requires-clause-fits c =
     let keys = c.self.inside.keys in
     let p = slot_is_below keys true c.args.key.now in
     let items = c.self.inside.tree.items in
@@ -51,7 +51,7 @@ move_to-requires-clause-fits g c =
     (first_has keys fit (following p items) (All-filter (λ x. not (p x.key)) (λ x. fit x.key) items each))
 
 pub returns-clause-version : goal.returns-clause-version
-returns-clause-version g c =
+returns-clause-version c =
     let b = c.self.inside in
     let key = c.args.key.now in
     let x = item_of c.unwrap.result in
@@ -64,7 +64,7 @@ returns-clause-version g c =
     ∙ ap (λ (v : Stored). value_at v.boundaries key) c.self.view_is
 
 pub returns-clause-next : goal.returns-clause-next
-returns-clause-next g c =
+returns-clause-next c =
     let keys = c.self.inside.keys in
     let key = c.args.key.now in
     let items = following (slot_is_below keys true key) c.self.inside.tree.items in

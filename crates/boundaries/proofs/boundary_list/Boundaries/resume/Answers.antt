@@ -15,19 +15,19 @@ use Rattle.boundaries.proofs.Passed.{are_passed, is_some, first_bytes, first_has
 use Rattle.boundaries.proofs.boundary_list.Boundaries.resume.Goals as goal
 
 pub last_and_next-last-requires : goal.last_and_next-last-requires
-last_and_next-last-requires g c =
+last_and_next-last-requires c =
     let p = are_passed c.self.inside.keys c.self.inside.tree c.self.invariant.stored c.is_empty.result c.deref.result.now
     c.args.cursor.now.items _ c.deref.ensures.value c.deref.ensures.len c.is_empty.ensures in
     (search rules, record { partitioned = p.partitioned; headed = c.self.invariant.headed })
 
 pub unwrap-requires : goal.unwrap-requires
-unwrap-requires g c =
+unwrap-requires c =
     let p = are_passed c.self.inside.keys c.self.inside.tree c.self.invariant.stored c.is_empty.result c.deref.result.now
     c.args.cursor.now.items _ c.deref.ensures.value c.deref.ensures.len c.is_empty.ensures in
     is_some c.self.inside.keys _ _ p.some c.last_and_next-last.ensures.last
 
 pub move_to-requires-clause-live : goal.move_to-requires-clause-live
-move_to-requires-clause-live g c =
+move_to-requires-clause-live c =
     let keys = c.self.inside.keys in
     let p = slot_is_below keys c.is_empty.result c.deref.result.now in
     let items = c.self.inside.tree.items in
@@ -36,7 +36,7 @@ move_to-requires-clause-live g c =
     (All-filter (λ x. not (p x.key)) (λ x. IsLive keys x.key) items c.self.invariant.stored.live))
 
 pub move_to-requires-clause-fits : goal.move_to-requires-clause-fits
-move_to-requires-clause-fits g c =
+move_to-requires-clause-fits c =
     let keys = c.self.inside.keys in
     let p = slot_is_below keys c.is_empty.result c.deref.result.now in
     let items = c.self.inside.tree.items in
@@ -49,7 +49,7 @@ move_to-requires-clause-fits g c =
     (first_has keys fit (following p items) (All-filter (λ x. not (p x.key)) (λ x. fit x.key) items each))
 
 pub returns-clause-version : goal.returns-clause-version
-returns-clause-version g c =
+returns-clause-version c =
     let keys = c.self.inside.keys in
     let cursor = c.args.cursor.now.items in
     let e = c.unwrap.result in
@@ -62,7 +62,7 @@ returns-clause-version g c =
     ∙ ap (last_version (negsuc 0)) (p.passed ∙ ap (λ v. passed_to cursor v.boundaries) c.self.view_is)
 
 pub returns-clause-cursor : goal.returns-clause-cursor
-returns-clause-cursor g c =
+returns-clause-cursor c =
     let keys = c.self.inside.keys in
     let cursor = c.args.cursor.now.items in
     let p = are_passed keys c.self.inside.tree c.self.invariant.stored c.is_empty.result c.deref.result.now cursor _

@@ -4,13 +4,12 @@ use Rattle.std.proofs.lemmas.Int.{to_z-of_z}
 use Rattle.boundaries.specs.Boundary.{AreInOrder}
 use Rattle.boundaries.specs.Swept.{left_from, passed_to, swept}
 use Rattle.boundaries.proofs.SweepingOn.{none_swept, more_swept, all_swept, count_swept, swept_keys, first_there}
-use Rattle.boundaries.proofs.boundary_list.Boundaries.sweep.Given as given
 use Rattle.boundaries.proofs.boundary_list.Boundaries.sweep.Goals as goal
 use Rattle.boundaries.proofs.boundary_list.Boundaries.sweep.Goals.{After-resume-before}
 
 -- the boundaries are in order, as the invariant says
-in_order : (g : given.Over) (c : After-resume-before g) → AreInOrder c.args.self.now.boundaries
-in_order g c = c.requires.boundaries.in_order
+in_order : (c : After-resume-before) → AreInOrder c.args.self.now.boundaries
+in_order c = c.requires.boundaries.in_order
 
 -- a vector with some bytes
 not_empty : (v : Vec ℕ Global) → (vec_len v == 0) ≡ false → v.items ≢ []
@@ -27,11 +26,11 @@ is_none v e =
     none_if_short (x ∷ xs) le = absurd (omega arith)
 
 pub loop-left-init : goal.loop-left-init
-loop-left-init g c =
+loop-left-init c =
     let fits : SFits w64 c.resume-before.result = search rules in
     record {
       swept =
-          none_swept _ c.args.cursor.now.items c.args.self.now.boundaries (in_order g c) c.args.count _ _
+          none_swept _ c.args.cursor.now.items c.args.self.now.boundaries (in_order c) c.args.count _ _
           (to_z-of_z w64 c.resume-before.result fits ∙ c.resume-before.ensures.version) c.resume-before.ensures.cursor;
       capacity = c.resume-before.ensures.capacity;
       spare = λ size. omega arith;
@@ -39,8 +38,8 @@ loop-left-init g c =
     }
 
 pub remove_expired-looked-requires : goal.remove_expired-looked-requires
-remove_expired-looked-requires g c =
-    let order = in_order g (goal.at.remove_expired-looked-requires g c).After-resume-before in
+remove_expired-looked-requires c =
+    let order = in_order (goal.at.remove_expired-looked-requires c).After-resume-before in
     let h = c.loop-left.invariant in
     let later = not_empty c.loop-left.cursor (sym c.is_empty.ensures ∙ c.if-not-is_empty.true) in (
       omega arith,
@@ -60,8 +59,8 @@ remove_expired-looked-requires g c =
     )
 
 pub loop-left-preserved : goal.loop-left-preserved
-loop-left-preserved g c =
-    let order = in_order g (goal.at.loop-left-preserved g c).After-resume-before in
+loop-left-preserved c =
+    let order = in_order (goal.at.loop-left-preserved c).After-resume-before in
     let h = c.loop-left.invariant in
     let later = not_empty c.loop-left.cursor (sym c.is_empty.ensures ∙ c.if-not-is_empty.true) in
     let e = c.remove_expired-looked.ensures in
@@ -77,8 +76,8 @@ loop-left-preserved g c =
     }
 
 pub returns-else-not-is_empty-clause-boundaries : goal.returns-else-not-is_empty-clause-boundaries
-returns-else-not-is_empty-clause-boundaries g c =
-    let order = in_order g (goal.at.returns-else-not-is_empty-clause-boundaries g c).After-resume-before in
+returns-else-not-is_empty-clause-boundaries c =
+    let order = in_order (goal.at.returns-else-not-is_empty-clause-boundaries c).After-resume-before in
     let none = is_none c.loop-left.cursor (sym c.is_empty.ensures ∙ c.if-not-is_empty.false) in
     let edge = to_z-of_z w64 c.args.edge c.ranges.edge in
     (all_swept _ _ _ order _ _ _ _ _ c.loop-left.invariant.swept none).0
@@ -86,20 +85,20 @@ returns-else-not-is_empty-clause-boundaries g c =
     (left_from c.args.cursor.now.items c.args.self.now.boundaries)) edge
 
 pub returns-else-not-is_empty-clause-cursor : goal.returns-else-not-is_empty-clause-cursor
-returns-else-not-is_empty-clause-cursor g c =
-    let order = in_order g (goal.at.returns-else-not-is_empty-clause-cursor g c).After-resume-before in
+returns-else-not-is_empty-clause-cursor c =
+    let order = in_order (goal.at.returns-else-not-is_empty-clause-cursor c).After-resume-before in
     let none = is_none c.loop-left.cursor (sym c.is_empty.ensures ∙ c.if-not-is_empty.false) in
     (all_swept _ _ _ order _ _ _ _ _ c.loop-left.invariant.swept none).1
 
 pub returns-after-loop-left-clause-boundaries : goal.returns-after-loop-left-clause-boundaries
-returns-after-loop-left-clause-boundaries g c =
-    let order = in_order g (goal.at.returns-after-loop-left-clause-boundaries g c).After-resume-before in
+returns-after-loop-left-clause-boundaries c =
+    let order = in_order (goal.at.returns-after-loop-left-clause-boundaries c).After-resume-before in
     let edge = to_z-of_z w64 c.args.edge c.ranges.edge in
     (count_swept _ _ _ order _ _ _ _ _ c.loop-left.invariant.swept (omega arith)).0
     ∙ ap (λ e. swept e c.args.count (passed_to c.args.cursor.now.items c.args.self.now.boundaries)
     (left_from c.args.cursor.now.items c.args.self.now.boundaries)) edge
 
 pub returns-after-loop-left-clause-cursor : goal.returns-after-loop-left-clause-cursor
-returns-after-loop-left-clause-cursor g c =
-    let order = in_order g (goal.at.returns-after-loop-left-clause-cursor g c).After-resume-before in
+returns-after-loop-left-clause-cursor c =
+    let order = in_order (goal.at.returns-after-loop-left-clause-cursor c).After-resume-before in
     (count_swept _ _ _ order _ _ _ _ _ c.loop-left.invariant.swept (omega arith)).1

@@ -4,7 +4,7 @@ use Rattle.boundaries.proofs.boundary_list.Boundaries.write.Given as goal
 
 -- the range is written, or is still to be
 abbrev pub invariant-loop-at_end : goal.invariant-loop-at_end
-invariant-loop-at_end g l = IsWriting l.fn.range l.fn.version l.fn.self l.at_end l.self × (l.self.room ≡ l.fn.self.room)
+invariant-loop-at_end l = IsWriting l.fn.range l.fn.version l.fn.self l.at_end l.self × (l.self.room ≡ l.fn.self.room)
 
 abbrev pub decreases-loop-at_end : goal.decreases-loop-at_end
-decreases-loop-at_end g l = runs_left l.self l.at_end
+decreases-loop-at_end l = runs_left l.self l.at_end

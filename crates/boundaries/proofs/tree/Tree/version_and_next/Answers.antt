@@ -12,7 +12,7 @@ use Rattle.boundaries.proofs.Keys.{following-parts, filter-items, first_key-appe
 use Rattle.boundaries.proofs.LeafChange.{parted}
 use Rattle.boundaries.proofs.Leaves.{IsLeaf, is_leaf, leaf_partitioned_by_keys, passing_is}
 use Rattle.boundaries.proofs.Reaching.{found_leaf_in}
-use Rattle.boundaries.proofs.Removing.{last_at}
+use Rattle.boundaries.proofs.Removing.{last_of_first}
 use Rattle.boundaries.proofs.Roots.{can_search_root}
 use Rattle.boundaries.proofs.tree.Tree.version_and_next.Goals.{After-find-found, After-header_ref-leaf}
 use Rattle.boundaries.proofs.tree.Tree.version_and_next.Goals as goal
@@ -79,7 +79,7 @@ returns c =
     let later = after_leaf nodes t.root.height t.root.slot p in
     let e = c.index-entries-count.result in
     let is = rw c.entries-entries.ensures.entries at c.index-entries-count.is in
-    let own = last_at es 0 n e some count.within is in
+    let own = last_of_first es n e some count.within is in
     let front : items_below p (items_in nodes t.root.height t.root.slot) ≡ before ++ map item_of (take n es) =
     rw (parts.0, ← read) (passing_is p _ before later _ leaf) in
     let versions = ap (map item_version) front ∙ map-append item_version before (map item_of (take n es))

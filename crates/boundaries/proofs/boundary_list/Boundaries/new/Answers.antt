@@ -4,7 +4,7 @@ use Rattle.boundaries.proofs.Placed.{is_placed, alone_stored}
 use Rattle.boundaries.proofs.boundary_list.Boundaries.everywhere.Goals as goal
 
 pub invariant_of-result-2 : goal.invariant_of-result-2
-invariant_of-result-2 g c =
+invariant_of-result-2 c =
     let old = c.new-keys.result in
     let new = c.place.new.self in
     let slot = c.in_ok-empty.empty in
