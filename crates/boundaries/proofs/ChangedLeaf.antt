@@ -1,5 +1,5 @@
 -- A subtree that stays as it is, and a leaf that is changed where it lies.
-use Rattle.std.proofs.Common.{◌≡◌, ℕ, ◌∙◌, Bool, List, [], ◌∷◌, Option, None, Some, refl, arith}
+use Rattle.std.proofs.Common.{◌≡◌, ℕ, ◌≤◌, ◌∙◌, List, [], ◌∷◌, Option, None, Some, filter, length, refl, sym, subst, arith}
 use Rattle.std.proofs.lemmas.Option.{IfSome_then}
 use Rattle.arena.specs.Arena.{Arena, IsLive, header_at, key_at, with_header}
 use Rattle.boundaries.specs.declared.entry.NodeEntry.{NodeEntry}
@@ -9,7 +9,8 @@ use Rattle.boundaries.specs.declared.walk.RaisedLeaf.{RaisedLeaf}
 use Rattle.boundaries.specs.declared.walk.LeafOutcome.TheVariants.{Same, Raised, Changed}
 use Rattle.boundaries.specs.Finding.{CanFind, CanStep}
 use Rattle.boundaries.specs.Bound.{Keys, is_below}
-use Rattle.boundaries.specs.Node.{IsHeaded}
+use Rattle.boundaries.specs.Heads.{AllAreHeads}
+use Rattle.boundaries.specs.Node.{IsHeaded, all_heads_of, entries_of}
 use Rattle.boundaries.specs.Store.{AreHeaded, KeysStay}
 use Rattle.boundaries.specs.declared.descent.Position.{Position}
 use Rattle.boundaries.specs.declared.key_bound.KeyBound.{KeyBound}
@@ -22,6 +23,8 @@ use Rattle.boundaries.specs.Subtree.{entries_at, items_in, slots_in}
 use Rattle.boundaries.specs.Walk.{CanChange, CanChangeLeaf, IsChanged, IsRaisedAt, added_by}
 use Rattle.boundaries.proofs.callers.Times.{once_if_distinct}
 use Rattle.boundaries.proofs.Changing.{changes_if_moves, moves_same}
+use Rattle.boundaries.proofs.HeadAt.{entry_at}
+use Rattle.boundaries.proofs.HeadCounts.{passing_inside}
 use Rattle.boundaries.proofs.Headed.{headed_at}
 use Rattle.boundaries.proofs.KnownKeys.{headed_header}
 use Rattle.boundaries.proofs.Leaves.{entries_of_partitioned}
@@ -46,21 +49,25 @@ unchanged store height slot can headed = record {
 }
 
 -- A node whose header is put is stored.
-pub put_stored : (store : Store) (slot : ℕ) (node : Node) → IsLive store.nodes slot → IsSound store → IsHeaded store.keys node
-    → IsStored store (record store { nodes = with_header store.nodes slot node }) slot None
-put_stored store slot node live sound headed =
-    let old = store.nodes in
-    let new = with_header old slot node in
-    let keyless = sound.keyless in
-    let changes = changes_if_moves old new (slot ∷ []) (slot ∷ []) (put_moves old new slot node refl live keyless) in
+pub put_stored_in : {old new : Store} (slot : ℕ) (node : Node) → new.nodes ≡ with_header old.nodes slot node → new.keys ≡ old.keys
+    → IsLive old.nodes slot → IsSound old → IsHeaded old.keys node → IsStored old new slot None
+put_stored_in {old} {new} slot node put keys live sound headed =
+    let a = old.nodes in
+    let b = new.nodes in
+    let changes = changes_if_moves a b (slot ∷ []) (slot ∷ []) (put_moves a b slot node put live sound.keyless) in
     record {
-      live = put_live old new slot node refl;
+      live = put_live a b slot node put;
       live_added = tt;
       changes = changes;
       taken = omega (arith, changes.live, changes.spare);
       filled = tt;
-      headed = headed_header (key_at store.keys) old new slot node refl sound.headed headed;
+      headed = subst (λ k. AllAreHeads (key_at k) (all_heads_of b)) (sym keys)
+          (headed_header (key_at old.keys) a b slot node put sound.headed headed);
     }
+
+pub put_stored : (store : Store) (slot : ℕ) (node : Node) → IsLive store.nodes slot → IsSound store → IsHeaded store.keys node
+    → IsStored store (record store { nodes = with_header store.nodes slot node }) slot None
+put_stored store slot node live sound headed = put_stored_in slot node refl refl live sound headed
 
 -- A leaf that is stored, and its right neighbour if it is split.
 pub leaf_stored : {old new : Store} {slot : ℕ} (outcome : LeafOutcome) → CanChange old.nodes 0 slot
@@ -103,3 +110,11 @@ pub leaf_can_find : {keys : Keys} {bound : KeyBound} {leaf : Node} (nodes : Aren
 leaf_can_find {keys} {bound} {leaf} nodes slot can other header part =
     let partitioned = entries_of_partitioned (is_below keys other) _ (part_partitioned (is_below keys other) (items_in nodes 0 slot) part) in
     record { headed = can.headed; partitioned = rw (entries_from_header nodes slot leaf header) at partitioned; some = can.some }
+
+-- The first entry of a node that can be searched is below the bound.
+pub first_below : {keys : Keys} {bound : KeyBound} {node : Node} {known : ℕ} → CanStep keys bound node known
+    → 1 ≤ length (filter (λ e. is_below keys bound e.key) (entries_of node))
+first_below {keys} {bound} {node} {known} can =
+    let first = entry_at (entries_of node) 0 can.can_find.some in
+    passing_inside (λ (e : NodeEntry). is_below keys bound e.key) (entries_of node) 0 first.0 can.can_find.partitioned first.1
+    (can.known first.0 first.1).0

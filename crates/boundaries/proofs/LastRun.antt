@@ -1,8 +1,9 @@
 -- A leaf of which a run is swept of expired items that begins with the last item below the bound.
-use Rattle.std.proofs.Common.{◌≡◌, ℕ, ℤ, ◌+◌, ◌-◌, ◌<◌, ◌≤◌, Bool, List, Option, [], ◌∷◌, ◌++◌, pos, length, get_or, take, drop, filter, map, sym, ◌∙◌, ap, arith, length-drop}
+use Rattle.std.proofs.Common.{◌≡◌, ℕ, ℤ, ◌+◌, ◌-◌, ◌<◌, ◌≤◌, List, Option, [], ◌∷◌, ◌++◌, pos, length, get_or, take, drop, filter, map, sym, ◌∙◌, ap, arith, length-drop}
 use Rattle.std.proofs.lemmas.List.{take_more, drop_more, map-append, length-map, length-take-le, take-append-drop, drop-drop}
 use mathlib.Core.List.{map-map}
-use Rattle.boundaries.proofs.Words.{NodeEntry, Removal, Item, item_of, version_of, IsPartitioned, first_key, RemovesExpired, IsLast, unexpired, expired}
+use Rattle.boundaries.specs.Item.{key_of}
+use Rattle.boundaries.proofs.Words.{KeyBound, NodeEntry, Removal, Store, Item, is_below, item_of, version_of, IsPartitioned, first_key, GivesUnexpired, IsLast, unexpired, expired}
 use Rattle.boundaries.proofs.Removing.{run, all_stay}
 use Rattle.boundaries.proofs.WrittenLeaf.{items_parted}
 
@@ -23,19 +24,20 @@ module _ (es : List NodeEntry) (begin end : ℕ) (some : begin < end) (most : en
       cc (all_stay edge before (map item_of (run es begin end)) none, take-append-drop begin es, from_run, items, following)
 
   -- the items of the leaf once it is swept of expired items
-  pub leaf_unexpired : (p : ℕ → Bool) → IsPartitioned (λ e. p e.key) es → begin + 1 ≡ length (filter (λ e. p e.key) es)
-      → (count : ℕ) (edge before : ℤ) (removal : Removal) (out : List Item) (next : Option ℕ) (now : List Item)
+  pub leaf_unexpired : (bound : KeyBound) (old new : Store) → IsPartitioned (λ e. is_below old.keys bound e.key) es
+      → begin + 1 ≡ length (filter (λ e. is_below old.keys bound e.key) es)
+      → (count : ℕ) (edge before : ℤ) (removal : Removal) (next : Option ℕ) (now : List Item)
       → end - begin ≤ count → removal.looked_at ≡ end - begin
       → IsLast removal.last (map version_of (run es begin end))
+      → removal.next ≡ first_key next (map item_of (drop end es))
       → now ≡ map item_of (take begin es)
       ++ (unexpired edge before (map item_of (run es begin end)) ++ map item_of (drop end es))
-      → out ≡ expired edge before (map item_of (run es begin end))
-      → removal.next ≡ first_key next (map item_of (drop end es))
-      → RemovesExpired p count edge before removal out next (map item_of es) now
-  leaf_unexpired p partitioned is_below count edge before removal out next now few looked_at last now_is run_is next_is =
+      → new.removed.items ≡ map key_of (expired edge before (map item_of (run es begin end)))
+      → new.keys ≡ old.keys → GivesUnexpired bound count edge before removal old new next (map item_of es) now
+  leaf_unexpired bound old new partitioned first_is count edge before removal next now few looked_at last next_is now_is run_is keys =
       let default : NodeEntry = record { key = 0; child = 0; version = pos 0 } in
       let entry = get_or es begin default in
-      let parts = items_parted p es (begin + 1) partitioned is_below in
+      let parts = items_parted (is_below old.keys bound) es (begin + 1) partitioned first_is in
       let size : length (run es begin end) ≡ end - begin =
       length-take-le (end - begin) (drop begin es) (omega (arith, length-drop begin es)) in
       record {
@@ -55,4 +57,5 @@ module _ (es : List NodeEntry) (begin end : ℕ) (some : begin < end) (most : en
         run_is = run_is;
         last = rw (map-map (λ (x : Item). x.version) item_of (run es begin end)) last;
         next_is = next_is;
+        keys = keys;
       }

@@ -4,6 +4,7 @@ use Rattle.std.proofs.lemmas.Grind.{drop_more_same}
 use Rattle.std.proofs.lemmas.Int.{ints}
 use Rattle.std.proofs.lemmas.List.{append-nil, get_or-drop, map-append, take_more, take_more_set, drop-set-lt, drop_more}
 use Rattle.std.proofs.lemmas.Bool.{cases_Bool}
+use Rattle.boundaries.specs.Item.{key_of}
 use Rattle.boundaries.proofs.Words.{NodeEntry, Item, item_of, version_of, IsLast, unexpired, expired}
 
 -- the entries from an index up to another
@@ -56,16 +57,17 @@ not_below edge v h = grind (arith, ints)
 pub is_below : (edge v : ℤ) → int_le edge v ≡ false → int_lt v edge ≡ true
 is_below edge v h = grind (arith, ints)
 
--- the entries of a node that is swept of expired items, up to an index: those that stay, those that go, and those ahead
-pub record RemovesExpired (edge before last : ℤ) (es now : List NodeEntry) (out : List Item) (from to index kept : ℕ) : Type 0 where
+-- the entries of a node that is swept of expired items, up to an index: those that stay, the keys of those that go, and those ahead
+pub record RemovesExpired (edge before last : ℤ) (es now : List NodeEntry) (out : List ℕ) (from to index kept : ℕ) : Type 0 where
   pub counted : kept + length out ≡ index
   pub same_length : length now ≡ length es
   pub ahead : drop index now ≡ drop index es
   pub stayed : map item_of (take kept now) ++ unexpired edge last (map item_of (run es index to))
       ≡ map item_of (take from es) ++ unexpired edge before (map item_of (run es from to))
-  pub went : out ++ expired edge last (map item_of (run es index to)) ≡ expired edge before (map item_of (run es from to))
+  pub went : out ++ map key_of (expired edge last (map item_of (run es index to)))
+      ≡ map key_of (expired edge before (map item_of (run es from to)))
 
-module _ {edge before last : ℤ} {es now : List NodeEntry} {out : List Item} {from to index kept : ℕ}
+module _ {edge before last : ℤ} {es now : List NodeEntry} {out : List ℕ} {from to index kept : ℕ}
     (t : RemovesExpired edge before last es now out from to index kept) (within : to ≤ length es) where
   module _ (e : NodeEntry) (lt : index < to) (is : e ≡ get_or now index e) where
     -- the next entry
@@ -89,9 +91,9 @@ module _ {edge before last : ℤ} {es now : List NodeEntry} {out : List Item} {f
 
     -- an entry goes
     pub one_goes : (int_lt last edge && int_lt e.version edge) ≡ true
-        → RemovesExpired edge before e.version es now (out ++ item_of e ∷ []) from to (index + 1) kept
+        → RemovesExpired edge before e.version es now (out ++ e.key ∷ []) from to (index + 1) kept
     one_goes g = record {
-      counted = omega (arith, t.counted, length-append out (item_of e ∷ []));
+      counted = omega (arith, t.counted, length-append out (e.key ∷ []));
       same_length = t.same_length;
       ahead = next.1;
       stayed = rw (next.0, g) at t.stayed;
@@ -109,5 +111,5 @@ module _ {edge before last : ℤ} {es now : List NodeEntry} {out : List Item} {f
     all_kept after is = rw (is, map-append, rw (none_ahead, append-nil) at t.stayed, rw end at t.ahead, append_assoc) refl
 
     -- Those that went are all that go.
-    pub all_expired : out ≡ expired edge before (map item_of (run es from to))
+    pub all_expired : out ≡ map key_of (expired edge before (map item_of (run es from to)))
     all_expired = rw (none_ahead, append-nil) at t.went

@@ -1,11 +1,10 @@
 -- The items of a leaf of which a run is written over, and what tells whether the run is ended.
 use Rattle.std.proofs.Common.{◌≡◌, ◌≢◌, ◌⊎◌, inl, inr, ℕ, ℤ, ◌-◌, ◌<◌, ◌≤◌, Bool, true, false, not, List, [], ◌∷◌, ◌++◌, Option}
-use Rattle.std.proofs.Common.{Bor, Some, None, MatchOption, length, get_or, slice_get, take, drop, filter, map, All, Any, refl, sym}
+use Rattle.std.proofs.Common.{Some, None, length, get_or, slice_get, take, drop, filter, map, All, Any, refl, sym}
 use Rattle.std.proofs.Common.{◌∙◌, ap, arith, is_some, length-append}
 use Rattle.std.proofs.lemmas.List.{same_from_push, append-nil, length-map, length-take-le, take-append-drop, drop_at, drop_more, drop_all}
 use Rattle.std.proofs.lemmas.List.Elements.{All-nil, All-cons, All-head, All-append, All-filter, All-weaker, Contains-get_or, filter-append, filter_passes}
 use Rattle.std.proofs.lemmas.Option.{slice_get_cases}
-use Rattle.std.specs.Prelude.{option_copied}
 use Rattle.keys.proofs.callers.SomeElement.{Any-first, Any-right}
 use Rattle.boundaries.specs.declared.entry.NodeEntry.{NodeEntry}
 use Rattle.boundaries.specs.Item.{Item, item_of}
@@ -16,7 +15,7 @@ use Rattle.boundaries.specs.Walk.{IsRaised}
 use Rattle.boundaries.proofs.callers.Partitions.{All-back, none_fail, IsPartitioned-parts}
 use Rattle.boundaries.proofs.Inserting.{ended_some}
 use Rattle.boundaries.proofs.LeafChange.{parted}
-use Rattle.boundaries.proofs.Leaves.{IsLeaf, filter-items, last_passing}
+use Rattle.boundaries.proofs.Leaves.{filter-items}
 use Rattle.boundaries.proofs.Overwriting.{between_is}
 
 -- A part of items that are partitioned is partitioned.
@@ -60,25 +59,6 @@ between_entries p q nested es begin end first_bound second_bound within begins e
     ∙ filter-items q (drop begin es)
     ∙ sym (ap (λ l. map item_of (drop begin l)) all ∙ ap (map item_of) (drop_at (take begin es) _ begin (length-take-le begin es within)))
 
--- The last entry below the bound, where it is lent, has the version of the last such item.
-pub last_version : (q : ℕ → Bool) (es passed : List NodeEntry) (lent : Option (Bor NodeEntry)) (version otherwise : ℤ)
-    (post : Bor NodeEntry → Type 0) → passed ≡ filter (λ e. q e.key) es
-    → option_copied lent ≡ slice_get passed (length passed - 1) → MatchOption lent (version ≡ otherwise) post
-    → ((e : Bor NodeEntry) → post e → version ≡ e.now.version) → (x : Item) → IsLast x (items_below q (map item_of es))
-    → version ≡ x.version
-last_version q es passed lent version otherwise post same is answered says x ends =
-    let alone : IsLeaf q (map item_of es) [] [] es =
-    record { items_are = sym (append-nil (map item_of es)); pass = All-nil _; fail = All-nil _; none = λ _. refl } in
-    by_last lent answered (last_passing q (map item_of es) [] [] es passed (option_copied lent) alone same is)
-  where
-    by_last : (lent : Option (Bor NodeEntry)) → MatchOption lent (version ≡ otherwise) post
-        → MatchOption (option_copied lent) (items_below q (map item_of es) ≡ [])
-        (λ e. IsLast (item_of e) (items_below q (map item_of es))) → version ≡ x.version
-    by_last None answered none = absurd (omega (arith, length-append ends.0 (x ∷ []), ap length (sym ends.1 ∙ none)))
-    by_last (Some e) answered there =
-        says e answered
-        ∙ ap (λ (x : Item). x.version) (same_from_push there.0 ends.0 (item_of e.now) x (sym there.1 ∙ ends.1)).1
-
 -- the first key is that of the items in front
 first_of_front : (xs ys zs : List Item) → xs ≢ [] → first_key None (xs ++ ys) ≡ first_key None (xs ++ zs)
 first_of_front [] ys zs some = absurd (some refl)
@@ -111,26 +91,19 @@ raised p q nested first second ended was now partitioned some some_second writte
           (All-append P _ (following q was) ends (All-filter (λ (x : Item). not (q x.key)) P was own))));
     }
 
-module _ (q r : ℕ → Bool) (es : List NodeEntry) (end : ℕ) (others : drop end es ≡ filter (λ e. not (q e.key)) es)
-    (otherwise : Option ℕ) (ended : Bool) where
-  after_end : following q (map item_of es) ≡ map item_of (drop end es)
-  after_end = filter-items (λ key. not (q key)) es ∙ sym (ap (map item_of) others)
-
+module _ (r : ℕ → Bool) (es : List NodeEntry) (end : ℕ) (otherwise : Option ℕ) (ended : Bool) where
   -- The next entry of the leaf tells whether the first key behind the second bound passes.
   pub ended_in_leaf : end < length es → ((e : NodeEntry) → slice_get es end ≡ Some e → ended ≡ r e.key)
-      → ended ≡ first_is_below r (first_key otherwise (following q (map item_of es)))
+      → ended ≡ first_is_below r (first_key otherwise (map item_of (drop end es)))
   ended_in_leaf within describes = elim (slice_get_cases es end).1 [
-    | inl at ↦ rw (after_end, drop_more es end at.0 within, at.3) (describes at.0 at.2)
+    | inl at ↦ rw (drop_more es end at.0 within, at.3) (describes at.0 at.2)
     | inr none ↦ absurd (omega (arith, none.0))
   ]
 
   -- Where there is none, the key behind the leaf does.
-  pub ended_after : length es ≤ end → (post : ℕ → Type 0) → MatchOption otherwise (ended ≡ false) post
-      → ((key : ℕ) → post key → ended ≡ r key)
-      → ended ≡ first_is_below r (first_key otherwise (following q (map item_of es)))
-  ended_after all post tested says =
-      let Describes = λ (key : Option ℕ). MatchOption key (ended ≡ false) post → ended ≡ first_is_below r key in
-      rw (after_end, drop_all end es all) ((elim otherwise as Describes [ None ↦ λ none. none | Some key ↦ says key ]) tested)
+  pub ended_after : length es ≤ end → ended ≡ first_is_below r otherwise
+      → ended ≡ first_is_below r (first_key otherwise (map item_of (drop end es)))
+  ended_after all answered = rw (drop_all end es all) answered
 
 -- no version is given where there is none
 pub none_if : (o : Option ℤ) → is_some o ≡ false → o ≡ None

@@ -11,7 +11,7 @@ use Rattle.boundaries.specs.Item.{Item}
 use Rattle.boundaries.specs.Items.{IsLast, ended_by}
 use Rattle.boundaries.specs.Path.{IsPartitioned, items_below, following, between, first_key}
 use Rattle.boundaries.specs.Store.{PutsKeys}
-use Rattle.boundaries.specs.Walk.{CanChangeTree}
+use Rattle.boundaries.specs.Walk.{CanChangeTree, IsRaisedInTree}
 
 -- the bounds right before the start, right before the end, and right after it
 abbrev pub bound_from : Overwrite → KeyBound
@@ -102,6 +102,7 @@ abbrev pub GivesWritten : Overwrite → Option ℤ → Store → Store → Optio
 GivesWritten new None old store next was now = GivesEntire new old store next was now
 GivesWritten new (Some at_end) old store next was now = GivesPart new at_end old store was now
 
--- a tree of which a run of items may be written over
-abbrev pub CanOverwrite : Tree → Overwrite → Type 0
-CanOverwrite tree new = CanChangeTree (bound_to new) (CanBeWritten new) tree
+-- A tree of which a run of items may be written over, and of which the leaf of the last write is right.
+pub record CanOverwrite (tree : Tree) (new : Overwrite) : Type 0 where
+  pub can_change : CanChangeTree (bound_to new) (CanBeWritten new) tree
+  pub raised : IsRaisedInTree tree.store.nodes tree.root.height tree.root.slot tree.raised

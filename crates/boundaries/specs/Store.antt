@@ -7,7 +7,7 @@ use Rattle.boundaries.specs.declared.boundary_list.TheConstants.{LONGEST_PATH}
 use Rattle.boundaries.specs.declared.node.TheConstants.{HALF_FULL}
 use Rattle.boundaries.specs.declared.store.Store.{Store}
 use Rattle.boundaries.specs.Bound.{Keys}
-use Rattle.boundaries.specs.Children.{IsKeyless}
+use Rattle.boundaries.specs.Children.{IsKeyless, slot_taken}
 use Rattle.boundaries.specs.Heads.{AllAreHeads}
 use Rattle.boundaries.specs.Node.{all_heads_of}
 use Rattle.boundaries.specs.Subtree.{entries_at, items_in, slots_in, IsSubtree}
@@ -28,6 +28,7 @@ pub record PutsKeys (old new : Keys) (start end : List ℕ) (first : ℕ) (secon
   pub start_is : key_at new first ≡ Some start
   pub free_end : (slot : ℕ) → second ≡ Some slot → (record_at old slot ≡ None) × (slot ≢ first) × (key_at new slot ≡ Some end)
   pub others : (slot : ℕ) → slot ≢ first → second ≢ Some slot → record_at new slot ≡ record_at old slot
+  pub counted : finite.len new.records ≡ finite.len old.records + length (first ∷ slot_taken second)
   pub spare : (size : ℕ) → spare_of old size ≤ spare_of new size + wanted_of (length start ∷ length end ∷ []) size
 
 -- the nodes of a tree

@@ -1,7 +1,7 @@
 //! What is written: a version on a range.
 
 ghost use Rattle.std.specs.Prelude.{◌≡◌, take};
-ghost use Rattle.keys.specs.Key.{IsBefore};
+ghost use Rattle.keys.specs.Key.{IsBefore, IsKey};
 
 use crate::key_bound::KeyBound;
 use keys::{HashedRange, common_prefix_len};
@@ -16,6 +16,8 @@ pub struct Overwrite<'a> {
     pub version: i64,
     /// The version at the end. If it is missing, it is that of the last boundary before the end.
     pub at_end: Option<i64>,
+    ghost start_is_key: { IsKey start.now },
+    ghost end_is_key: { IsKey end.now },
     ghost filled: { IsBefore start.now end.now },
     ghost common: { take common_prefix_len start.now ≡ take common_prefix_len end.now },
 }

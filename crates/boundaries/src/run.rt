@@ -109,7 +109,7 @@ pub struct Overwriting<'a, 'b> {
 impl<'a, 'b> LeafChange for Overwriting<'a, 'b> {
     ghost bound_of = { λ o. bound_to o.new.now };
 
-    ghost wants = { λ o. CanBeWritten o.new.now };
+    ghost wants = { λ o keys items. (o.at_end ≡ None) × CanBeWritten o.new.now keys items };
 
     ghost gives = { λ o done. GivesWritten o.new.now done.at_end };
 
@@ -144,10 +144,10 @@ impl<'a, 'b> LeafChange for Overwriting<'a, 'b> {
         })
     }
 
-    ghost part = { λ o keys before items following wanted. record {
-      part = part_of_part (before_start keys o.new.now) before items following wanted.part;
-      room = wanted.room;
-    } };
+    ghost part = { λ o keys before items following wanted. (wanted.0, record {
+      part = part_of_part (before_start keys o.new.now) before items following wanted.1.part;
+      room = wanted.1.room;
+    }) };
 }
 
 // Returns whether a leaf has the first boundary of all: that at the empty key.

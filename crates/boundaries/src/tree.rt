@@ -139,6 +139,7 @@ fn grow(store: &mut Store, root: Root, added: Slot) -> Root
     ensures keeps { KeepsKeys store.old store.new }
 {
     let mut node = Node::of(store.entry_for(root.slot));
+    node.compute_heads(&store.keys);
     let added = [store.entry_for(added)];
     node.splice(&store.keys, Splice::new(1, 1, &added, None));
     Root {

@@ -1,21 +1,19 @@
 use Rattle.std.proofs.Common.{rules, ◌≡◌, ◌∙◌, sym, true, false, w64, to_z, of_z, ◌&&◌, int_lt, arith, refl, length}
 use Rattle.std.proofs.Math.Bool.{and-false}
 use Rattle.std.proofs.lemmas.Int.{to_z-of_z}
-use Rattle.std.proofs.lemmas.List.{length-map, map-append}
 use Rattle.std.proofs.lemmas.Option.{slice_get_read}
-use Rattle.boundaries.proofs.Words.{item_of, entries_of}
+use Rattle.boundaries.proofs.Words.{entries_of}
 use Rattle.boundaries.proofs.Removing.{one_stays, one_goes, not_below, is_below, all_kept, all_expired}
 use Rattle.boundaries.proofs.expiry.remove_expired.Goals as goal
 
 pub push-requires : goal.push-requires
 push-requires c =
     let inv = c.loop-index.invariant.removal in
-    let taken = length-map c.loop-index.taken.items item_of in
-    omega (arith, taken, c.entries.ensures.most, inv.same_length, inv.counted, c.requires.within)
+    omega (arith, c.entries.ensures.most, inv.same_length, inv.counted, c.requires.within)
 
 pub loop-index-init : goal.loop-index-init
 loop-index-init c = record {
-  removal = rw c.requires.none_taken
+  removal = rw c.requires.none_removed
       record { counted = omega arith; same_length = refl; ahead = refl; stayed = refl; went = refl };
   headed = λ bytes h. h;
 }
@@ -39,7 +37,7 @@ loop-index-preserved c =
                 rw (not_below edge e.version (rw same at (sym u.value-is ∙ w.if-version-edge.true))) (and-false _)
           ] in
           record {
-            removal = rw (w.node-is, nodes, w.taken-is, w.kept-is, same)
+            removal = rw (w.node-is, nodes, w.removed-is, w.kept-is, same)
                 (one_stays inv.removal c.requires.within e c.loop-index-test.true is both);
             headed = λ bytes h. rw w.node-is (w.copy.ensures.headed bytes (inv.headed bytes h));
           }
@@ -51,7 +49,7 @@ loop-index-preserved c =
                 rw (is_below edge last u.if-last-edge.false, below) refl
           ] in
           record {
-            removal = rw (w.node-is, w.taken-is, w.push.ensures.items, map-append, w.kept-is, same)
+            removal = rw (w.node-is, w.removed-is, w.push.ensures.items, w.kept-is, same)
                 (one_goes inv.removal c.requires.within e c.loop-index-test.true is both);
             headed = λ bytes h. rw w.node-is (inv.headed bytes h);
           }
@@ -62,7 +60,7 @@ returns-clause-kept c =
     rw (to_z-of_z w64 c.args.edge c.ranges.edge, to_z-of_z w64 c.args.before c.ranges.before) at
     (all_kept c.loop-index.invariant.removal c.requires.within (omega arith) _ c.remove.ensures.entries)
 
-pub returns-clause-taken : goal.returns-clause-taken
-returns-clause-taken c =
+pub returns-clause-removed : goal.returns-clause-removed
+returns-clause-removed c =
     rw (to_z-of_z w64 c.args.edge c.ranges.edge, to_z-of_z w64 c.args.before c.ranges.before) at
     (all_expired c.loop-index.invariant.removal c.requires.within (omega arith))

@@ -1,103 +1,110 @@
-use Rattle.std.proofs.Common.{rules, ◌-◌, ◌≡◌, ◌∙◌, inl, ap, sym, None, ◌++◌, ◌∷◌, get_or, length, length-append, w64, take, drop, map, arith, unwrap_or}
-use Rattle.std.proofs.lemmas.Int.{ints, to_z-of_z}
+use Rattle.std.proofs.Common.{rules, ℕ, ◌-◌, ◌+◌, ◌≤◌, ◌≡◌, ◌∙◌, inl, ap, sym, List, [], None, ◌++◌, ◌∷◌, length, length-append, Option, take, drop, map, arith, unwrap_or}
+use Rattle.std.proofs.lemmas.Int.{ints}
 use Rattle.std.proofs.lemmas.List.{length-drop, length-map, length-take-le}
+use Rattle.boundaries.specs.declared.node.Node.{Node}
+use Rattle.boundaries.specs.EntryRun.{IsRunWritten}
+use Rattle.boundaries.specs.Finding.{CanFind}
 use Rattle.boundaries.specs.Item.{item_of}
-use Rattle.boundaries.specs.Node.{entries_of}
-use Rattle.boundaries.specs.EntryRun.{CanFindRun}
-use Rattle.boundaries.specs.Subtree.{entries_at}
 use Rattle.boundaries.specs.Items.{ended_by}
-use Rattle.boundaries.proofs.Headed.{headed_at}
+use Rattle.boundaries.specs.Node.{entries_of}
+use Rattle.boundaries.specs.Overwrite.{GivesEntire, before_end, before_start}
+use Rattle.boundaries.specs.Path.{IsPartitioned}
+use Rattle.boundaries.specs.Subtree.{entries_at, items_in}
 use Rattle.boundaries.proofs.Leaves.{entries_of_partitioned}
 use Rattle.boundaries.proofs.Placing.{entries_from_header}
-use Rattle.boundaries.proofs.RunWritten.{last_read, taken_out, entire_run}
-use Rattle.boundaries.proofs.WrittenLeaf.{some_item, items_parted, ended_in_leaf}
-use Rattle.boundaries.proofs.LeafChange.{parted}
-use Rattle.boundaries.proofs.remembered.write_in_leaf.Goals.{After-header_ref-node}
+use Rattle.boundaries.proofs.RunWritten.{entire_run, last_entry}
+use Rattle.boundaries.proofs.WrittenLeaf.{none_if, some_item, items_parted, ended_in_leaf}
+use Rattle.boundaries.proofs.remembered.write_in_leaf.Goals.{In-Some, After-write_run}
 use Rattle.boundaries.proofs.remembered.write_in_leaf.Goals as goal
 
--- the entries of the leaf, among which the run is sought
-module _ (c : After-header_ref-node) where
-  read : entries_at c.args.nodes.now c.args.leaf.slot ≡ entries_of c.header_ref-node.result.now
-  read = entries_from_header c.args.nodes.now c.args.leaf.slot _ c.header_ref-node.ensures.header
+-- the leaf, and the run in it
+module _ (c : In-Some) where
+  open c use {args.{store.{now as store}, leaf.{slot}, new.{now as new}}, requires.{can_write}, in-Some.{run, ensures.{run as found}}}
 
-  can_find : CanFindRun (g.P.Bound.below c.args.new.now.from.now) (g.Q.Bound.below c.args.new.now.to.now)
-      (g.Q.Bound.bytes c.args.new.now.to.now) c.header_ref-node.result.now
-  can_find =
-      let can = c.requires.can_write in
+  abbrev node : Node
+  node = found.run_is.leaf
+
+  read : entries_at store.nodes slot ≡ entries_of node
+  read = entries_from_header store.nodes slot node found.run_is.there
+
+  from : IsPartitioned (λ e. before_start store.keys new e.key) (entries_of node)
+  from = rw read at (entries_of_partitioned (before_start store.keys new) (entries_at store.nodes slot) can_write.from)
+
+  to : IsPartitioned (λ e. before_end store.keys new e.key) (entries_of node)
+  to = rw read at (entries_of_partitioned (before_end store.keys new) (entries_at store.nodes slot) can_write.to)
+
+pub write_run-requires : goal.write_run-requires
+write_run-requires c =
+    let can = c.requires.can_write in (
+      search rules,
       record {
-        fan_out = can.fan_out;
-        few = can.few;
-        first_bound = rw read at (entries_of_partitioned _ (entries_at c.args.nodes.now c.args.leaf.slot) can.first_bound);
-        second_bound = record {
-          headed = headed_at _ c.args.nodes.now c.args.leaf.slot _ can.headed c.header_ref-node.ensures.header;
-          partitioned = rw read at (entries_of_partitioned _ (entries_at c.args.nodes.now c.args.leaf.slot) can.second_bound);
-          some = rw read at can.some;
-        };
-      }
+        sound = can.sound;
+        room = can.room;
+        key_room = can.key_room;
+        run_is = c.in-Some.ensures.run.run_is;
+        none_removed = can.none_removed;
+      },
+    )
 
-pub find_run-requires : goal.find_run-requires
-find_run-requires c =
-    (omega (arith, c.requires.can_write.few), can_find g (goal.at.find_run-requires c).After-header_ref-node)
+-- There is room for what is put in.
+fits : (c : After-write_run) → c.write_run.result ≡ None
+fits c =
+    let h = (goal.at.After-write_run c).In-Some in
+    let found = c.in-Some.ensures.run in
+    let is = found.run_is.run_is in
+    c.write_run.ensures.fits (omega (arith, found.fits, is.ordered, is.end.within, ap length (read h)))
 
-pub returns : goal.returns
-returns c =
-    let h = (goal.at.returns c).After-header_ref-node in
-    let can = can_find g h in
+written : (c : After-write_run)
+    → IsRunWritten c.args.store.now c.write_run.new.store c.args.leaf.slot c.args.new.now c.in-Some.run None
+written c = rw (fits c) at c.write_run.ensures.written
+
+pub returns-in-Some : goal.returns-in-Some
+returns-in-Some c =
+    let t = goal.at.returns-in-Some c in
+    let h = t.In-Some in
+    let old = c.args.store.now in
+    let now = c.write_run.new.store in
+    let slot = c.args.leaf.slot in
     let new = c.args.new.now in
-    let p = g.P.Bound.below new.from.now in
-    let q = g.Q.Bound.below new.to.now in
-    let es = entries_of c.header_ref-node.result.now in
-    let run = c.in_ok-run.ensures.run in
-    let begin = c.in_ok-run.run'.begin in
-    let end = c.in_ok-run.run'.end in
-    let ended = c.in_ok-run.run'.ended in
-    let in_order = run.run_is.ordered in
-    let within = run.run_is.end.within in
-    let begins = run.run_is.begin.count_is in
-    let ends = run.run_is.end.count_is in
-    let x = c.index-entries-run.result in
-    let entire : c.write_run.result ≡ None = c.write_run.ensures.fits (omega (arith, run.fits, in_order, within, ap length (read g h))) in
-    let last = last_read q es end x can.second_bound.partitioned ends (omega (arith, run.some_before, in_order)) within in
-    let version = (get_or c.entries-entries.result.now (end - 1) x).version in
-    let kept = to_z-of_z w64 version (search rules) in
-    let written = rw (entire, read g h, kept, c.entries-entries.ensures.entries) at c.write_run.ensures.written in
-    let second = ended_by ended (record { key = new.second; version = unwrap_or new.last (get_or es (end - 1) x).version }) in
-    let back = map item_of (drop end es) in
-    let others = (parted q es end can.second_bound.partitioned ends).1 in
+    let run = c.in-Some.run in
+    let found = c.in-Some.ensures.run in
+    let is = found.run_is.run_is in
+    let es = entries_of (node h) in
+    let read = read h in
+    let w = written t.After-write_run in
+    let within = rw read at found.some_after in
+    let last = last_entry es run.end is.some is.end.within in
+    let items = (rw read at w.items) last.last (last.front, last.is) in
+    let second = ended_by run.ended (record { key = w.second; version = unwrap_or new.at_end last.last.version }) in
     record {
-      written = (
-        grind (arith, ints, c.if-new-leaf.false),
-        record {
-          given_none = run.given_none;
-          some_before = rw (read g h) (some_item p es begin run.some_before begins);
-          some_after = λ none. absurd (omega (
-            arith,
-            run.some_after,
-            length-drop end es,
-            length-map (drop end es) item_of,
-            ap length (sym (items_parted q es end can.second_bound.partitioned ends).1 ∙ (rw (read g h) at none)),
-          ));
-          gives = λ is_first next. rw (read g h) (entire_run p q (g.R.Bound.below new.past.now) new.nested es begin end
-              can.first_bound can.second_bound.partitioned (omega (arith, in_order, within)) begins ends (item_of new.first) new.second
-              new.last ended is_first next _ _ (inl run.some_before) (omega (arith, run.some_before, in_order)) _ last
-              (taken_out _ es begin end c.put_taken.ensures.taken c.requires.can_write.none_taken c.entries-entries.ensures.entries
-              in_order)
-              (ended_in_leaf q (g.R.Bound.below new.past.now) es end others next ended run.some_after run.ended) written);
-          filled = omega (
-            arith,
-            run.filled,
-            in_order,
-            within,
-            ap length written,
-            length-map (take begin es) item_of,
-            length-take-le begin es (omega (arith, in_order, within)),
-            length-map (drop end es) item_of,
-            length-drop end es,
-            length-map (entries_at c.write_run.new.nodes c.args.leaf.slot) item_of,
-            length-append (map item_of (take begin es)) (item_of new.first ∷ second ++ back),
-            length-append second back,
-          );
-          stored = rw entire at c.write_run.ensures.stored;
-        },
-      );
+      written = record {
+        version = grind (arith, ints, c.if-new-leaf.false);
+        given_none = none_if new.at_end (sym c.is_some.ensures ∙ c.if-is_some.false);
+        some_before = rw read (some_item (before_start old.keys new) es run.begin found.some_before is.begin.count_is);
+        some_after = λ none. absurd (omega (
+          arith,
+          within,
+          length-drop run.end es,
+          length-map (drop run.end es) item_of,
+          ap length (sym (items_parted (before_end old.keys new) es run.end (to h) is.end.count_is).1 ∙ (rw read at none)),
+        ));
+        gives = λ next. rw read (entire_run old now new (node h) run is (from h) (to h) w.first w.second next _ (inl found.some_before)
+            w.puts (rw read at w.removed) (ended_in_leaf _ es run.end next run.ended within (rw read at found.ended)) (rw read at w.items));
+        filled = omega (
+          arith,
+          rw read at found.filled,
+          is.ordered,
+          is.end.within,
+          ap length items,
+          length-map (take run.begin es) item_of,
+          length-take-le run.begin es is.begin.within,
+          length-map (drop run.end es) item_of,
+          length-drop run.end es,
+          length-map (entries_at now.nodes slot) item_of,
+          length-append (map item_of (take run.begin es)) (record { key = w.first; version = new.version } ∷ second ++ map item_of (drop run.end es)),
+          length-append second (map item_of (drop run.end es)),
+        );
+        stored = rw (fits t.After-write_run) at c.write_run.ensures.stored;
+        keys = c.write_run.ensures.keys;
+      };
     }

@@ -1,30 +1,28 @@
 use Rattle.std.proofs.Common.{rules, Bool, false, IsTrue, ◌∷◌, ℕ, ◌≡◌, ◌≢◌, ◌≤◌, ◌<◌, ◌+◌, ◌-◌, ◌∙◌, ◌++◌, ap, sym, refl, List, [], length, filter, take, drop, map, arith, w64}
 use Rattle.std.proofs.lemmas.Int.{to_z-of_z}
-use Rattle.boundaries.proofs.Words.{with_header, NodeEntry, Item, item_of, entries_of, entries_at, GivesUnexpired, unexpired, expired}
-use Rattle.boundaries.proofs.ChangedLeaf.{leaf_can_step, leaf_changed, unchanged}
+use Rattle.boundaries.specs.Item.{key_of}
+use Rattle.boundaries.specs.Rebalancing.{IsSound}
+use Rattle.boundaries.proofs.Words.{with_header, NodeEntry, Store, Item, is_below, item_of, entries_of, entries_at, GivesUnexpired, unexpired, expired}
+use Rattle.boundaries.proofs.ChangedLeaf.{first_below, leaf_can_step, leaf_stored, put_stored_in, unchanged}
 use Rattle.boundaries.proofs.Headed.{headed_at}
 use Rattle.boundaries.proofs.LastRun.{leaf_unexpired, untouched}
 use Rattle.boundaries.proofs.Placing.{entries_from_header, put_entries}
 use Rattle.boundaries.proofs.Removing.{run}
-use Rattle.boundaries.proofs.WrittenLeaf.{items_parted, some_item}
+use Rattle.boundaries.specs.declared.walk.LeafOutcome.TheVariants.{Changed}
 use Rattle.boundaries.proofs.expiry.ExpiringLeafChange.change.Goals as goal
-use Rattle.boundaries.proofs.expiry.ExpiringLeafChange.change.Goals.{After-has_expired}
+use Rattle.boundaries.proofs.expiry.ExpiringLeafChange.change.Goals.{After-lower_bound, After-has_expired}
 
-pub lower_bound-below-requires : goal.lower_bound-below-requires
-lower_bound-below-requires c = (
-  omega (arith, c.requires.can_change.changeable.few),
-  leaf_can_step c.requires.can_change c.header_ref-leaf.ensures.header,
-)
+pub lower_bound-requires : goal.lower_bound-requires
+lower_bound-requires c = search (rules, leaf_can_step c.requires.can_change c.header_ref-leaf.ensures.header)
 
--- Where no entry passes, no item does.
-pub returns-then-below-eq0-clause-items : goal.returns-then-below-eq0-clause-items
-returns-then-below-eq0-clause-items c =
-    let can = leaf_can_step c.requires.can_change c.header_ref-leaf.ensures.header in
-    let none = (items_parted (g.P.Bound.below c.args.self.now.bound.now) _ 0 can.can_find.partitioned
-    (omega (arith, c.lower_bound-below.ensures.count.count_is, c.if-below-eq0.true))).0 in (
-      λ _. (refl, rw c.requires.can_change.none_taken refl),
-      λ some. absurd (some (rw (entries_from_header c.args.nodes.now c.args.slot _ c.header_ref-leaf.ensures.header) none)),
-    )
+-- some entry is below the bound
+some_below : (c : After-lower_bound) → 1 ≤ c.lower_bound.result
+some_below c =
+    let some = first_below (leaf_can_step c.requires.can_change c.header_ref-leaf.ensures.header) in
+    omega (arith, some, c.lower_bound.ensures.count.count_is)
+
+pub sub-begin-result : goal.sub-begin-result
+sub-begin-result c = omega (arith, some_below (goal.at.sub-begin-result c).After-lower_bound)
 
 -- Where it isn't told that some item goes, none does.
 none_goes : (out : List Item) (answered : Bool) → (out ≢ [] → IsTrue answered) → answered ≡ false → out ≡ []
@@ -33,9 +31,9 @@ none_goes (x ∷ out) answered some said = absurd (let t = some (λ e. absurd (c
 
 -- where the run stands that is looked at
 module _ (c : After-has_expired) where
-  open c use {args.{self.{now.{bound, count, edge, before}}, nodes.{now as nodes}, slot, place}, min}
+  open c use {args.{self.{now.{bound, count, edge, before}}, store.{now as store}, position}, min}
   open c use {header_ref-leaf.{result.{now as leaf}, ensures.{header}}}
-  open c use {lower_bound-below.{result as below, ensures.{count as counts}}}
+  open c use {lower_bound.{result as below, ensures.{count as counts}}}
 
   abbrev es : List NodeEntry
   es = entries_of leaf
@@ -49,36 +47,36 @@ module _ (c : After-has_expired) where
   abbrev looked : List Item
   looked = map item_of (run es begin end)
 
-  read : entries_at nodes slot ≡ es
-  read = entries_from_header nodes slot leaf header
+  read : entries_at store.nodes position.slot ≡ es
+  read = entries_from_header store.nodes position.slot leaf header
+
+  some : 1 ≤ below
+  some = some_below (goal.at.After-has_expired c).After-lower_bound
 
   some_looked : begin < end
-  some_looked = omega (arith, min.ensures, c.args.self.now.some, c.len.ensures.len, counts.within, c.if-below-eq0.false)
+  some_looked = omega (arith, min.ensures, c.args.self.now.some, c.len.ensures.len, counts.within, some)
 
   within : end ≤ length es
   within = omega (arith, min.ensures, c.len.ensures.len, counts.within)
 
   -- what becomes of the items of the leaf
-  swept : (now out : List Item)
+  swept : (new : Store) (now : List Item)
       → now ≡ map item_of (take begin es) ++ (unexpired edge before looked ++ map item_of (drop end es))
-      → out ≡ expired edge before looked
-      → GivesUnexpired (g.P.Bound.below bound.now) count edge before c.look_at-self.result out
-      place.following (map item_of (entries_at nodes slot)) now
-  swept now out now_is out_is =
-      let p = g.P.Bound.below bound.now in
+      → new.removed.items ≡ map key_of (expired edge before looked) → new.keys ≡ store.keys
+      → GivesUnexpired bound count edge before c.look_at-self.result store new position.following
+      (map item_of (entries_at store.nodes position.slot)) now
+  swept new now now_is out_is keys =
       let partitioned = (leaf_can_step c.requires.can_change header).can_find.partitioned in
       let answered = c.look_at-self.ensures in
-      let first_is : begin + 1 ≡ length (filter (λ (e : NodeEntry). p e.key) es) = omega (arith, counts, c.if-below-eq0.false) in
-      rw read (
-        λ none. absurd (some_item p es below (omega (arith, c.if-below-eq0.false)) counts.count_is none),
-        λ _. leaf_unexpired es begin end some_looked within p partitioned first_is _ edge before c.look_at-self.result out
-            place.following now (omega (arith, min.ensures)) answered.looked_at (rw c.entries.ensures.entries at answered.last) now_is
-            out_is (rw c.entries.ensures.entries at answered.next),
-      )
+      let first_is : begin + 1 ≡ length (filter (λ (e : NodeEntry). is_below store.keys bound e.key) es) =
+      omega (arith, counts, some) in
+      rw read (leaf_unexpired es begin end some_looked within bound store new partitioned first_is count edge before
+      c.look_at-self.result position.following now (omega (arith, min.ensures)) answered.looked_at
+      (rw c.entries.ensures.entries at answered.last) (rw c.entries.ensures.entries at answered.next) now_is out_is keys)
 
 pub returns-then-not-has_expired-clause-changed : goal.returns-then-not-has_expired-clause-changed
 returns-then-not-has_expired-clause-changed c =
-    unchanged _ c.args.nodes.now 0 c.args.slot c.requires.can_change.changeable c.requires.can_change.searched.headed
+    unchanged c.args.store.now 0 c.args.position.slot c.requires.can_change.changeable c.requires.can_change.headed
 
 -- Where none goes, all stay.
 pub returns-then-not-has_expired-clause-items : goal.returns-then-not-has_expired-clause-items
@@ -87,28 +85,37 @@ returns-then-not-has_expired-clause-items c =
     let before_is = to_z-of_z w64 c.args.self.now.before (search rules) in
     let none = rw (to_z-of_z w64 c.args.self.now.edge (search rules), before_is, c.entries-2.ensures.entries) at
     (none_goes _ c.has_expired.result c.has_expired.ensures.expired.1 c.if-not-has_expired.true) in
-    swept g t _ _ (ap (map item_of) (read g t)
-    ∙ untouched (es g t) (begin g t) (end g t) (some_looked g t) (within g t) c.args.self.now.edge c.args.self.now.before none)
-    (rw (none, c.requires.can_change.none_taken) refl)
+    swept t c.args.store.now _ (ap (map item_of) (read t)
+    ∙ untouched (es t) (begin t) (end t) (some_looked t) (within t) c.args.self.now.edge c.args.self.now.before none)
+    (rw (none, c.requires.can_change.none_removed) refl) refl
+
+pub remove_expired-requires : goal.remove_expired-requires
+remove_expired-requires c =
+    let t = (goal.at.remove_expired-requires c).After-has_expired in
+    let there = sym (entries_from_header c.args.store.now.nodes c.args.position.slot _ c.header_mut-leaf.ensures.header) ∙ read t in
+    search (rules, c.requires.can_change.none_removed, some_looked t, rw (← there) at within t)
 
 pub lengthen_prefix-requires : goal.lengthen_prefix-requires
-lengthen_prefix-requires c = (
-  omega (arith, c.requires.can_change.changeable.few),
-  c.remove_expired.ensures.headed _ (headed_at _ c.args.nodes.now c.args.slot c.header_mut-leaf.result.now
-      c.requires.can_change.searched.headed c.header_mut-leaf.ensures.header),
-)
+lengthen_prefix-requires c = search (rules, c.remove_expired.ensures.headed _ (headed_at _ c.args.store.now.nodes c.args.position.slot
+    c.header_mut-leaf.result.now c.requires.can_change.headed c.header_mut-leaf.ensures.header))
 
 pub returns-clause-changed : goal.returns-clause-changed
-returns-clause-changed c = leaf_changed c.lengthen_prefix.new.self c.requires.can_change c.lengthen_prefix.ensures.headed
+returns-clause-changed c =
+    let can = c.requires.can_change in
+    let sound : IsSound c.args.store.now = record { keyless = can.changeable.keyless; headed = can.headed } in
+    let stored = put_stored_in c.args.position.slot c.lengthen_prefix.new.self refl refl can.changeable.subtree sound
+    c.lengthen_prefix.ensures.headed in
+    leaf_stored Changed can.changeable stored (λ s live. refl) (λ e. absurd (cc)) (λ leaf e. absurd (cc))
 
 pub returns-clause-items : goal.returns-clause-items
 returns-clause-items c =
     let t = (goal.at.returns-clause-items c).After-has_expired in
-    let old = c.args.nodes.now in
+    let old = c.args.store.now.nodes in
+    let slot = c.args.position.slot in
     let node = c.lengthen_prefix.new.self in
     let edge_is = to_z-of_z w64 c.args.self.now.edge (search rules) in
     let before_is = to_z-of_z w64 c.args.self.now.before (search rules) in
-    let there = sym (entries_from_header old c.args.slot _ c.header_mut-leaf.ensures.header) ∙ read g t in
-    let after = put_entries old (with_header old c.args.slot node) c.args.slot node refl ∙ c.lengthen_prefix.ensures.entries in
-    swept g t _ _ (ap (map item_of) after ∙ (rw (edge_is, before_is, there) at c.remove_expired.ensures.kept))
-    (rw (edge_is, before_is, there) at c.remove_expired.ensures.taken)
+    let there = sym (entries_from_header old slot _ c.header_mut-leaf.ensures.header) ∙ read t in
+    let after = put_entries old (with_header old slot node) slot node refl ∙ c.lengthen_prefix.ensures.entries in
+    swept t _ _ (ap (map item_of) after ∙ (rw (edge_is, before_is, there) at c.remove_expired.ensures.kept))
+    (rw (edge_is, before_is, there) at c.remove_expired.ensures.removed) refl

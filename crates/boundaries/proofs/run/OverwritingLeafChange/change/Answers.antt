@@ -1,244 +1,162 @@
-use Rattle.std.proofs.Common.{rules, ℕ, ◌≡◌, ◌≤◌, ◌∙◌, ap, sym, refl, subst, Bool, true, List, ◌∷◌, ◌++◌, length, take, drop}
-use Rattle.std.proofs.Common.{map, unwrap_or, ℤ, w64, to_z, of_z, inl, inr, ◌⊎◌, IsTrue, arith}
-use Rattle.std.proofs.lemmas.Bool.{leb-true, not-false}
-use Rattle.std.proofs.lemmas.Int.{to_z-of_z}
-use Rattle.std.proofs.lemmas.Option.{IfSome_then}
+use Rattle.std.proofs.Common.{rules, ℕ, ◌≡◌, ◌≢◌, ◌<◌, ◌≤◌, ◌∙◌, ap, sym, refl, subst, true, List, [], ◌∷◌, ◌++◌, None, Some, length, drop, map, inl, inr, ◌⊎◌, arith}
 use Rattle.boundaries.specs.declared.entry.NodeEntry.{NodeEntry}
+use Rattle.boundaries.specs.declared.node.Node.{Node}
+use Rattle.boundaries.specs.declared.store.Store.{Store}
 use Rattle.boundaries.specs.declared.walk.RaisedLeaf.{RaisedLeaf}
-use Rattle.boundaries.specs.declared.walk.LeafOutcome.TheVariants.{Raised, Split}
-use Rattle.boundaries.specs.Finding.{CanFind}
-use Rattle.boundaries.specs.Heads.{HasPrefix}
+use Rattle.boundaries.specs.declared.walk.LeafOutcome.TheVariants.{Changed, Raised, Split}
+use Rattle.boundaries.specs.Bound.{bytes_at}
+use Rattle.boundaries.specs.Children.{items_with}
+use Rattle.boundaries.specs.EntryRun.{IsRun, IsRunWritten}
+use Rattle.boundaries.specs.Finding.{CanFind, CanStep}
 use Rattle.boundaries.specs.Item.{Item, item_of}
-use Rattle.boundaries.specs.Node.{entries_of, key_heads_of}
-use Rattle.boundaries.specs.Overwrite.{GivesEntire, first_is_below}
-use Rattle.boundaries.specs.Path.{items_below, following, first_key}
-use Rattle.boundaries.specs.Subtree.{entries_at}
-use Rattle.boundaries.specs.Items.{IsLast, ended_by}
+use Rattle.boundaries.specs.Node.{entries_of}
+use Rattle.boundaries.specs.Overwrite.{GivesEntire, before_end, before_start, bound_from, bound_to}
+use Rattle.boundaries.specs.Rebalancing.{IsSound}
+use Rattle.boundaries.specs.Subtree.{entries_at, items_in}
 use Rattle.boundaries.specs.Walk.{IsRaisedAt}
-use Rattle.boundaries.proofs.callers.Partitions.{not_both, not_true}
-use Rattle.boundaries.proofs.ChangedLeaf.{leaf_can_find, leaf_can_step, leaf_changed, leaf_stored}
-use Rattle.boundaries.proofs.Headed.{headed_at, key_heads_kept}
-use Rattle.boundaries.proofs.LeafChange.{parted}
-use Rattle.boundaries.proofs.NearBounds.{common_prefix_near, has_prefix_too, no_more, fewer_equal, same_head}
-use Rattle.boundaries.proofs.Placing.{entries_from_header, put_entries}
-use Rattle.boundaries.proofs.RunWritten.{taken_out, entire_run}
-use Rattle.boundaries.proofs.WrittenLeaf.{none_if, some_item, part_partitioned, items_parted, last_version, raised, ended_in_leaf, ended_after}
-use Rattle.boundaries.proofs.overwrite.OverwritingLeafChange.change.Goals.{After-header_ref-leaf, After-map_or-last, Joined-is_some, Joined-end-len, then-is_some, else-is_some}
-use Rattle.boundaries.proofs.overwrite.OverwritingLeafChange.change.Goals.{then-end-len, else-end-len, else-begin-eq0-via-then-begin-eq0+else-not-place, then-end-eq0, else-end-eq0, else-begin-eq0-via-else-begin-eq0}
-use Rattle.boundaries.proofs.overwrite.OverwritingLeafChange.change.Goals as goal
+use Rattle.boundaries.proofs.callers.Partitions.{not_both}
+use Rattle.boundaries.proofs.ChangedLeaf.{leaf_can_find, leaf_can_step, leaf_stored}
+use Rattle.boundaries.proofs.Nested.{start_before_end}
+use Rattle.boundaries.proofs.Placing.{entries_from_header}
+use Rattle.boundaries.proofs.RunWritten.{entire_run, first_item, part_run}
+use Rattle.boundaries.proofs.WrittenLeaf.{none_if, some_item, part_partitioned, raised}
+use Rattle.boundaries.proofs.run.OverwritingLeafChange.change.Goals.{After-find_run-run, Joined-run-eq0}
+use Rattle.boundaries.proofs.run.OverwritingLeafChange.change.Goals.{else-run-eq0-via-then-run-eq0+else-not-has_first, else-run-eq0-via-else-run-eq0}
+use Rattle.boundaries.proofs.run.OverwritingLeafChange.change.Goals as goal
 
--- what is known of the leaf before the change, for the first bound
-from_known : (c : After-header_ref-leaf)
-    → CanFind (g.P.Bound.bytes c.args.self.now.new.now.from.now) (g.P.Bound.below c.args.self.now.new.now.from.now)
-    c.header_ref-leaf.result.now
-from_known c =
-    let known = leaf_can_step c.requires.can_change c.header_ref-leaf.ensures.header in
-    leaf_can_find c.args.nodes.now c.args.slot known.can_find _ _ c.args.self.now.new.now.bytes c.header_ref-leaf.ensures.header
-    c.requires.can_change.wanted
+pub find_run-run-requires : goal.find_run-run-requires
+find_run-run-requires c =
+    let can = c.requires.can_change in (
+      search rules,
+      record {
+        search = record {
+          searchable = record {
+            subtree = can.changeable.subtree;
+            some = can.changeable.some;
+            partitioned = can.partitioned;
+            headed = can.headed;
+          };
+          known = can.known;
+        };
+        from = part_partitioned (before_start c.args.store.now.keys c.args.self.now.new.now) _ can.wanted.1.part;
+      },
+    )
 
-pub head_for-to_head-requires : goal.head_for-to_head-requires
-head_for-to_head-requires c =
-    let known = leaf_can_step c.requires.can_change c.header_ref-leaf.ensures.header in
-    let begins = common_prefix_near _ _ _ _ _ _ c.args.place.common_prefix_len c.unwrap_or-common_prefix_len.result known.known
-    (omega (arith, c.unwrap_or-common_prefix_len.ensures)) refl (λ key. refl) in
-    (omega (arith, c.requires.can_change.changeable.few), (known.can_find.headed, (known.can_find.some, begins)))
-
-pub lower_bound_with-end-requires : goal.lower_bound_with-end-requires
-lower_bound_with-end-requires c =
-    let known = leaf_can_step c.requires.can_change c.header_ref-leaf.ensures.header in
-    let own = rw c.unwrap_or-common_prefix_len.ensures at c.head_for-to_head.ensures.head in
-    (omega (arith, c.requires.can_change.changeable.few), record { can_step = known; head = own })
-
--- The target of the first bound begins as all keys do, where that is told.
-answered_equal : (c : Joined-is_some) → c.if-is_some.from_has_prefix ≡ true
-    → HasPrefix (g.P.Bound.bytes c.args.self.now.new.now.from.now) (key_heads_of c.header_ref-leaf.result.now)
-    (g.P.Bound.target c.args.self.now.new.now.from.now)
-answered_equal g c said =
-    let new = c.args.self.now.new.now in
-    elim c.if-is_some.branch [
-      | then-is_some w ↦
-          let least = leb-true w.prefix_len.result new.targets_prefix_len (cc) in
-          has_prefix_too _ _ _ _ _ new.targets_prefix_len c.head_for-to_head.result (λ key. sym (new.bytes key))
-          c.head_for-to_head.ensures.head.head (cc) (omega (arith, least, w.prefix_len.ensures.prefix_len)) (sym new.common_prefix)
-      | else-is_some w ↦ absurd (cc)
-    ]
-
-pub head_given-head-requires : goal.head_given-head-requires
-head_given-head-requires c =
-    let at = goal.at.head_given-head-requires c in
-    let from = from_known g at.After-header_ref-leaf in
-    let known = leaf_can_step c.requires.can_change c.header_ref-leaf.ensures.header in
-    let new = c.args.self.now.new.now in
-    let equal = fewer_equal c.min.result new.targets_prefix_len _ _ (omega (arith, c.min.ensures)) new.common_prefix in
-    let begins = common_prefix_near _ _ _ _ _ _ c.args.place.common_prefix_len c.min.result known.known
-    (omega (arith, c.min.ensures, c.unwrap_or-common_prefix_len.ensures)) equal new.bytes in
-    (omega (arith, c.requires.can_change.changeable.few), (from.headed, (from.some, (answered_equal g at.Joined-is_some, begins))))
-
-pub lower_bound_back-begin-requires : goal.lower_bound_back-begin-requires
-lower_bound_back-begin-requires c =
-    let from = from_known g (goal.at.lower_bound_back-begin-requires c).After-header_ref-leaf in
-    let more = no_more _ _ c.args.self.now.new.now.nested (entries_of c.header_ref-leaf.result.now) in
-    let within = c.lower_bound_with-end.ensures.count.within in
-    (omega (arith, c.requires.can_change.changeable.few), (from, (c.head_given-head.ensures.head, (within, omega arith))))
-
-pub is_below_at-ended-requires : goal.is_below_at-ended-requires
-is_below_at-ended-requires c =
-    let headed = (leaf_can_step c.requires.can_change c.header_ref-leaf.ensures.header).can_find.headed in
-    let new = c.args.self.now.new.now in
-    let past = key_heads_kept _ _ (λ key text is. new.past_bytes key ∙ is) _ headed in
-    let own = IfSome_then c.head_for-to_head.result c.head_for-to_head.ensures.head.head
-    (same_head (g.R.Bound.bytes new.past.now) _ _ (g.R.Bound.target new.past.now) _ (λ key. sym (new.past_bytes key))
-    (sym new.past_target)) in
-    (search rules, (past, (search rules, own)))
-
-pub slice_bounds-put_taken-count : goal.slice_bounds-put_taken-count
-slice_bounds-put_taken-count c =
-    omega (arith, no_more _ _ c.args.self.now.new.now.nested (entries_of c.header_ref-leaf.result.now))
-
-pub slice_bounds-put_taken-start : goal.slice_bounds-put_taken-start
-slice_bounds-put_taken-start c =
-    omega (arith, no_more _ _ c.args.self.now.new.now.nested (entries_of c.header_ref-leaf.result.now))
-
--- The last entry before the second bound has this version.
-last_is : (c : After-map_or-last) (x : Item)
-    → IsLast x (items_below (g.Q.Bound.below c.args.self.now.new.now.to.now) (map item_of (entries_of c.header_ref-leaf.result.now)))
-    → to_z w64 (of_z w64 c.map_or-last.result) ≡ x.version
-last_is g c x ends =
-    let q = g.Q.Bound.below c.args.self.now.new.now.to.now in
-    let es = entries_of c.header_ref-leaf.result.now in
-    let second_bound = (leaf_can_step c.requires.can_change c.header_ref-leaf.ensures.header).can_find.partitioned in
-    to_z-of_z w64 c.map_or-last.result (search rules)
-    ∙ last_version q es (take c.lower_bound_with-end.result c.entries-2.result.now) c.last.result c.map_or-last.result _ _
-    (ap (take c.lower_bound_with-end.result) c.entries-2.ensures.entries
-    ∙ (parted q es c.lower_bound_with-end.result second_bound c.lower_bound_with-end.ensures.count.count_is).0)
-    c.last.ensures.value c.map_or-last.ensures (λ e h. search rules) x ends
-
--- what is written over the run
-module _ (c : Joined-end-len) where
-  open c use {args.{self.{now.{new.{now as new}}}, nodes.{now as nodes}, slot, place}, requires.{can_change}, if-end-len.{ended}}
-  open c use {lower_bound_back-begin.{result as begin, ensures.{count.{count_is as begins}}}}
-  open c use {lower_bound_with-end.{result as end, ensures.{count.{within, count_is as ends}}}}
-  open c use {header_ref-leaf.{result.{now as leaf}, ensures.{header}}}
-
-  abbrev p : ℕ → Bool
-  p = g.P.Bound.below new.from.now
-
-  abbrev q : ℕ → Bool
-  q = g.Q.Bound.below new.to.now
+-- the run, and the leaf in which it is
+module _ (c : After-find_run-run) where
+  open c use {args.{self.{now.{new.{now as new}}}, store.{now as store}, position}, requires.{can_change}}
+  open c use {find_run-run.{result as run, ensures.{run.{run_is.{leaf, there, run_is}, ended}}}}
 
   abbrev es : List NodeEntry
   es = entries_of leaf
 
-  in_order : begin ≤ end
-  in_order = omega (arith, no_more p q new.nested es)
+  read : entries_at store.nodes position.slot ≡ es
+  read = entries_from_header store.nodes position.slot leaf there
 
-  -- An item before the run is in the leaf, or none stands before the leaf's, of which one passes.
-  entered : ((1 ≤ begin) ⊎ IsTrue place.is_first) × (1 ≤ end)
-  entered = elim c.else-begin-eq0.branch [
-    | else-begin-eq0-via-then-begin-eq0+else-not-place w ↦
-        elim w.if-end-eq0.branch [
-          | then-end-eq0 v ↦ absurd (not_both _ (rw v.if-end-eq0.true) (sym v.value-is ∙ w.if-not-place.false))
-          | else-end-eq0 v ↦ (inr (not-false _ (sym v.value-is ∙ w.if-not-place.false)), omega (arith, v.if-end-eq0.false))
-        ]
-    | else-begin-eq0-via-else-begin-eq0 w ↦
-        (inl (omega (arith, w.if-begin-eq0.false)), omega (arith, w.if-begin-eq0.false, in_order))
-  ]
+  to_known : CanStep store.keys (bound_to new) leaf position.common_prefix_len
+  to_known = leaf_can_step can_change there
 
-  -- whether an item of the leaf, or behind it, has the second key
-  answered : ended ≡ first_is_below (g.R.Bound.below new.past.now) (first_key place.following (following q (map item_of es)))
-  answered =
-      let others = (parted q es end (leaf_can_step can_change header).can_find.partitioned ends).1 in
-      elim c.if-end-len.branch [
-        | then-end-len w ↦
-            w.ended-is ∙ ended_in_leaf q _ es end others place.following w.is_below_at-ended.result
-            (omega (arith, w.if-end-len.true, c.len.ensures.len)) w.is_below_at-ended.ensures.is_below
-        | else-end-len w ↦
-            w.ended-is ∙ ended_after q _ es end others place.following w.is_some_and-ended.result
-            (omega (arith, w.if-end-len.false, c.len.ensures.len)) _ w.is_some_and-ended.ensures (λ k h. search rules)
-      ]
+  from_known : CanFind store.keys (bound_from new) leaf
+  from_known = leaf_can_find store.nodes position.slot to_known.can_find (bound_from new) there can_change.wanted.1.part
 
   -- the items of the leaf once the run is written over
-  entire : (last : ℤ) → ((x : Item) → IsLast x (items_below q (map item_of es)) → last ≡ x.version) → (now : List Item)
-      → now ≡ map item_of (take begin (entries_at nodes slot)) ++ (item_of new.first
-      ∷ ended_by ended (record { key = new.second; version = unwrap_or new.last last }) ++ map item_of (drop end (entries_at nodes slot)))
-      → GivesEntire p q (g.R.Bound.below new.past.now) (item_of new.first) new.second new.last ended
-      (map item_of c.put_taken.new.taken.items) place.is_first place.following (map item_of (entries_at nodes slot)) now
-  entire last ends_so now = rw (entries_from_header nodes slot leaf header) (entire_run p q _ new.nested es begin end
-      (leaf_can_find nodes slot (leaf_can_step can_change header).can_find _ p new.bytes header can_change.wanted).partitioned
-      (leaf_can_step can_change header).can_find.partitioned (omega (arith, in_order, within)) begins ends (item_of new.first)
-      new.second new.last ended place.is_first place.following _ now entered.0 entered.1 last ends_so
-      (taken_out _ es begin end c.put_taken.ensures.taken can_change.none_taken c.entries.ensures.entries in_order) answered)
+  entire : {now : Store} {added : Option ℕ} → IsRunWritten store now position.slot new run added
+      → (1 ≤ run.begin) ⊎ ((x : Item) × (xs : List Item) × (map item_of es ≡ x ∷ xs) × (bytes_at store.keys x.key ≡ []))
+      → GivesEntire new store now position.following (items_in store.nodes 0 position.slot) (items_with now.nodes 0 position.slot added)
+  entire {now} {added} w entered = rw read (entire_run store now new leaf run run_is from_known.partitioned to_known.can_find.partitioned
+      w.first w.second position.following _ entered w.puts (rw read at w.removed) (rw read at ended) (rw read at w.items))
 
-pub write_run-requires : goal.write_run-requires
-write_run-requires c =
-    let can = c.requires.can_change.changeable in (
-      omega (arith, can.few),
+pub has_first-requires : goal.has_first-requires
+has_first-requires c =
+    let can = c.requires.can_change.changeable in (search rules, (can.subtree, can.some))
+
+pub clear_run-last-requires : goal.clear_run-last-requires
+clear_run-last-requires c =
+    let h = (goal.at.clear_run-last-requires c).After-find_run-run in
+    let can = c.requires.can_change in (
+      search rules,
       record {
-        fan_out = can.fan_out;
-        few = can.few;
-        keyless = can.keyless;
-        room = can.room;
-        headed = c.requires.can_change.searched.headed;
-        leaf = c.header_ref-leaf.result.now;
-        there = c.header_ref-leaf.ensures.header;
-        run_is = record {
-          begin = c.lower_bound_back-begin.ensures.count;
-          end = c.lower_bound_with-end.ensures.count;
-          ordered = in_order g (goal.at.write_run-requires c).Joined-end-len;
-          begin_head = c.head_given-head.ensures.head;
-          end_head = c.head_for-to_head.ensures.head.head;
-        };
+        sound = record { keyless = can.changeable.keyless; headed = can.headed };
+        live = can.changeable.subtree;
+        some = c.find_run-run.ensures.run.run_is.run_is.some;
+        within = rw (read h) c.find_run-run.ensures.run.run_is.run_is.end.within;
+        none_removed = can.none_removed;
       },
     )
 
--- Where no item before the run is in the leaf, what the leaf has of the run is taken out.
-pub returns-then-not-place-clause-changed : goal.returns-then-not-place-clause-changed
-returns-then-not-place-clause-changed c =
-    leaf_changed c.remove.new.self c.requires.can_change (c.remove.ensures.headed _ (headed_at _ c.args.nodes.now c.args.slot
-    c.header_mut.result.now c.requires.can_change.searched.headed c.header_mut.ensures.header))
+-- Where the run begins the leaf, and that isn't the first of all, what the leaf has of it is removed.
+pub returns-then-not-has_first-clause-changed : goal.returns-then-not-has_first-clause-changed
+returns-then-not-has_first-clause-changed c =
+    let cleared = c.clear_run-last.ensures.cleared in
+    leaf_stored Changed c.requires.can_change.changeable cleared.stored (λ s live. rw cleared.keys refl) (λ e. absurd (cc))
+    (λ leaf e. absurd (cc))
 
-pub returns-then-not-place-clause-items : goal.returns-then-not-place-clause-items
-returns-then-not-place-clause-items c =
-    let t = goal.at.returns-then-not-place-clause-items c in
-    let read = entries_from_header c.args.nodes.now c.args.slot c.header_ref-leaf.result.now c.header_ref-leaf.ensures.header in
-    let es = entries_of c.header_ref-leaf.result.now in
-    let second_bound = (leaf_can_step c.requires.can_change c.header_ref-leaf.ensures.header).can_find.partitioned in
-    let parts = items_parted _ es c.lower_bound_with-end.result second_bound c.lower_bound_with-end.ensures.count.count_is in
-    let put = put_entries c.args.nodes.now _ c.args.slot c.remove.new.self refl in
-    let there : c.header_mut.result.now ≡ c.header_ref-leaf.result.now = cc in
-    let out = rw c.if-begin-eq0.true at c.put_taken.ensures.taken in
-    let run_is = taken_out _ es 0 c.lower_bound_with-end.result out c.requires.can_change.none_taken c.entries.ensures.entries
-    (omega arith) ∙ sym parts.0 in
-    rw read
-    (record {
-      none = (items_parted _ es 0 (from_known g t.After-header_ref-leaf).partitioned (omega (arith, c.if-begin-eq0.true))).0;
-      run_is = run_is;
-      rest = cc (put, c.remove.ensures.entries, parts.1);
-      last_is = λ x last. last_is g t.After-map_or-last x (rw run_is at last);
-      some = λ is_first. elim c.if-end-eq0.branch [
-        | then-end-eq0 w ↦ rw (parts.0, w.if-end-eq0.true)
-        | else-end-eq0 w ↦ absurd (not_both _ is_first (not_true _ (sym w.value-is ∙ c.if-not-place.true)))
-      ];
-    })
+pub returns-then-not-has_first-clause-items : goal.returns-then-not-has_first-clause-items
+returns-then-not-has_first-clause-items c =
+    let h = (goal.at.returns-then-not-has_first-clause-items c).After-find_run-run in
+    let cleared = rw (read h) at c.clear_run-last.ensures.cleared in
+    let store = c.args.store.now in
+    let first = first_item (es h) (to_known h).can_find.some in
+    let no = c.has_first.ensures.first first.entry (rw (read h) first.there) in
+    let filled : (x : Item) (xs : List Item) → map item_of (es h) ≡ x ∷ xs → bytes_at store.keys x.key ≢ [] =
+    λ x xs are empty. let same : item_of first.entry ≡ x = cc (first.items, are) in
+    not_both c.has_first.result (no.1 (rw same empty)) c.if-not-has_first.true in
+    rw (read h) (part_run store c.clear_run-last.new.store c.args.self.now.new.now _ c.find_run-run.result
+    c.find_run-run.ensures.run.run_is.run_is (from_known h).partitioned (to_known h).can_find.partitioned _ c.clear_run-last.result _
+    (omega (arith, c.if-run-eq0.true)) cleared.removed (ap (map item_of) cleared.entries) cleared.last_is c.unwrap_or.ensures filled
+    cleared.keys)
+
+pub write_run-requires : goal.write_run-requires
+write_run-requires c =
+    let can = c.requires.can_change in (
+      search rules,
+      record {
+        sound = record { keyless = can.changeable.keyless; headed = can.headed };
+        room = can.changeable.room;
+        key_room = can.wanted.1.room;
+        run_is = c.find_run-run.ensures.run.run_is;
+        none_removed = can.none_removed;
+      },
+    )
+
+-- An item before the run is in the leaf, or that is the first of all.
+entered : (c : Joined-run-eq0) → (let h = (goal.at.Joined-run-eq0 c).After-find_run-run in
+    (1 ≤ c.find_run-run.result.begin)
+    ⊎ ((x : Item) × (xs : List Item) × (map item_of (es h) ≡ x ∷ xs) × (bytes_at c.args.store.now.keys x.key ≡ [])))
+entered c =
+    let h = (goal.at.Joined-run-eq0 c).After-find_run-run in
+    elim c.else-run-eq0.branch [
+      | else-run-eq0-via-then-run-eq0+else-not-has_first w ↦
+          let first = first_item (es h) (to_known h).can_find.some in
+          let yes = w.has_first.ensures.first first.entry (rw (read h) first.there) in
+          inr (item_of first.entry, (map item_of (drop 1 (es h)), (first.items, yes.0 w.if-not-has_first.false)))
+      | else-run-eq0-via-else-run-eq0 w ↦ inl (omega (arith, w.if-run-eq0.false))
+    ]
 
 pub returns-in-Some-clause-changed : goal.returns-in-Some-clause-changed
 returns-in-Some-clause-changed c =
-    leaf_stored (Split _) c.requires.can_change.changeable c.in-Some.ensures.stored (λ e. absurd (cc)) (λ leaf e. absurd (cc))
+    leaf_stored (Split _) c.requires.can_change.changeable c.in-Some.ensures.stored c.in-Some.ensures.keys (λ e. absurd (cc))
+    (λ leaf e. absurd (cc))
 
 pub returns-in-Some-clause-items : goal.returns-in-Some-clause-items
 returns-in-Some-clause-items c =
     let t = goal.at.returns-in-Some-clause-items c in
-    entire g t.Joined-end-len _ (last_is g t.After-map_or-last) _ c.in-Some.ensures.written
+    rw c.requires.can_change.wanted.0 (entire t.After-find_run-run c.in-Some.ensures.written (entered t.Joined-run-eq0))
 
-pub returns-then-begin-eq0-2-clause-items : goal.returns-then-begin-eq0-2-clause-items
-returns-then-begin-eq0-2-clause-items c =
-    let t = goal.at.returns-then-begin-eq0-2-clause-items c in
-    entire g t.Joined-end-len _ (last_is g t.After-map_or-last) _ c.in_default.ensures.written
+pub returns-then-run-eq0-2-clause-changed : goal.returns-then-run-eq0-2-clause-changed
+returns-then-run-eq0-2-clause-changed c =
+    leaf_stored Changed c.requires.can_change.changeable c.in_default.ensures.stored c.in_default.ensures.keys (λ e. absurd (cc))
+    (λ leaf e. absurd (cc))
+
+pub returns-then-run-eq0-2-clause-items : goal.returns-then-run-eq0-2-clause-items
+returns-then-run-eq0-2-clause-items c =
+    let t = goal.at.returns-then-run-eq0-2-clause-items c in
+    rw c.requires.can_change.wanted.0 (entire t.After-find_run-run c.in_default.ensures.written (entered t.Joined-run-eq0))
 
 pub returns-clause-items : goal.returns-clause-items
 returns-clause-items c =
     let t = goal.at.returns-clause-items c in
-    entire g t.Joined-end-len _ (last_is g t.After-map_or-last) _ c.in_default.ensures.written
+    rw c.requires.can_change.wanted.0 (entire t.After-find_run-run c.in_default.ensures.written (entered t.Joined-run-eq0))
 
 same_leaf : (a b : RaisedLeaf) → Raised a ≡ Raised b → a ≡ b
 same_leaf a b e = cc
@@ -246,20 +164,25 @@ same_leaf a b e = cc
 -- Where the leaf has an item before the run, and no version is given, the first key stays.
 pub returns-clause-changed : goal.returns-clause-changed
 returns-clause-changed c =
-    let j = (goal.at.returns-clause-changed c).Joined-end-len in
+    let t = goal.at.returns-clause-changed c in
+    let h = t.After-find_run-run in
     let new = c.args.self.now.new.now in
-    let gives = returns-clause-items g c in
-    let none = none_if new.last (sym c.is_some-else-begin-eq0-2.ensures ∙ c.if-is_some-2.false) in
-    let some = some_item (p g j) (es g j) c.lower_bound_back-begin.result (omega (arith, c.if-begin-eq0-2.false))
-    c.lower_bound_back-begin.ensures.count.count_is in
-    let read = entries_from_header c.args.nodes.now c.args.slot _ c.header_ref-leaf.ensures.header in
-    let size = ap length (entries_from_header c.write_run.new.nodes c.args.slot _ c.header_ref.ensures.header) in
-    leaf_stored (Raised _) c.requires.can_change.changeable c.in_default.ensures.stored (λ e. absurd (cc))
-    (λ leaf e. subst (IsRaisedAt c.args.nodes.now c.write_run.new.nodes 0 c.args.slot) (same_leaf _ leaf e) (record {
+    let old = c.args.store.now in
+    let now = c.write_run.new.store in
+    let slot = c.args.position.slot in
+    let keys = old.keys in
+    let gives = entire h c.in_default.ensures.written (entered t.Joined-run-eq0) in
+    let none = none_if new.at_end (sym c.is_some.ensures ∙ c.if-is_some.false) in
+    let begin = c.find_run-run.ensures.run.run_is.run_is.begin in
+    let some = some_item (before_start keys new) (es h) c.find_run-run.result.begin (omega (arith, c.if-run-eq0-2.false)) begin.count_is in
+    let size = ap length (entries_from_header now.nodes slot _ c.header_ref.ensures.header) in
+    leaf_stored (Raised _) c.requires.can_change.changeable c.in_default.ensures.stored c.in_default.ensures.keys (λ e. absurd (cc))
+    (λ leaf e. subst (IsRaisedAt old.nodes now.nodes 0 slot) (same_leaf _ leaf e) (record {
       there = refl;
-      items = rw (to_z-of_z w64 new.first.version (search rules)) (raised (p g j) (q g j) new.nested (item_of new.first)
-          new.second c.if-end-len.ended _ _ (part_partitioned (p g j) _ c.requires.can_change.wanted) (rw read some) gives.some
-          (rw none at gives.written));
-      filled = λ _. omega (arith, size, c.len-2.ensures.len, c.if-is_short.false);
+      items = raised (before_start keys new) (before_end keys new) (start_before_end keys new)
+          (record { key = gives.first; version = new.version }) gives.second gives.ended _ _
+          (part_partitioned (before_start keys new) _ c.requires.can_change.wanted.1.part) (rw (read h) some) gives.some
+          (rw none at gives.written);
+      filled = λ _. omega (arith, size, c.len.ensures.len, c.if-is_short.false);
       no_fewer = λ high. absurd (omega (arith, high));
     }))

@@ -1,76 +1,91 @@
-use Rattle.std.proofs.Common.{rules, ◌≡◌, ◌≤◌, ◌+◌, length, arith}
-use Rattle.std.proofs.Common.{List, [], map, Fits, w64}
-use Rattle.std.proofs.lemmas.List.{append-nil, length-map}
-use Rattle.boundaries.specs.Item.{Item, item_of}
-use Rattle.boundaries.specs.Overwrite.{Overwrites, put_of}
+use Rattle.std.proofs.Common.{rules, ℕ, Bool, true, ◌≡◌, ◌∙◌, [], None, Some, refl, ap, subst, append-nil, arith}
+use Rattle.boundaries.specs.declared.walk.LeafOutcome.TheVariants.{Raised}
+use Rattle.boundaries.specs.EntryRun.{IsWrittenInLeaf}
+use Rattle.boundaries.specs.Overwrite.{GivesEntire, IsPartOfPartitioned, before_end, before_start}
 use Rattle.boundaries.specs.Subtree.{items_in}
-use Rattle.boundaries.proofs.HeadList.{headed_from_list, headed_in_list}
-use Rattle.boundaries.proofs.Inserting.{can_change, tree_put}
-use Rattle.boundaries.proofs.KnownItems.{know_items}
-use Rattle.boundaries.proofs.OverwrittenItems.{length-overwritten, put_most}
-use Rattle.boundaries.proofs.PartWritten.{overwritten}
+use Rattle.boundaries.specs.Walk.{CanChange, IsChanged, IsRaisedAt, IsRaisedIn}
+use Rattle.boundaries.proofs.ChangedLeaf.{leaf_stored}
+use Rattle.boundaries.proofs.Nested.{start_before_end}
+use Rattle.boundaries.proofs.RaisedLeaves.{part_of_raised, raised_tree, within_raised, written}
+use Rattle.boundaries.proofs.Roots.{root_can}
+use Rattle.boundaries.proofs.WrittenLeaf.{part_partitioned, raised}
+use Rattle.boundaries.proofs.tree.Tree.overwrite.Goals.{In-Some, then-write_in_leaf}
 use Rattle.boundaries.proofs.tree.Tree.overwrite.Goals as goal
-use Rattle.boundaries.proofs.tree.Tree.overwrite.Goals.{After-len}
 
-pub overwrite-written-requires : goal.overwrite-written-requires
-overwrite-written-requires c =
-    let can = rw (← c.self.view_is) at c.requires.can_overwrite in
-    let headed = headed_from_list (g.Q.Bound.bytes c.args.new.now.to.now) c.self.inside.nodes can.headed in
-    let t = c.self.invariant in
-    let known = can_change t.0 (omega arith) can.to headed ([], [], rw append-nil can.from) can.none_taken in
-    (omega arith, (omega arith, (known, t.1)))
+-- the leaf of the last write, in the tree as it is
+module _ (c : In-Some) where
+  open c use {args.{self.{now.{store, root}}, new.{now as new}}, requires.{can_overwrite}, in-Some.{leaf}}
 
-module _ (c : After-len) where
-  open c use {args.{new.{now as new}}, self.{inside as old}, overwrite-written.{result as written, new.{nodes, root, taken}}}
+  there : IsRaisedIn store.nodes leaf root.height root.slot
+  there = rw c.in-Some.is at can_overwrite.raised
 
-  abbrev was : List Item
-  was = items_in old.nodes old.root.height old.root.slot
+  first_part : CanChange store.nodes 0 leaf.slot × IsPartOfPartitioned (before_start store.keys new) (items_in store.nodes 0 leaf.slot)
+  first_part = part_of_raised store leaf (before_start store.keys new) root.height root.slot (root_can can_overwrite.can_change) there
+      can_overwrite.can_change.wanted.part
 
-  abbrev now : List Item
-  now = items_in nodes root.height root.slot
+  second_part : CanChange store.nodes 0 leaf.slot × IsPartOfPartitioned (before_end store.keys new) (items_in store.nodes 0 leaf.slot)
+  second_part = part_of_raised store leaf (before_end store.keys new) root.height root.slot (root_can can_overwrite.can_change) there
+      ([], [], rw append-nil can_overwrite.can_change.reach.searchable.partitioned)
 
-  -- what became of the items
-  done : Overwrites (g.P.Bound.below new.from.now) (g.Q.Bound.below new.to.now) (g.R.Bound.below new.past.now)
-      (item_of new.first) new.second new.last written (map item_of taken.items) was now
-  done =
-      let can = rw (← c.self.view_is) at c.requires.can_overwrite in
-      overwritten _ _ _ new.nested _ _ _ _ _ was now c.overwrite-written.ensures.items can.from can.to can.past can.some
-
-  -- how many items there are
-  counted : (length now + c.len.result ≡ length was + put_of written) × (1 ≤ length now)
-  counted =
-      let can = rw (← c.self.view_is) at c.requires.can_overwrite in
-      let count = length-overwritten _ _ _ new.nested _ _ _ _ _ was now can.some done in
-      rw (length-map, ← c.len.ensures.value) at count
-
-pub overflow_add-self : goal.overflow_add-self
-overflow_add-self c =
-    let fits : Fits w64 c.self.inside.room = search rules in
-    let can = rw (← c.self.view_is) at c.requires.can_overwrite in
-    omega (arith, can.room, c.put.ensures.put, put_most c.overwrite-written.result, c.self.invariant.0.counted)
-
-pub overflow_sub-self : goal.overflow_sub-self
-overflow_sub-self c =
-    omega (arith, counted g (goal.at.overflow_sub-self c).After-len, c.put.ensures.put, c.self.invariant.0.counted)
-
-pub invariant_of-self : goal.invariant_of-self
-invariant_of-self c =
-    let count = counted g (goal.at.invariant_of-self c).After-len in
-    let put = c.put.ensures.put in
-    let can = rw (← c.self.view_is) at c.requires.can_overwrite in
-    let most = put_most c.overwrite-written.result in
-    let was = c.self.invariant.0 in
-    let tree = c.overwrite-written.ensures.tree in (
-      tree_put c.self.inside.nodes _ _ _ _ _ _ _ _ was tree.rooted tree.spare (omega (arith, was.counted))
-          (omega (arith, was.counted)) (omega (arith, can.room, was.counted)),
-      c.overwrite-written.ensures.tree.raised_is,
+pub write_in_leaf-requires : goal.write_in_leaf-requires
+write_in_leaf-requires c =
+    let h = (goal.at.write_in_leaf-requires c).In-Some in
+    let first = first_part h in
+    let second = second_part h in
+    let can = c.requires.can_overwrite.can_change in (
+      search rules,
+      record {
+        sound = record { keyless = first.0.keyless; headed = can.reach.searchable.headed };
+        live = first.0.subtree;
+        some = first.0.some;
+        room = first.0.room;
+        key_room = can.wanted.room;
+        from = part_partitioned _ _ first.1;
+        to = part_partitioned _ _ second.1;
+        none_removed = can.none_removed;
+      },
     )
 
-pub returns-clause-items : goal.returns-clause-items
-returns-clause-items c = rw (← c.self.view_is) (done g (goal.at.returns-clause-items c).After-len)
+-- the leaf once the run was written over
+done : (c : then-write_in_leaf) → IsWrittenInLeaf c.args.self.now.store c.write_in_leaf.new.store c.in-Some.leaf c.args.new.now
+done c = rw c.if-write_in_leaf.true at c.write_in_leaf.ensures.written
 
-pub returns-clause-headed : goal.returns-clause-headed
-returns-clause-headed c = headed_in_list _ c.overwrite-written.new.nodes c.overwrite-written.ensures.tree.headed
+changed : (c : then-write_in_leaf)
+    → IsChanged c.args.self.now.store c.write_in_leaf.new.store 0 c.in-Some.leaf.slot (Raised c.in-Some.leaf)
+changed c =
+    let h = (goal.at.then-write_in_leaf c).In-Some in
+    let leaf = c.in-Some.leaf in
+    let new = c.args.new.now in
+    let old = c.args.self.now.store in
+    let now = c.write_in_leaf.new.store in
+    let done = done c in
+    let gives = done.gives None in
+    let answered : IsRaisedAt old.nodes now.nodes 0 leaf.slot leaf = record {
+      there = refl;
+      items = rw done.version at (raised (before_start old.keys new) (before_end old.keys new) (start_before_end old.keys new)
+          (record { key = gives.first; version = new.version }) gives.second gives.ended _ _
+          (part_partitioned _ _ (first_part h).1) done.some_before gives.some (rw done.given_none at gives.written));
+      filled = λ low. done.filled;
+      no_fewer = λ high. absurd (omega (arith, high));
+    } in
+    leaf_stored (Raised leaf) (first_part h).0 done.stored done.keys (λ e. absurd (cc))
+    (λ other is. subst (IsRaisedAt old.nodes now.nodes 0 leaf.slot) (let same : leaf ≡ other = cc in same) answered)
 
-pub returns-clause-known : goal.returns-clause-known
-returns-clause-known c = know_items c.overwrite-written.new.nodes _ _ c.self.inside.room c.overwrite-written.ensures.tree.rooted
+pub returns-then-write_in_leaf : goal.returns-then-write_in_leaf
+returns-then-write_in_leaf c =
+    let at = goal.at.returns-then-write_in_leaf c in
+    let h = at.In-Some in
+    let done = done at.then-write_in_leaf in
+    let put = changed at.then-write_in_leaf in
+    let can = c.requires.can_overwrite.can_change in
+    let old = c.args.self.now.store in
+    let root = c.args.self.now.root in
+    let leaf = c.in-Some.leaf in
+    record {
+      written = record {
+        items = within_raised old leaf put (before_end old.keys c.args.new.now) (GivesEntire c.args.new.now old c.write_in_leaf.new.store)
+            root.height root.slot (root_can can) (there h) can.reach.searchable.partitioned (done.gives None).some done.some_after done.gives;
+        tree = rw c.in-Some.is (raised_tree leaf can.rooted (written old leaf put root.height root.slot (root_can can) (there h)).changed);
+        keys = done.keys;
+      };
+    }
