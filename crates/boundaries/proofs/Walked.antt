@@ -1,17 +1,20 @@
 -- A subtree once a leaf of one of its children was changed, and its node was rebalanced.
-use Rattle.std.proofs.Common.{◌≡◌, inl, inr, ℕ, suc, ◌+◌, ◌*◌, ◌≤◌, Bool, true, false, List, [], ◌∷◌, ◌++◌, Option, Some, None, is_some, length, length-append, set, take, drop, refl, sym, ap, subst, ◌∙◌, arith, append-nil}
+use Rattle.std.proofs.Common.{◌≡◌, inl, inr, ℕ, suc, ◌+◌, ◌≤◌, Any, Bool, true, false, List, [], ◌∷◌, ◌++◌, Option, Some, None, is_some, length, length-append, set, take, drop, refl, sym, ap, subst, ◌∙◌, arith, append-nil}
 use Rattle.std.specs.Prelude.{◌≢◌, ℤ, IfSome}
 use Rattle.std.proofs.lemmas.List.{get_or-set_same, length-drop, length-set, length-take-le}
 use Rattle.std.proofs.lemmas.List.Elements.{All-append, All-cons, All-nil}
-use Rattle.std.proofs.lemmas.Option.{slice_get-get_or}
+use Rattle.std.proofs.lemmas.Option.{get_or_from_slice_get, slice_get-get_or}
 use Rattle.arena.specs.Arena.{Arena, record_at}
 use Rattle.boundaries.specs.declared.entry.NodeEntry.{NodeEntry}
 use Rattle.boundaries.specs.declared.node.Node.{Node}
 use Rattle.boundaries.specs.declared.walk.LeafOutcome.{LeafOutcome}
 use Rattle.boundaries.specs.declared.walk.LeafOutcome.TheVariants.{Same, Raised, Split}
 use Rattle.boundaries.specs.declared.walk.RaisedLeaf.{RaisedLeaf}
-use Rattle.boundaries.specs.Heads.{KeyBytes}
-use Rattle.boundaries.specs.Item.{Item}
+use Rattle.boundaries.specs.Bound.{is_below}
+use Rattle.boundaries.specs.Item.{Item, item_of}
+use Rattle.boundaries.specs.Position.{IsFirstKnown}
+use Rattle.boundaries.specs.declared.key_bound.KeyBound.{KeyBound}
+use Rattle.keys.proofs.callers.SomeElement.{Any-map}
 use Rattle.boundaries.specs.Children.{child_at, entries_at_both, items_of, slots_of, slots_with, Changes, HasRaisedEntry, IsFamily, IsFamilyAt, IsLinked, IsRebalancedAt, DescribesWritten}
 use Rattle.boundaries.specs.Splice.{AreHalfFull}
 use Rattle.boundaries.specs.Subtree.{entries_at, items_in, slots_in, IsSubtree}
@@ -23,10 +26,20 @@ use Rattle.boundaries.proofs.callers.Times.{distinct_if_once, none_or_some, once
 use Rattle.boundaries.proofs.Changing.{Moves, changes_if_moves, moves_if_changes, moves_trans}
 use Rattle.boundaries.proofs.Families.{Loose}
 use Rattle.boundaries.proofs.Frames.{IsRight, below_of, raised_same}
+use Rattle.boundaries.proofs.HeadAt.{entry_at}
 use Rattle.boundaries.proofs.Replacing.{both_right, loose_at}
 use Rattle.boundaries.proofs.Stepping.{IsAt, around, child_once, child_right, here, live_beside, one_slots, read_beside, split, x_at}
 use Rattle.boundaries.proofs.Storing.{Stored, moves_own, stored}
 use Rattle.boundaries.proofs.Walking.{raised_above, raised_at}
+
+-- Some item of a leaf is below the bound, where its first key is.
+pub some_found : (store : Store) (bound : KeyBound) (slot known : ℕ) → 1 ≤ length (entries_at store.nodes slot)
+    → IsFirstKnown store bound slot known → Any (λ x. is_below store.keys bound x.key ≡ true) (items_in store.nodes 0 slot)
+some_found store bound slot known some knows =
+    let es = entries_at store.nodes slot in
+    let first = entry_at es 0 some in
+    Any-map item_of (λ (x : Item). is_below store.keys bound x.key ≡ true) es
+    (0, first.0, some, get_or_from_slice_get es 0 first.0 first.0 first.1, (knows first.0 first.1).0)
 
 -- The items of a leaf that was changed.
 pub within_leaf : (is_below : ℕ → Bool) (Gives : Option ℕ → List Item → List Item → Type 0) (key : Option ℕ) (was now : List Item)
