@@ -1,4 +1,4 @@
-use Rattle.std.proofs.Common.{rules, ◌≡◌, ◌≤◌, ◌<◌, ◌×◌, ◌∙◌, ℕ, ◌+◌, ◌-◌, Bool, true, false, List, length, length-drop, filter, get_or, get_or-drop, slice_get, Option, Some, IsTrue, refl, sym, arith}
+use Rattle.std.proofs.Common.{rules, ◌≡◌, ◌≤◌, ◌<◌, ◌∙◌, ℕ, drop, ◌+◌, ◌-◌, Bool, true, false, List, length, length-drop, filter, get_or, get_or-drop, slice_get, Option, Some, IsTrue, refl, sym, arith}
 use Rattle.std.proofs.lemmas.Option.{get_or_from_slice_get, slice_get_read, slice_get_within}
 use Rattle.boundaries.specs.Question.{IsRestAt, begun, before_end, bound_after, bound_before, is_clear}
 use Rattle.boundaries.specs.declared.approach.Rest.{Rest}

@@ -23,8 +23,9 @@ use Rattle.boundaries.proofs.Found.{read_partitioned, found, found_partitioned}
 use Rattle.boundaries.proofs.Stepping.{IsAt, around, child_can, items_split}
 use Rattle.boundaries.proofs.Walking.{within_at}
 use Rattle.boundaries.proofs.Walked.{some_found, within_leaf, can_rebalance, can_insert, child_filled, family, raised_below, describes_written, step_rebalanced, changed_above, step_linked, linked_above}
+use Rattle.boundaries.proofs.walk.+change_leaf.Given.{Over}
 use Rattle.boundaries.proofs.walk.+change_leaf.Goals as goal
-use Rattle.boundaries.proofs.walk.+change_leaf.Goals.{Over, After-child-below, After-change_leaf}
+use Rattle.boundaries.proofs.walk.+change_leaf.Goals.{After-child-below, After-change_leaf}
 
 pub change-requires : goal.change-requires
 change-requires g t c = (search rules, (search rules, rw c.if-height-eq0.true at c.requires.can_change))
