@@ -52,12 +52,6 @@ module _ {X : Type 0} (p q : X → Bool) where
     fewer_before [] = omega arith
     fewer_before (x ∷ xs) = grind (arith, fewer_before xs, n x, cases_Bool (p x), cases_Bool (q x))
 
-    -- There is one, where some pass the first test.
-    pub from_last_some : (xs : List X) → filter p xs ≢ [] → from_last_of p q xs ≢ []
-    from_last_some xs some none =
-        let count = length-drop (length (filter p xs) - 1) (filter q xs) in
-        some (nil_from_length (filter p xs) (omega (arith, fewer_before xs, ap length none, count)))
-
     -- Where none is below the second bound, none passes the first.
     pub none_of_fewer : (xs : List X) → All (λ x. q x ≡ false) xs → All (λ x. p x ≡ false) xs
     none_of_fewer xs a i d inside = grind (arith, cases_Bool (p (get_or xs i d)), n (get_or xs i d), a i d inside)

@@ -51,22 +51,6 @@ module _ {store : Store} {bound : KeyBound} {least height slot : ℕ} {node : No
       (entries_at store.nodes slot) 0 → CanStep store.keys bound node known
   can_step_at knows = record { can_find = can_find_at; known = rw read at knows }
 
--- two bounds in a node that the code has read
-pub look_of : (nodes : Arena Node) (least height slot : ℕ) (f t : ℕ → Bool) (header : Node) (es : List NodeEntry) (begin end : ℕ)
-    → IsSubtree nodes least height slot → IsPartitioned (λ x. f x.key) (items_in nodes height slot)
-    → IsPartitioned (λ x. t x.key) (items_in nodes height slot) → ((key : ℕ) → f key ≡ true → t key ≡ true)
-    → header_at nodes slot ≡ Some header → es ≡ entries_of header → IsLowerBound f header begin → IsLowerBound t header end
-    → IsLook nodes least height slot f t es begin end
-look_of nodes least height slot f t header es begin end s c d n h e b l = record {
-  subtree = s;
-  from = c;
-  to = d;
-  nested = n;
-  read = entries_read nodes slot header es h e;
-  begin_is = rw e b.count_is;
-  end_is = rw e l.count_is;
-}
-
 module _ (nodes : Arena Node) (least height slot : ℕ) (f t : ℕ → Bool) (es : List NodeEntry)
     (begin end : ℕ) (k : IsLook nodes least height slot f t es begin end) where
   abbrev p : Item → Bool

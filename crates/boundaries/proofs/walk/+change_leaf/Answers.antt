@@ -142,11 +142,19 @@ still : (g : Over) (t : ℕ) (c : After-change_leaf g t) (new : Store) → Keeps
     let Within = λ (store : Store). IsChangedWithin (is_below g t k)
     (g.C.LeafChange.gives c.args.change.now c.change_leaf.new.change c.args.store.now store) c.child-below.result.following in
     (was now : List Item) → Within c.change_leaf.new.store was now → Within new was now)
-still g t c new keeps was now changed =
-    record changed {
-      gives = g.met.C.LeafChange.kept c.args.change.now c.change_leaf.new.change c.args.store.now c.change_leaf.new.store new _ _ _ keeps
-          changed.gives;
-    }
+still g t c new keeps was now changed = record {
+  before = changed.before;
+  leaf = changed.leaf;
+  changed = changed.changed;
+  following = changed.following;
+  was_is = changed.was_is;
+  now_is = changed.now_is;
+  items_below = changed.items_below;
+  failing = changed.failing;
+  found = changed.found;
+  gives = g.met.C.LeafChange.kept c.args.change.now c.change_leaf.new.change c.args.store.now c.change_leaf.new.store new _ _ _ keeps
+      changed.gives;
+}
 
 pub change_leaf-requires : goal.change_leaf-requires
 change_leaf-requires g t c κs low =
