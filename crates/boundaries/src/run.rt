@@ -145,10 +145,13 @@ impl<'a, 'b> LeafChange for Overwriting<'a, 'b> {
         })
     }
 
-    ghost part = { λ o keys before items following wanted. (wanted.0, record {
-      part = part_of_part (before_start keys o.new.now) before items following wanted.1.part;
-      room = wanted.1.room;
-    }) };
+    ghost part = { λ o keys before items following wanted. (
+      wanted.0,
+      record {
+        part = part_of_part (before_start keys o.new.now) before items following wanted.1.part;
+        room = wanted.1.room;
+      },
+    ) };
 
     ghost kept = { λ o done. written_kept o.new.now done.at_end };
 }

@@ -87,13 +87,15 @@ module _ (t : ℕ) (c : After-step_by-step t) where
 
 pub head_beside-to_head-requires : goal.head_beside-to_head-requires
 head_beside-to_head-requires t c =
-    let can = can_step t (goal.at.head_beside-to_head-requires t c).After-header_ref-node in
-    (search rules, rw c.to.ensures.bound record {
-      other = bound_after c.args.question.now;
-      can_step = can;
-      head = (rw c.from.ensures.bound at c.head_for-head.ensures.head).head;
-      common = c.args.question.now.common;
-    })
+    let can = can_step t (goal.at.head_beside-to_head-requires t c).After-header_ref-node in (
+      search rules,
+      rw c.to.ensures.bound record {
+        other = bound_after c.args.question.now;
+        can_step = can;
+        head = (rw c.from.ensures.bound at c.head_for-head.ensures.head).head;
+        common = c.args.question.now.common;
+      },
+    )
 
 pub rest_at-rest-requires : goal.rest_at-rest-requires
 rest_at-rest-requires t c =

@@ -35,9 +35,11 @@ returns-in-Some c =
 
 pub greatest-most-requires : goal.greatest-most-requires
 greatest-most-requires c =
-    let asked = c.requires.asked in
-    (search rules, rw (c.from.ensures.bound, c.to.ensures.bound)
-        (asked.from, (asked.to, nested c.args.store.now.keys c.args.question.now)))
+    let asked = c.requires.asked in (
+      search rules,
+      rw (c.from.ensures.bound, c.to.ensures.bound)
+          (asked.from, (asked.to, nested c.args.store.now.keys c.args.question.now)),
+    )
 
 pub returns-in-None : goal.returns-in-None
 returns-in-None c =

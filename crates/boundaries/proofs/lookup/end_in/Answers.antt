@@ -18,13 +18,15 @@ returns-then-question c =
 
 pub head_beside-head-requires : goal.head_beside-head-requires
 head_beside-head-requires c =
-    let s = c.requires.searched in
-    (search rules, rw c.to.ensures.bound record {
-      other = bound_after c.args.question.now;
-      can_step = s.can_step;
-      head = s.head;
-      common = c.args.question.now.common;
-    })
+    let s = c.requires.searched in (
+      search rules,
+      rw c.to.ensures.bound record {
+        other = bound_after c.args.question.now;
+        can_step = s.can_step;
+        head = s.head;
+        common = c.args.question.now.common;
+      },
+    )
 
 pub lower_bound_from-requires : goal.lower_bound_from-requires
 lower_bound_from-requires c =

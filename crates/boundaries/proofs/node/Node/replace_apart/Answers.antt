@@ -109,9 +109,19 @@ pub replace-requires : goal.replace-requires
 replace-requires c =
     let s = (goal.at.replace-requires c).Joined-splice in
     let left = ap length c.split_off-right.ensures.left in
-    let part = length-take (c.args.self.now.len - HALF_FULL) (was s) in
-    (search rules, (c.requires.ordered, (omega (arith, len s, left, part, c.if-to-half.true), (as_many s,
-        omega (arith, len s, left, part, c.if-to-half.true, c.requires.ordered, c.args.splice.few)))))
+    let part = length-take (c.args.self.now.len - HALF_FULL) (was s) in (
+      search rules,
+      (
+        c.requires.ordered,
+        (
+          omega (arith, len s, left, part, c.if-to-half.true),
+          (
+            as_many s,
+            omega (arith, len s, left, part, c.if-to-half.true, c.requires.ordered, c.args.splice.few),
+          ),
+        ),
+      ),
+    )
 
 pub returns-then-to-half : goal.returns-then-to-half
 returns-then-to-half c =
@@ -144,9 +154,19 @@ overflow_sub-replace c =
 pub replace-requires-2 : goal.replace-requires-2
 replace-requires-2 c =
     let s = (goal.at.replace-requires-2 c).Joined-splice in
-    let right = simp length-drop at (ap length c.split_off-right-2.ensures.right) in
-    (search rules, (omega (arith, c.requires.ordered), (omega (arith, right, c.requires.within), (as_many s,
-        omega (arith, right, len s, many s, c.if-to-half.false, c.requires.ordered, c.requires.within, c.args.splice.few)))))
+    let right = simp length-drop at (ap length c.split_off-right-2.ensures.right) in (
+      search rules,
+      (
+        omega (arith, c.requires.ordered),
+        (
+          omega (arith, right, c.requires.within),
+          (
+            as_many s,
+            omega (arith, right, len s, many s, c.if-to-half.false, c.requires.ordered, c.requires.within, c.args.splice.few),
+          ),
+        ),
+      ),
+    )
 
 pub returns : goal.returns
 returns c =

@@ -60,19 +60,21 @@ splice-requires c =
     let t = c.entry_for.result in
     let u = c.entry_for-2.result in
     let Known = IsKnown (key_at c.args.self.now.keys) in
-    let known = All-cons Known t.key (u.key ∷ []) (first_known s) (All-cons Known u.key [] (second_known s) (All-nil Known)) in
-    (search rules, record {
-      sound = can.sound;
-      live = can.live;
-      room = can.room;
-      splices = rw c.header_ref-node.ensures.header record {
-        ordered = omega (arith, c.new.ensures.run.0, c.new.ensures.run.1);
-        within = omega (arith, c.new.ensures.run.1, within s);
-        headed = headed s;
-        known = rw c.new.ensures.new known;
-        beside = rw (c.new.ensures.new, c.new.ensures.heads) (beside (goal.at.splice-requires c).Joined-head_of);
-      };
-    })
+    let known = All-cons Known t.key (u.key ∷ []) (first_known s) (All-cons Known u.key [] (second_known s) (All-nil Known)) in (
+      search rules,
+      record {
+        sound = can.sound;
+        live = can.live;
+        room = can.room;
+        splices = rw c.header_ref-node.ensures.header record {
+          ordered = omega (arith, c.new.ensures.run.0, c.new.ensures.run.1);
+          within = omega (arith, c.new.ensures.run.1, within s);
+          headed = headed s;
+          known = rw c.new.ensures.new known;
+          beside = rw (c.new.ensures.new, c.new.ensures.heads) (beside (goal.at.splice-requires c).Joined-head_of);
+        };
+      },
+    )
 
 pub returns : goal.returns
 returns c =

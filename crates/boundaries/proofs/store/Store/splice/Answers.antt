@@ -24,16 +24,26 @@ overflow_sub-len c =
 pub splice-requires : goal.splice-requires
 splice-requires c =
     let s = (goal.at.splice-requires c).After-header_mut-node in
-    let can = splices s in
-    (search rules, (can, simp (length-append, length-take, length-drop)
-        (omega (arith, c.len.ensures.len, c.len.ensures.most, can.within, can.ordered, c.if-splice-FAN_OUT.true))))
+    let can = splices s in (
+      search rules,
+      (
+        can,
+        simp (length-append, length-take, length-drop)
+            (omega (arith, c.len.ensures.len, c.len.ensures.most, can.within, can.ordered, c.if-splice-FAN_OUT.true)),
+      ),
+    )
 
 pub splice_apart-right-requires : goal.splice_apart-right-requires
 splice_apart-right-requires c =
     let s = (goal.at.splice_apart-right-requires c).After-header_mut-node in
-    let can = splices s in
-    (search rules, (can, simp (length-append, length-take, length-drop)
-        (omega (arith, c.len.ensures.len, can.within, can.ordered, c.if-splice-FAN_OUT.false))))
+    let can = splices s in (
+      search rules,
+      (
+        can,
+        simp (length-append, length-take, length-drop)
+            (omega (arith, c.len.ensures.len, can.within, can.ordered, c.if-splice-FAN_OUT.false)),
+      ),
+    )
 
 pub place-requires : goal.place-requires
 place-requires c =
