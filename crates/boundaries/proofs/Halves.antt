@@ -23,29 +23,29 @@ module _ (nodes : Arena Node) (least height slot : ℕ) (f t : ℕ → Bool) (es
     through : IsPartitioned (λ x. b x.key) (flat_map items_at es)
     through = items_partitioned nodes least height slot f t es begin end k some b partitioned
 
-    describe : All (λ e. Describes e (items_at e)) es
-    describe = look_answers nodes least height slot f t es begin end k some
+    tell_all : All (λ e. Describes e (items_at e)) es
+    tell_all = look_answers nodes least height slot f t es begin end k some
 
     pub pass_before_index : All (λ x. b x.key ≡ true) (flat_map items_at (take i es))
-    pass_before_index = rw at (pass_before b items_at es describe through)
+    pass_before_index = rw at (pass_before b items_at es tell_all through)
 
     pub fail_behind_index : All (λ x. b x.key ≡ false) (flat_map items_at (drop (i + 1) es))
-    fail_behind_index = rw at (fail_after_index b items_at es describe through)
+    fail_behind_index = rw at (fail_after_index b items_at es tell_all through)
 
     -- the entry there, which is below the bound
     module _ (e : NodeEntry) (inside : i < length es) (is : e ≡ get_or es i e) (passes : b e.key ≡ true) where
       abbrev passing : Item → Bool
       passing x = b x.key
 
-      parts : items_in nodes height slot ≡ flat_map items_at (take i es) ++ (items_at e ++ flat_map items_at (drop (i + 1) es))
-      parts = around_child nodes least height slot f t es begin end k some i e inside is
+      apart_at : items_in nodes height slot ≡ flat_map items_at (take i es) ++ (items_at e ++ flat_map items_at (drop (i + 1) es))
+      apart_at = around_child nodes least height slot f t es begin end k some i e inside is
 
       -- the items from the last one before the bound on
       pub from_index : from_last_of passing (λ x. true) (items_in nodes height slot)
           ≡ from_last_of passing (λ x. true) (items_at e) ++ flat_map items_at (drop (i + 1) es)
       from_index =
           let told = (child_is nodes least height slot f t es begin end k some i e inside is).describes in
-          ap (from_last_of passing (λ x. true)) parts
+          ap (from_last_of passing (λ x. true)) apart_at
           ∙ from_last_on passing (λ x. true) (λ x h. refl) _ (items_at e) _ pass_before_index
           (inr (some_answered b e (items_at e) told passes)) fail_behind_index
           ∙ ap (λ ys. from_last_of passing (λ x. true) (items_at e) ++ ys) (none_fail (λ (x : Item). true) _ (λ i d inside. refl)).0
@@ -56,7 +56,7 @@ module _ (nodes : Arena Node) (least height slot : ℕ) (f t : ℕ → Bool) (es
       before_index =
           let front = (none_fail passing (flat_map items_at (take i es)) pass_before_index).0 in
           let back = (none_pass passing (flat_map items_at (drop (i + 1) es)) fail_behind_index).0 in
-          ap (filter passing) parts ∙ simp (filter-append, front, back, append-nil)
+          ap (filter passing) apart_at ∙ simp (filter-append, front, back, append-nil)
 
 -- a look at such a node, with the entries of the two children
 pub record AreHalves (nodes : Arena Node) (least height slot : ℕ) (f t : ℕ → Bool) : Type 0 where

@@ -193,17 +193,17 @@ module _ {old : Store} {height lower slot i x : ℕ} (at : IsAt old.nodes height
 
   -- The child was split.
   module _ {between : Store} {s : ℕ} (put : IsChanged old between lower x (Split s)) where
-    abbrev b : Arena Node
-    b = between.nodes
+    abbrev m : Arena Node
+    m = between.nodes
 
-    both_moves : Moves a b (slots_in a lower x) (slots_in b lower x ++ slots_in b lower s)
-    both_moves = moves_if_changes a b _ _ put.changes
+    both_moves : Moves a m (slots_in a lower x) (slots_in m lower x ++ slots_in m lower s)
+    both_moves = moves_if_changes a m _ _ put.changes
 
     -- The node can have one child more.
     pub can_insert : CanInsertChild between slot i s
     can_insert =
         let read = read_beside at both_moves in
-        let child : x ≡ child_at (entries_at b slot) i = rw read (x_at at) in
+        let child : x ≡ child_at (entries_at m slot) i = rw read (x_at at) in
         record {
           sound = record { keyless = put.changes.keyless; headed = put.headed };
           live = live_beside at both_moves;
@@ -215,38 +215,38 @@ module _ {old : Store} {height lower slot i x : ℕ} (at : IsAt old.nodes height
 
     -- The node was linked to both parts.
     module _ {later : Store} (outcome : LeafOutcome)
-        (linked : IsLinked b (child_at (entries_at b slot) i) s (take i (entries_at b slot))
-        (drop (i + 1) (entries_at b slot)) (entries_at_both later.nodes slot (added_by outcome)))
+        (linked : IsLinked m (child_at (entries_at m slot) i) s (take i (entries_at m slot))
+        (drop (i + 1) (entries_at m slot)) (entries_at_both later.nodes slot (added_by outcome)))
         (stored_at : IsStored between later slot (added_by outcome)) (keeps : KeepsKeys between later) where
-      abbrev w : Arena Node
-      w = later.nodes
+      abbrev z : Arena Node
+      z = later.nodes
 
-      linked_here : IsLinked b x s (take i es) (drop (i + 1) es) (entries_at_both w slot (added_by outcome))
+      linked_here : IsLinked m x s (take i es) (drop (i + 1) es) (entries_at_both z slot (added_by outcome))
       linked_here = rw (x_at at) (rw (read_beside at both_moves) at linked)
 
-      pub step_linked : Stored a w HALF_FULL height slot (added_by outcome)
-          (around at (items_in b lower x ++ items_in b lower s))
+      pub step_linked : Stored a z HALF_FULL height slot (added_by outcome)
+          (around at (items_in m lower x ++ items_in m lower s))
       step_linked =
           let t = linked_here.first in
           let u = linked_here.second in
           let first = linked_here.first_child in
           let second = linked_here.second_child in
-          let slots : slots_in b lower x ++ slots_in b lower s ≡ slots_of b lower (t ∷ u ∷ []) =
+          let slots : slots_in m lower x ++ slots_in m lower s ≡ slots_of m lower (t ∷ u ∷ []) =
           simp (first, second, append-nil) in
           let l = loose_at at (t ∷ u ∷ []) (rw slots at both_moves) in
-          let right = both_right b HALF_FULL lower x s t u first second put.subtree put.neighbour put.filled
+          let right = both_right m HALF_FULL lower x s t u first second put.subtree put.neighbour put.filled
           linked_here.first_describes linked_here.second_describes in
-          let Right = IsRight b HALF_FULL lower in
+          let Right = IsRight m HALF_FULL lower in
           let all = All-append Right (take i es) (t ∷ u ∷ drop (i + 1) es) l.front
           (All-append Right (t ∷ u ∷ []) (drop (i + 1) es) right l.back) in
-          let some : 1 ≤ length (entries_at_both w slot (added_by outcome)) =
+          let some : 1 ≤ length (entries_at_both z slot (added_by outcome)) =
           omega (arith, ap length linked_here.entries, length-append (take i es) (t ∷ u ∷ drop (i + 1) es)) in
           let k = stored HALF_FULL lower slot at.few at.subtree.0 (added_by outcome)
           (rw (split at, linked_here.entries) l.moves) (rw linked_here.entries all) some
-          (both_filled 1 w slot _ (omega arith) stored_at.filled) stored_at.live stored_at.live_added
-          (moves_if_changes b w _ _ stored_at.changes) in
-          let items : items_of b lower (entries_at_both w slot (added_by outcome)) ≡ around at _ =
-          ap (items_of b lower) linked_here.entries ∙ (simp (first, second, append-nil) at l.items) in
+          (both_filled 1 z slot _ (omega arith) stored_at.filled) stored_at.live stored_at.live_added
+          (moves_if_changes m z _ _ stored_at.changes) in
+          let items : items_of m lower (entries_at_both z slot (added_by outcome)) ≡ around at _ =
+          ap (items_of m lower) linked_here.entries ∙ (simp (first, second, append-nil) at l.items) in
           rw (← at.next, ← items) k
 
       pub linked_above : (outcome ≡ Same → ⊥) → ((leaf : RaisedLeaf) → outcome ≡ Raised leaf → ⊥)
@@ -256,10 +256,10 @@ module _ {old : Store} {height lower slot i x : ℕ} (at : IsAt old.nodes height
         raised = λ leaf is. absurd (kept leaf is);
         subtree = step_linked.subtree;
         neighbour = step_linked.neighbour;
-        filled = both_filled HALF_FULL w slot _ (omega arith) stored_at.filled;
+        filled = both_filled HALF_FULL z slot _ (omega arith) stored_at.filled;
         few_less = λ above none. (
-            let is : entries_at w slot ≡ take i es ++ (linked_here.first ∷ linked_here.second ∷ drop (i + 1) es) =
-            ap (entries_at_both w slot) (sym none) ∙ linked_here.entries in
+            let is : entries_at z slot ≡ take i es ++ (linked_here.first ∷ linked_here.second ∷ drop (i + 1) es) =
+            ap (entries_at_both z slot) (sym none) ∙ linked_here.entries in
             omega (
               arith,
               ap length is,
