@@ -1,11 +1,15 @@
 -- What is known of the first keys of nodes, where a search goes on with the last entry below the bound.
-use Rattle.std.proofs.Common.{◌≡◌, ℕ, ◌+◌, ◌-◌, ◌<◌, ◌≤◌, Bool, true, false, List, [], ◌∷◌, Some, None, length, get_or, slice_get, filter, flat_map, All, refl, sym, ap, arith, ◌≢◌, Option, unwrap_or}
+use Rattle.std.proofs.Common.{◌≡◌, ◌≢◌, ℕ, ◌+◌, ◌-◌, ◌<◌, ◌≤◌, Bool, true, false, List, [], ◌∷◌, Some, length, length-append, get_or, slice_get, filter, flat_map, All, refl, sym, subst, ap, ◌∙◌, arith}
+use Rattle.std.proofs.lemmas.List.Elements.{filter-append}
 use Rattle.std.proofs.lemmas.Bool.{cases_Bool}
 use Rattle.std.proofs.lemmas.Option.{slice_get_read}
-use Rattle.boundaries.proofs.Words.{Arena, NodeEntry, Node, KeyBytes, IsCommonPrefix, IsCommonPrefixAt, Item, Describes, IsSearchable, IsPartitioned, index_in, entries_at, items_in}
-use Rattle.boundaries.proofs.callers.Partitions.{none_pass, rest_fails, length-items_below}
+use Rattle.boundaries.specs.Position.{CanReach, IsFirstKnown}
+use Rattle.boundaries.proofs.Words.{HALF_FULL, KeyBound, Store, NodeEntry, IsCommonPrefixLen, Item, Describes, IsPartitioned, index_in, is_below, entries_at, items_in}
+use Rattle.boundaries.proofs.callers.Partitions.{length-items_below}
 use Rattle.boundaries.proofs.HeadCounts.{passing_at, passing_inside}
-use Rattle.boundaries.proofs.FirstKeys.{first_describes, items_under, node_items, node_describes}
+use Rattle.boundaries.proofs.HeadOrder.{describes_empty}
+use Rattle.boundaries.proofs.KeyBytes.{known_bytes}
+use Rattle.boundaries.proofs.FirstKeys.{items_under, node_items, node_describes}
 
 -- Where the first entry passes, some do.
 pub some_pass : (is_below : ℕ → Bool) (es : List NodeEntry) → 1 ≤ length es
@@ -18,13 +22,10 @@ pub some_answered : (is_below : ℕ → Bool) (e : NodeEntry) (items : List Item
     → 1 ≤ length (filter (λ x. is_below x.key) items)
 some_answered is_below e items t passes = rw (t.items_are, ← t.key, passes) (omega arith)
 
--- So it is where bytes are known that its key and the target begin with in common.
-pub known_some_below : (bytes : KeyBytes) (is_below : ℕ → Bool) (target : List ℕ) {known : Option ℕ} {n : ℕ} (e : NodeEntry)
-    (items : List Item) → Describes e items → known ≡ Some n → IsCommonPrefix bytes is_below target known e.key
+-- So there are some.
+pub some_told : (is_below : ℕ → Bool) (e : NodeEntry) (items : List Item) → Describes e items → is_below e.key ≡ true
     → filter (λ x. is_below x.key) items ≢ []
-known_some_below bytes is_below target e items t is knows none =
-    let some = some_answered is_below e items t (rw is at knows).0 in
-    omega (arith, some, ap length none)
+some_told is_below e items t passes none = omega (arith, some_answered is_below e items t passes, ap length none)
 
 -- The last of those that pass does.
 pub last_passes : (is_below : ℕ → Bool) (es : List NodeEntry) (i : ℕ) (e : NodeEntry) → IsPartitioned (λ e. is_below e.key) es
@@ -41,22 +42,30 @@ pub next_fails : (is_below : ℕ → Bool) (es : List NodeEntry) (i : ℕ) (e : 
 next_fails is_below es i e partitioned at there =
     grind (arith, cases_Bool (is_below e.key), passing_inside (λ (e : NodeEntry). is_below e.key) es (i + 1) e partitioned there)
 
--- Where the first entry doesn't pass, no item does.
-none_from_first : (is_below : ℕ → Bool) (under : NodeEntry → List Item) (es : List NodeEntry) (e : NodeEntry) → slice_get es 0 ≡ Some e
-    → All (λ e. Describes e (under e)) es → (items : List Item) → items ≡ flat_map under es
-    → IsPartitioned (λ x. is_below x.key) items → is_below e.key ≡ false → filter (λ x. is_below x.key) items ≡ []
-none_from_first is_below under es e there describe [] same partitioned f = refl
-none_from_first is_below under es e there describe (x ∷ xs) same partitioned f =
-    let p = λ (x : Item). is_below x.key in
-    (none_pass p (x ∷ xs) (rest_fails p x xs partitioned (rw (← first_describes under es e there describe x xs (sym same)) f))).0
+-- Where the first entry passes, some item does.
+first_passes : (is_below : ℕ → Bool) (under : NodeEntry → List Item) (es : List NodeEntry) → 1 ≤ length es
+    → All (λ e. Describes e (under e)) es → ((e : NodeEntry) → slice_get es 0 ≡ Some e → is_below e.key ≡ true)
+    → filter (λ x. is_below x.key) (flat_map under es) ≢ []
+first_passes is_below under [] some describe first none = omega (arith, some)
+first_passes is_below under (e ∷ es) some describe first none =
+    let passes = some_answered is_below e (under e) (describe 0 e (omega arith)) (first e refl) in
+    let count = simp (filter-append, length-append) at (ap length none) in
+    omega (arith, passes, count)
 
--- What is known of the first key is not that it doesn't pass, where some item does.
-pub known_where_some : {nodes : Arena Node} {least height slot : ℕ} {bytes : KeyBytes} {is_below : ℕ → Bool}
-    (target : List ℕ) (known : Option ℕ) → IsSearchable bytes is_below nodes least height slot
-    → filter (λ x. is_below x.key) (items_in nodes height slot) ≢ []
-    → IsCommonPrefixAt bytes is_below target known (entries_at nodes slot) 0
-    → IsCommonPrefixAt bytes is_below target (Some (unwrap_or known 0)) (entries_at nodes slot) 0
-known_where_some {nodes} {least} {height} {slot} {bytes} {is_below} target None can some knows e there =
-    absurd (some (none_from_first is_below (items_under nodes height) (entries_at nodes slot) e there
-    (node_describes nodes least height slot can.subtree) _ (node_items nodes least height slot) can.partitioned (knows e there)))
-known_where_some target (Some k) can some knows e there = knows e there
+-- A tree can be searched from its root: its first key is empty.
+module _ {store : Store} {bound : KeyBound} {height slot : ℕ} (reach : CanReach store bound height slot) where
+  pub root_known : IsFirstKnown store bound slot 0
+  root_known e there =
+      let first = reach.first e there in (
+        first.1,
+        λ text is.
+            let empty = sym (known_bytes store.keys e.key text is) ∙ first.0 in
+            subst (λ t. IsCommonPrefixLen 0 t bound.key.now) (sym empty) (describes_empty 0 bound.key.now),
+      )
+
+  pub some_reached : filter (λ x. is_below store.keys bound x.key) (items_in store.nodes height slot) ≢ []
+  some_reached =
+      let can = reach.searchable in
+      let some = first_passes (is_below store.keys bound) (items_under store.nodes height) (entries_at store.nodes slot) can.some
+      (node_describes store.nodes HALF_FULL height slot can.subtree) (λ e there. (reach.first e there).1) in
+      rw (node_items store.nodes HALF_FULL height slot) some

@@ -16,11 +16,3 @@ module _ {X : Type 0} where
       let front = take-take from len xs (omega arith) in
       let sum : to + (len - to) ≡ len = omega arith in
       cc (take_at (head ++ moved) (drop (from + (len - to)) xs) _ size, front, drop-take to (len - to) xs)
-
-  -- entries of which those from an index on are cut off
-  pub take-cut : (xs ys : List X) (len at : ℕ) → len ≤ length xs → at ≤ len → ys ≡ copy_within xs len len at
-      → take at ys ≡ take at (take len xs)
-  take-cut xs ys len at room within after =
-      let front : len - (len - at) ≡ at = omega arith in
-      let none : drop len (take len xs) ≡ [] = drop_of_length-le (take len xs) (omega (arith, length-take-le len xs room)) in
-      cc (take-removed xs ys len at len room within (omega arith) after, none, append-nil (take at (take len xs)))

@@ -1,6 +1,5 @@
 -- The child at which a bound goes on, as the code finds it.
-use Rattle.std.proofs.Common.{◌≡◌, ℕ, suc, ◌-◌, ◌<◌, Bool, List, [], ◌∷◌, length, Some, option_map, unwrap_or, map, slice_get, slice_index_or, sym, ◌∙◌, ap, subst, inl, inr, arith}
-use Rattle.std.proofs.lemmas.Option.{get_or_from_slice_get}
+use Rattle.std.proofs.Common.{◌≡◌, ℕ, suc, ◌-◌, ◌<◌, Bool, List, [], ◌∷◌, length, Some, option_map, unwrap_or, map, slice_get, sym, ◌∙◌, ap, subst, inl, inr, arith}
 use Rattle.std.proofs.lemmas.List.{get_or-map, length-map}
 use Rattle.boundaries.proofs.Words.{Arena, header_at, NodeEntry, Node, Item, item_of, entries_of, IsPartitioned, index_in, leaf_in, entries_at, items_in, IsSubtree}
 use Rattle.boundaries.proofs.callers.Partitions.{Falls, Falls-below_from, IsPartitioned-from_falls}
@@ -40,14 +39,14 @@ module _ (nodes : Arena Node) (least height slot : ℕ) (is_below : ℕ → Bool
       (subst (λ n. IsPartitioned (λ (x : Item). is_below x.key) (items_in nodes n slot)) lower c)
 
   module _ (header : Node) (es : List NodeEntry) where
-    pub found : (index : ℕ) (d : NodeEntry) → (height ≡ 0 → ⊥) → IsSubtree nodes least height slot
+    pub found : (index child : ℕ) → (height ≡ 0 → ⊥) → IsSubtree nodes least height slot
         → IsPartitioned (λ x. is_below x.key) (items_in nodes height slot) → header_at nodes slot ≡ Some header
-        → es ≡ entries_of header → index ≡ index_in is_below es → IsFound (slice_index_or es index d).child
-    found index d some s c h e i =
+        → es ≡ entries_of header → index ≡ index_in is_below es
+        → ((e : NodeEntry) → slice_get es index ≡ Some e → child ≡ e.child) → IsFound child
+    found index child some s c h e i leads =
         let w = way_at some s c in
         let at : slice_get es index ≡ Some w.entry = rw (i, ← entries_read nodes slot header es h e) w.is in
-        let child = ap (λ (x : NodeEntry). x.child) (get_or_from_slice_get es index w.entry d at) in
-        record { lower = omega arith; way = w; is = child }
+        record { lower = omega arith; way = w; is = leads w.entry at }
 
     -- The entries of a node above the leaves, as the code has read them, are partitioned.
     pub read_partitioned : (height ≡ 0 → ⊥) → IsSubtree nodes least height slot

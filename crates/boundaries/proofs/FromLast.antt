@@ -52,12 +52,6 @@ module _ {X : Type 0} (p q : X → Bool) where
     fewer_before [] = omega arith
     fewer_before (x ∷ xs) = grind (arith, fewer_before xs, n x, cases_Bool (p x), cases_Bool (q x))
 
-    -- There is one, where some pass the first test.
-    pub from_last_some : (xs : List X) → filter p xs ≢ [] → from_last_of p q xs ≢ []
-    from_last_some xs some none =
-        let count = length-drop (length (filter p xs) - 1) (filter q xs) in
-        some (nil_from_length (filter p xs) (omega (arith, fewer_before xs, ap length none, count)))
-
     -- Where none is below the second bound, none passes the first.
     pub none_of_fewer : (xs : List X) → All (λ x. q x ≡ false) xs → All (λ x. p x ≡ false) xs
     none_of_fewer xs a i d inside = grind (arith, cases_Bool (p (get_or xs i d)), n (get_or xs i d), a i d inside)
@@ -81,26 +75,27 @@ module _ {X : Type 0} (p q : X → Bool) where
         rw (filter-append p xs ys, (none_fail p xs before).0, filter-append q xs ys, sooner, count)
         (drop-append-add xs (filter q ys) (length (filter p ys) - 1))
 
+    -- from a part on, where the first bound lies in it
+    pub from_last_on : (a c b : List X) → All (λ x. p x ≡ true) a → (a ≡ []) ⊎ (1 ≤ length (filter p c))
+        → All (λ x. p x ≡ false) b → from_last_of p q (a ++ (c ++ b)) ≡ from_last_of p q c ++ filter q b
+    from_last_on a c b before some later =
+        rw (← append_assoc a c b, from_last_append (a ++ c) b later, from_last_after a c before some) refl
+
     -- of a part alone, where both bounds lie in it
     pub from_last_part : (a c b : List X) → All (λ x. p x ≡ true) a → (a ≡ []) ⊎ (1 ≤ length (filter p c))
         → All (λ x. q x ≡ false) b → from_last_of p q (a ++ (c ++ b)) ≡ from_last_of p q c
     from_last_part a c b before some following =
-        rw (← append_assoc a c b)
-        (from_last_append (a ++ c) b (none_of_fewer b following)
-        ∙ ap (λ ys. from_last_of p q (a ++ c) ++ ys) (none_pass q b following).0
-        ∙ append-nil (from_last_of p q (a ++ c)) ∙ from_last_after a c before some)
+        from_last_on a c b before some (none_of_fewer b following)
+        ∙ ap (λ ys. from_last_of p q c ++ ys) (none_pass q b following).0 ∙ append-nil (from_last_of p q c)
 
     -- of two parts and those between, where the first bound lies in the one and the second bound in the other
     pub from_last_parts : (a l m r b : List X) → All (λ x. p x ≡ true) a → (a ≡ []) ⊎ (1 ≤ length (filter p l))
         → All (λ x. p x ≡ false) (m ++ (r ++ b)) → All (λ x. q x ≡ true) (l ++ m) → All (λ x. q x ≡ false) b
-        → from_last_of p q (a ++ (l ++ (m ++ (r ++ b))))
-        ≡ from_last_of p (λ x. true) l ++ (m ++ from_last_of (λ x. false) q r)
+        → from_last_of p q (a ++ (l ++ (m ++ (r ++ b)))) ≡ from_last_of p (λ x. true) l ++ (m ++ filter q r)
     from_last_parts a l m r b before some later sooner following =
         let left = (none_fail q l (All-front (λ x. q x ≡ true) l m sooner)).0
         ∙ sym (none_fail (λ (x : X). true) l (λ i d inside. refl)).0 in
         let middle = (none_fail q m (All-back (λ x. q x ≡ true) l m sooner)).0 in
-        let right = (none_pass (λ (x : X). false) r (λ i d inside. refl)).0 in
         let rest : filter q (m ++ (r ++ b)) ≡ m ++ filter q r =
         simp (filter-append, middle, (none_pass q b following).0, append-nil) in
-        rw (← append_assoc a l (m ++ (r ++ b)), from_last_append (a ++ l) (m ++ (r ++ b)) later, from_last_after a l before some)
-        (rw (left, rest, right) refl)
+        from_last_on a l (m ++ (r ++ b)) before some later ∙ rw (left, rest) refl

@@ -1,15 +1,62 @@
 -- The items before a bound, of those before another bound the last alone, below a node that is no leaf: those of the child that the
 -- first bound is in, those of the children between, and those of the child that the second bound is in.
-use Rattle.std.proofs.Common.{◌≡◌, ℕ, zero, suc, ◌+◌, ◌-◌, ◌<◌, ◌≤◌, ◌⊎◌, Bool, true, false, List, [], ◌∷◌, ◌++◌, length, get_or, filter, flat_map, All, arith, slice_range, take, drop, refl, ap, ◌∙◌, inl, inr, append_assoc, take-add, take-append-drop}
+use Rattle.std.proofs.Common.{◌≡◌, ℕ, zero, suc, ◌+◌, ◌-◌, ◌<◌, ◌≤◌, ◌⊎◌, Bool, true, false, List, [], ◌∷◌, ◌++◌, length, get_or, filter, flat_map, All, arith, slice_range, take, drop, refl, ap, ◌∙◌, inl, inr, append-nil, append_assoc, take-add, take-append-drop}
 use Rattle.std.proofs.lemmas.Grind.{flat_map-append}
 use Rattle.std.proofs.lemmas.List.{drop-drop, drop_more, take_more}
-use Rattle.std.proofs.lemmas.List.Elements.{All-take, All-drop}
+use Rattle.std.proofs.lemmas.List.Elements.{All-take, All-drop, filter-append}
 use Rattle.boundaries.proofs.Words.{Arena, NodeEntry, Node, Item, Describes, KeyBytes, IsSearchable, IsPartitioned, IsChild, IsSubtree, items_in}
-use Rattle.boundaries.proofs.callers.Partitions.{All-back}
-use Rattle.boundaries.proofs.FromLast.{from_last_of, from_last_part, from_last_parts}
+use Rattle.boundaries.proofs.callers.Partitions.{All-back, none_fail, none_pass}
+use Rattle.boundaries.proofs.FromLast.{from_last_of, from_last_on, from_last_part, from_last_parts}
 use Rattle.boundaries.proofs.Looks.{IsLook, around_child, look_ordered, look_answers, items_partitioned, child_is, child_reached, first_inside, last_inside}
 use Rattle.boundaries.proofs.AnsweredKeys.{last_passes, some_answered}
 use Rattle.boundaries.proofs.Ways.{entries_partitioned, pass_before, fail_after_index}
+
+-- at a look at such a node
+module _ (nodes : Arena Node) (least height slot : ℕ) (f t : ℕ → Bool) (es : List NodeEntry)
+    (begin end : ℕ) (k : IsLook nodes least height slot f t es begin end) (some : height ≡ 0 → ⊥) where
+  abbrev items_at : NodeEntry → List Item
+  items_at e = items_in nodes (height - 1) e.child
+
+  -- a bound through the items, and the index of the last entry below it
+  module _ (b : ℕ → Bool) (partitioned : IsPartitioned (λ x. b x.key) (items_in nodes height slot)) (i : ℕ)
+      (at : i ≡ length (filter (λ e. b e.key) es) - 1) where
+    through : IsPartitioned (λ x. b x.key) (flat_map items_at es)
+    through = items_partitioned nodes least height slot f t es begin end k some b partitioned
+
+    tell_all : All (λ e. Describes e (items_at e)) es
+    tell_all = look_answers nodes least height slot f t es begin end k some
+
+    pub pass_before_index : All (λ x. b x.key ≡ true) (flat_map items_at (take i es))
+    pass_before_index = rw at (pass_before b items_at es tell_all through)
+
+    pub fail_behind_index : All (λ x. b x.key ≡ false) (flat_map items_at (drop (i + 1) es))
+    fail_behind_index = rw at (fail_after_index b items_at es tell_all through)
+
+    -- the entry there, which is below the bound
+    module _ (e : NodeEntry) (inside : i < length es) (is : e ≡ get_or es i e) (passes : b e.key ≡ true) where
+      abbrev passing : Item → Bool
+      passing x = b x.key
+
+      apart_at : items_in nodes height slot ≡ flat_map items_at (take i es) ++ (items_at e ++ flat_map items_at (drop (i + 1) es))
+      apart_at = around_child nodes least height slot f t es begin end k some i e inside is
+
+      -- the items from the last one before the bound on
+      pub from_index : from_last_of passing (λ x. true) (items_in nodes height slot)
+          ≡ from_last_of passing (λ x. true) (items_at e) ++ flat_map items_at (drop (i + 1) es)
+      from_index =
+          let told = (child_is nodes least height slot f t es begin end k some i e inside is).describes in
+          ap (from_last_of passing (λ x. true)) apart_at
+          ∙ from_last_on passing (λ x. true) (λ x h. refl) _ (items_at e) _ pass_before_index
+          (inr (some_answered b e (items_at e) told passes)) fail_behind_index
+          ∙ ap (λ ys. from_last_of passing (λ x. true) (items_at e) ++ ys) (none_fail (λ (x : Item). true) _ (λ i d inside. refl)).0
+
+      -- and those before it
+      pub before_index : filter passing (items_in nodes height slot)
+          ≡ flat_map items_at (take i es) ++ filter passing (items_at e)
+      before_index =
+          let front = (none_fail passing (flat_map items_at (take i es)) pass_before_index).0 in
+          let back = (none_pass passing (flat_map items_at (drop (i + 1) es)) fail_behind_index).0 in
+          ap (filter passing) apart_at ∙ simp (filter-append, front, back, append-nil)
 
 -- a look at such a node, with the entries of the two children
 pub record AreHalves (nodes : Arena Node) (least height slot : ℕ) (f t : ℕ → Bool) : Type 0 where
@@ -54,7 +101,7 @@ module _ {nodes : Arena Node} {least height slot : ℕ} {f t : ℕ → Bool}
   left_from_last = from_last_of p (λ x. true) left_items
 
   abbrev pub right_before : List Item
-  right_before = from_last_of (λ x. false) q right_items
+  right_before = filter q right_items
 
   first_within : h.first < length h.es
   first_within = omega (arith, first_inside _ _ _ _ _ _ _ _ _ h.look h.some, h.first_is)
@@ -91,20 +138,17 @@ module _ {nodes : Arena Node} {least height slot : ℕ} {f t : ℕ → Bool}
   from_items : IsPartitioned (λ x. f x.key) (flat_map below h.es)
   from_items = items_partitioned _ _ _ _ _ _ _ _ _ h.look h.some f h.look.from
 
-  to_items : IsPartitioned (λ x. t x.key) (flat_map below h.es)
-  to_items = items_partitioned _ _ _ _ _ _ _ _ _ h.look h.some t h.look.to
-
   front : All (λ x. f x.key ≡ true) (flat_map below (take h.first h.es))
-  front = rw (h.first_is, h.look.begin_is) (pass_before f below h.es describe from_items)
+  front = pass_before_index _ _ _ _ _ _ _ _ _ h.look h.some f h.look.from h.first (h.first_is ∙ ap (λ n. n - 1) h.look.begin_is)
 
   later : All (λ x. f x.key ≡ false) (flat_map below (drop (h.first + 1) h.es))
-  later = rw (h.first_is, h.look.begin_is) (fail_after_index f below h.es describe from_items)
+  later = fail_behind_index _ _ _ _ _ _ _ _ _ h.look h.some f h.look.from h.first (h.first_is ∙ ap (λ n. n - 1) h.look.begin_is)
 
   sooner : All (λ x. t x.key ≡ true) (flat_map below (take h.last h.es))
-  sooner = rw (h.last_is, h.look.end_is) (pass_before t below h.es describe to_items)
+  sooner = pass_before_index _ _ _ _ _ _ _ _ _ h.look h.some t h.look.to h.last (h.last_is ∙ ap (λ n. n - 1) h.look.end_is)
 
   back : All (λ x. t x.key ≡ false) (flat_map below (drop (h.last + 1) h.es))
-  back = rw (h.last_is, h.look.end_is) (fail_after_index t below h.es describe to_items)
+  back = fail_behind_index _ _ _ _ _ _ _ _ _ h.look h.some t h.look.to h.last (h.last_is ∙ ap (λ n. n - 1) h.look.end_is)
 
   -- The left child has items below the first bound, or else none stands before it.
   left_some : (flat_map below (take h.first h.es) ≡ []) ⊎ (1 ≤ length (filter (λ x. f x.key) left_items))

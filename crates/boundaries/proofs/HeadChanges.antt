@@ -57,17 +57,6 @@ module _ (es : List NodeEntry) (len i : ℕ) (e : NodeEntry) (inside : i < len) 
       → take (i + 1) (slice_set heads i head) ≡ map f (take (i + 1) (keys_of (take len es)))
   head_next f heads head room right before = grind (arith, map_more, take_more_set, keys_count, key_read)
 
-  -- another entry of the same key in its place changes no key
-  pub key_stays : (new : NodeEntry) → e.key ≡ new.key → keys_of (slice_set (take len es) i new) ≡ keys_of (take len es)
-  key_stays new same = grind (arith, map-set, key_read, set-get_or)
-
-  -- The head of its key, behind so many bytes, is that of its bytes.
-  pub head_read : (bytes : KeyBytes) (n following head : ℕ) → following ≡ n → All (IsKnown bytes) (keys_of (take len es))
-      → ((text : List ℕ) → bytes (get_or es i e).key ≡ Some text → head ≡ head_after following text) → head ≡ head_at bytes n e.key
-  head_read bytes n following head same known right =
-      let own = All-contains (IsKnown bytes) (keys_of (take len es)) e.key known key_there in
-      head_known bytes n e.key head own (rw (← is, same) at right)
-
 -- A key is empty, or begins as the keys do of which this is known.
 abbrev pub BeginsAsThese : KeyBytes → KeyHeads → ℕ → Type 0
 BeginsAsThese bytes key_heads key = (text : List ℕ) → bytes key ≡ Some text → (text ≡ []) ⊎ HasPrefix bytes key_heads text

@@ -5,6 +5,7 @@ pub mod AnsweredKeys
 pub mod Approaches
 pub mod Asking
 pub mod Between
+pub mod BoundTests
 pub mod ChangedLeaf
 pub mod Changing
 pub mod Clearing
@@ -56,6 +57,7 @@ pub mod Placed
 pub mod PlacedKeys
 pub mod Placing
 pub mod QuestionAnswers
+pub mod QuestionBounds
 pub mod RaisedLeaves
 pub mod Reaching
 pub mod Rebalancing

@@ -2,7 +2,7 @@
 use Rattle.std.proofs.Common.{rules, ◌≡◌, ℕ, zero, suc, ◌+◌, ◌-◌, ◌<◌, ◌≤◌, Bool, true, false, List, ◌∷◌, ◌++◌, take, drop, Option, Some, None, option_map, length, get_or, filter, flat_map, map, All, IfSome, sym, refl, ◌∙◌, ap, subst, arith, slice_range, append-nil}
 use Rattle.std.proofs.lemmas.Grind.{flat_map-append}
 use Rattle.std.proofs.lemmas.List.{drop-map, length-map, take-map}
-use Rattle.boundaries.proofs.Words.{Arena, header_at, key_at, is_below, KeyBound, Store, NodeEntry, Node, Item, Describes, item_of, entries_of, IsPartitioned, entries_at, items_in, IsChild, IsSubtree, CanFind, CanStep, IsLowerBound, IsCommonPrefixAt, IsSearchable}
+use Rattle.boundaries.proofs.Words.{Arena, header_at, key_at, is_below, KeyBound, KeyBytes, Store, NodeEntry, Node, Item, Describes, item_of, entries_of, IsPartitioned, entries_at, items_in, IsChild, IsSubtree, CanFind, CanStep, IsLowerBound, IsCommonPrefixAt, IsSearchable}
 use Rattle.boundaries.proofs.callers.Partitions.{none_pass, none_fail}
 use Rattle.boundaries.proofs.Ways.{around_element, children_partitioned, index_inside}
 use Rattle.boundaries.proofs.Found.{partitioned-entries, entries_read, read_partitioned}
@@ -50,22 +50,6 @@ module _ {store : Store} {bound : KeyBound} {least height slot : ℕ} {node : No
   pub can_step_at : {known : ℕ} → IsCommonPrefixAt (key_at store.keys) (is_below store.keys bound) bound.key.now (Some known)
       (entries_at store.nodes slot) 0 → CanStep store.keys bound node known
   can_step_at knows = record { can_find = can_find_at; known = rw read at knows }
-
--- two bounds in a node that the code has read
-pub look_of : (nodes : Arena Node) (least height slot : ℕ) (f t : ℕ → Bool) (header : Node) (es : List NodeEntry) (begin end : ℕ)
-    → IsSubtree nodes least height slot → IsPartitioned (λ x. f x.key) (items_in nodes height slot)
-    → IsPartitioned (λ x. t x.key) (items_in nodes height slot) → ((key : ℕ) → f key ≡ true → t key ≡ true)
-    → header_at nodes slot ≡ Some header → es ≡ entries_of header → IsLowerBound f header begin → IsLowerBound t header end
-    → IsLook nodes least height slot f t es begin end
-look_of nodes least height slot f t header es begin end s c d n h e b l = record {
-  subtree = s;
-  from = c;
-  to = d;
-  nested = n;
-  read = entries_read nodes slot header es h e;
-  begin_is = rw e b.count_is;
-  end_is = rw e l.count_is;
-}
 
 module _ (nodes : Arena Node) (least height slot : ℕ) (f t : ℕ → Bool) (es : List NodeEntry)
     (begin end : ℕ) (k : IsLook nodes least height slot f t es begin end) where

@@ -1,7 +1,7 @@
 -- The entries of a node once a child was changed or split.
 use Rattle.std.proofs.Common.{◌≡◌, ℕ, ◌+◌, ◌≤◌, List, [], ◌∷◌, length, take, drop, arith}
 use Rattle.std.proofs.lemmas.List.Elements.{All-nil, All-cons, All-take, All-drop}
-use Rattle.boundaries.proofs.Words.{Arena, NodeEntry, Node, Describes, entries_at, items_in, slots_in, IsSubtree, slots_of, AreChildren, least_of}
+use Rattle.boundaries.proofs.Words.{Arena, NodeEntry, Node, Describes, entries_at, items_in, slots_in, IsSubtree, slots_of, AreChildren, HALF_FULL}
 use Rattle.boundaries.proofs.Frames.{IsRight}
 use Rattle.boundaries.proofs.Changing.{Moves}
 use Rattle.boundaries.proofs.Families.{Loose, loose}

@@ -1,8 +1,8 @@
 -- Entries of a node in whose place others are put.
-use Rattle.std.proofs.Common.{◌≡◌, ℕ, ◌+◌, ◌-◌, ◌≤◌, List, [], ◌++◌, length, take, drop, arith, length-append, length-drop, append_assoc}
+use Rattle.std.proofs.Common.{◌≡◌, ℕ, ◌+◌, ◌-◌, ◌≤◌, List, ◌++◌, length, take, drop, ap, sym, ◌∙◌, arith, length-append, length-drop, length-take, append_assoc, take-add}
 use Rattle.std.specs.List.{copy_within}
 use Rattle.std.proofs.Math.Seq.{take-append-add}
-use Rattle.std.proofs.lemmas.List.{length-take-le, append-nil, drop_all, take-append-drop, take-take, take-append-le, take_at, drop_at, drop-drop, drop-take}
+use Rattle.std.proofs.lemmas.List.{length-take-le, take-append-drop, take-take, take-append-le, take_at, drop_at, drop-append-le, drop-drop, drop-take}
 
 -- Elements that are moved to where they are stay.
 pub not_moved : {X : Type 0} (xs : List X) (from end to : ℕ) → from ≡ to → xs ≡ copy_within xs from end to
@@ -76,17 +76,30 @@ take-spliced_before xs ys others len from to within ordered most room inside aft
     cc (following, drop-take end (len - to) zs, take_at moved (drop n xs) (len - to) moved_len, drop-take to (len - to) xs) in
     rw (put_taken ys others from n inside (omega arith), after, front, back)
 
--- Elements are taken apart in two, and those at the end of the first part are written over.
-pub apart_spliced : {X : Type 0} (xs new : List X) (from to : ℕ) → from ≤ to → to ≤ length xs
-    → (take from (take to xs) ++ (new ++ drop to (take to xs))) ++ drop to xs ≡ take from xs ++ (new ++ drop to xs)
-apart_spliced xs new from to ordered within =
-    let none : drop to (take to xs) ≡ [] = drop_all to (take to xs) (omega (arith, length-take-le to xs within)) in
-    cc (take-take from to xs ordered, none, append-nil new, append_assoc (take from xs) new (drop to xs))
+-- Elements are split in two, and some of the first part are replaced.
+pub apart_before : {X : Type 0} (xs new : List X) (from to at : ℕ) → from ≤ to → to ≤ at → at ≤ length xs
+    → (take from (take at xs) ++ (new ++ drop to (take at xs))) ++ drop at xs ≡ take from xs ++ (new ++ drop to xs)
+apart_before xs new from to at ordered before within =
+    let part = take at xs in
+    let front = take-take from at xs (omega (arith, ordered, before)) in
+    let back : drop to xs ≡ drop to part ++ drop at xs =
+    ap (drop to) (sym (take-append-drop at xs))
+    ∙ drop-append-le to part (drop at xs) (omega (arith, length-take-le at xs within)) in
+    cc (front, back, append_assoc (take from part) (new ++ drop to part) (drop at xs), append_assoc new (drop to part) (drop at xs))
 
--- Or the new ones are put before the second part.
-pub apart_prepended : {X : Type 0} (xs new : List X) (from to : ℕ) → from ≤ to → to ≤ length xs
-    → (take from (take to xs) ++ ([] ++ drop to (take to xs))) ++ (take 0 (drop to xs) ++ (new ++ drop 0 (drop to xs)))
-    ≡ take from xs ++ (new ++ drop to xs)
-apart_prepended xs new from to ordered within =
-    let none : drop to (take to xs) ≡ [] = drop_all to (take to xs) (omega (arith, length-take-le to xs within)) in
-    cc (take-take from to xs ordered, none, append-nil (take from xs))
+-- Or some of the second part.
+pub apart_after : {X : Type 0} (xs new : List X) (from to at : ℕ) → at ≤ from → from ≤ to
+    → take at xs ++ (take (from - at) (drop at xs) ++ (new ++ drop (to - at) (drop at xs))) ≡ take from xs ++ (new ++ drop to xs)
+apart_after xs new from to at after ordered =
+    let part = drop at xs in
+    let front : at + (from - at) ≡ from = omega (arith, after) in
+    let back : at + (to - at) ≡ to = omega (arith, after, ordered) in
+    let before = take-add at (from - at) xs in
+    let rest = drop-drop (to - at) at xs in
+    cc (front, back, before, rest, append_assoc (take at xs) (take (from - at) part) (new ++ drop (to - at) part))
+
+-- Where as many are put in place of as many in two lists of one length, these are of one length again.
+pub length-replaced : {X Y : Type 0} (xs new : List X) (ys others : List Y) (from to : ℕ) → length xs ≡ length ys
+    → length new ≡ length others → length (take from xs ++ (new ++ drop to xs)) ≡ length (take from ys ++ (others ++ drop to ys))
+length-replaced xs new ys others from to same as_many =
+    simp (length-append, length-take, length-drop) (omega (arith, same, as_many))

@@ -1,17 +1,20 @@
 -- A subtree once a leaf of one of its children was changed, and its node was rebalanced.
-use Rattle.std.proofs.Common.{◌≡◌, inl, inr, ℕ, suc, ◌+◌, ◌*◌, ◌≤◌, Bool, true, false, List, [], ◌∷◌, ◌++◌, Option, Some, None, is_some, length, length-append, set, take, drop, refl, sym, ap, subst, ◌∙◌, arith, append-nil}
+use Rattle.std.proofs.Common.{◌≡◌, inl, inr, ℕ, suc, ◌+◌, ◌≤◌, Any, Bool, true, false, List, [], ◌∷◌, ◌++◌, Option, Some, None, is_some, length, length-append, set, take, drop, refl, sym, ap, subst, ◌∙◌, arith, append-nil}
 use Rattle.std.specs.Prelude.{◌≢◌, ℤ, IfSome}
 use Rattle.std.proofs.lemmas.List.{get_or-set_same, length-drop, length-set, length-take-le}
 use Rattle.std.proofs.lemmas.List.Elements.{All-append, All-cons, All-nil}
-use Rattle.std.proofs.lemmas.Option.{slice_get-get_or}
+use Rattle.std.proofs.lemmas.Option.{get_or_from_slice_get, slice_get-get_or}
 use Rattle.arena.specs.Arena.{Arena, record_at}
 use Rattle.boundaries.specs.declared.entry.NodeEntry.{NodeEntry}
 use Rattle.boundaries.specs.declared.node.Node.{Node}
 use Rattle.boundaries.specs.declared.walk.LeafOutcome.{LeafOutcome}
 use Rattle.boundaries.specs.declared.walk.LeafOutcome.TheVariants.{Same, Raised, Split}
 use Rattle.boundaries.specs.declared.walk.RaisedLeaf.{RaisedLeaf}
-use Rattle.boundaries.specs.Heads.{KeyBytes}
-use Rattle.boundaries.specs.Item.{Item}
+use Rattle.boundaries.specs.Bound.{is_below}
+use Rattle.boundaries.specs.Item.{Item, item_of}
+use Rattle.boundaries.specs.Position.{IsFirstKnown}
+use Rattle.boundaries.specs.declared.key_bound.KeyBound.{KeyBound}
+use Rattle.keys.proofs.callers.SomeElement.{Any-map}
 use Rattle.boundaries.specs.Children.{child_at, entries_at_both, items_of, slots_of, slots_with, Changes, HasRaisedEntry, IsFamily, IsFamilyAt, IsLinked, IsRebalancedAt, DescribesWritten}
 use Rattle.boundaries.specs.Splice.{AreHalfFull}
 use Rattle.boundaries.specs.Subtree.{entries_at, items_in, slots_in, IsSubtree}
@@ -23,10 +26,20 @@ use Rattle.boundaries.proofs.callers.Times.{distinct_if_once, none_or_some, once
 use Rattle.boundaries.proofs.Changing.{Moves, changes_if_moves, moves_if_changes, moves_trans}
 use Rattle.boundaries.proofs.Families.{Loose}
 use Rattle.boundaries.proofs.Frames.{IsRight, below_of, raised_same}
+use Rattle.boundaries.proofs.HeadAt.{entry_at}
 use Rattle.boundaries.proofs.Replacing.{both_right, loose_at}
 use Rattle.boundaries.proofs.Stepping.{IsAt, around, child_once, child_right, here, live_beside, one_slots, read_beside, split, x_at}
 use Rattle.boundaries.proofs.Storing.{Stored, moves_own, stored}
 use Rattle.boundaries.proofs.Walking.{raised_above, raised_at}
+
+-- Some item of a leaf is below the bound, where its first key is.
+pub some_found : (store : Store) (bound : KeyBound) (slot known : ℕ) → 1 ≤ length (entries_at store.nodes slot)
+    → IsFirstKnown store bound slot known → Any (λ x. is_below store.keys bound x.key ≡ true) (items_in store.nodes 0 slot)
+some_found store bound slot known some knows =
+    let es = entries_at store.nodes slot in
+    let first = entry_at es 0 some in
+    Any-map item_of (λ (x : Item). is_below store.keys bound x.key ≡ true) es
+    (0, first.0, some, get_or_from_slice_get es 0 first.0 first.0 first.1, (knows first.0 first.1).0)
 
 -- The items of a leaf that was changed.
 pub within_leaf : (is_below : ℕ → Bool) (Gives : Option ℕ → List Item → List Item → Type 0) (key : Option ℕ) (was now : List Item)
@@ -180,17 +193,17 @@ module _ {old : Store} {height lower slot i x : ℕ} (at : IsAt old.nodes height
 
   -- The child was split.
   module _ {between : Store} {s : ℕ} (put : IsChanged old between lower x (Split s)) where
-    abbrev b : Arena Node
-    b = between.nodes
+    abbrev m : Arena Node
+    m = between.nodes
 
-    both_moves : Moves a b (slots_in a lower x) (slots_in b lower x ++ slots_in b lower s)
-    both_moves = moves_if_changes a b _ _ put.changes
+    both_moves : Moves a m (slots_in a lower x) (slots_in m lower x ++ slots_in m lower s)
+    both_moves = moves_if_changes a m _ _ put.changes
 
     -- The node can have one child more.
     pub can_insert : CanInsertChild between slot i s
     can_insert =
         let read = read_beside at both_moves in
-        let child : x ≡ child_at (entries_at b slot) i = rw read (x_at at) in
+        let child : x ≡ child_at (entries_at m slot) i = rw read (x_at at) in
         record {
           sound = record { keyless = put.changes.keyless; headed = put.headed };
           live = live_beside at both_moves;
@@ -202,38 +215,38 @@ module _ {old : Store} {height lower slot i x : ℕ} (at : IsAt old.nodes height
 
     -- The node was linked to both parts.
     module _ {later : Store} (outcome : LeafOutcome)
-        (linked : IsLinked b (child_at (entries_at b slot) i) s (take i (entries_at b slot))
-        (drop (i + 1) (entries_at b slot)) (entries_at_both later.nodes slot (added_by outcome)))
+        (linked : IsLinked m (child_at (entries_at m slot) i) s (take i (entries_at m slot))
+        (drop (i + 1) (entries_at m slot)) (entries_at_both later.nodes slot (added_by outcome)))
         (stored_at : IsStored between later slot (added_by outcome)) (keeps : KeepsKeys between later) where
-      abbrev w : Arena Node
-      w = later.nodes
+      abbrev z : Arena Node
+      z = later.nodes
 
-      linked_here : IsLinked b x s (take i es) (drop (i + 1) es) (entries_at_both w slot (added_by outcome))
+      linked_here : IsLinked m x s (take i es) (drop (i + 1) es) (entries_at_both z slot (added_by outcome))
       linked_here = rw (x_at at) (rw (read_beside at both_moves) at linked)
 
-      pub step_linked : Stored a w HALF_FULL height slot (added_by outcome)
-          (around at (items_in b lower x ++ items_in b lower s))
+      pub step_linked : Stored a z HALF_FULL height slot (added_by outcome)
+          (around at (items_in m lower x ++ items_in m lower s))
       step_linked =
           let t = linked_here.first in
           let u = linked_here.second in
           let first = linked_here.first_child in
           let second = linked_here.second_child in
-          let slots : slots_in b lower x ++ slots_in b lower s ≡ slots_of b lower (t ∷ u ∷ []) =
+          let slots : slots_in m lower x ++ slots_in m lower s ≡ slots_of m lower (t ∷ u ∷ []) =
           simp (first, second, append-nil) in
           let l = loose_at at (t ∷ u ∷ []) (rw slots at both_moves) in
-          let right = both_right b HALF_FULL lower x s t u first second put.subtree put.neighbour put.filled
+          let right = both_right m HALF_FULL lower x s t u first second put.subtree put.neighbour put.filled
           linked_here.first_describes linked_here.second_describes in
-          let Right = IsRight b HALF_FULL lower in
+          let Right = IsRight m HALF_FULL lower in
           let all = All-append Right (take i es) (t ∷ u ∷ drop (i + 1) es) l.front
           (All-append Right (t ∷ u ∷ []) (drop (i + 1) es) right l.back) in
-          let some : 1 ≤ length (entries_at_both w slot (added_by outcome)) =
+          let some : 1 ≤ length (entries_at_both z slot (added_by outcome)) =
           omega (arith, ap length linked_here.entries, length-append (take i es) (t ∷ u ∷ drop (i + 1) es)) in
           let k = stored HALF_FULL lower slot at.few at.subtree.0 (added_by outcome)
           (rw (split at, linked_here.entries) l.moves) (rw linked_here.entries all) some
-          (both_filled 1 w slot _ (omega arith) stored_at.filled) stored_at.live stored_at.live_added
-          (moves_if_changes b w _ _ stored_at.changes) in
-          let items : items_of b lower (entries_at_both w slot (added_by outcome)) ≡ around at _ =
-          ap (items_of b lower) linked_here.entries ∙ (simp (first, second, append-nil) at l.items) in
+          (both_filled 1 z slot _ (omega arith) stored_at.filled) stored_at.live stored_at.live_added
+          (moves_if_changes m z _ _ stored_at.changes) in
+          let items : items_of m lower (entries_at_both z slot (added_by outcome)) ≡ around at _ =
+          ap (items_of m lower) linked_here.entries ∙ (simp (first, second, append-nil) at l.items) in
           rw (← at.next, ← items) k
 
       pub linked_above : (outcome ≡ Same → ⊥) → ((leaf : RaisedLeaf) → outcome ≡ Raised leaf → ⊥)
@@ -243,10 +256,10 @@ module _ {old : Store} {height lower slot i x : ℕ} (at : IsAt old.nodes height
         raised = λ leaf is. absurd (kept leaf is);
         subtree = step_linked.subtree;
         neighbour = step_linked.neighbour;
-        filled = both_filled HALF_FULL w slot _ (omega arith) stored_at.filled;
+        filled = both_filled HALF_FULL z slot _ (omega arith) stored_at.filled;
         few_less = λ above none. (
-            let is : entries_at w slot ≡ take i es ++ (linked_here.first ∷ linked_here.second ∷ drop (i + 1) es) =
-            ap (entries_at_both w slot) (sym none) ∙ linked_here.entries in
+            let is : entries_at z slot ≡ take i es ++ (linked_here.first ∷ linked_here.second ∷ drop (i + 1) es) =
+            ap (entries_at_both z slot) (sym none) ∙ linked_here.entries in
             omega (
               arith,
               ap length is,

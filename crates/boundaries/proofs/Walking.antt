@@ -24,10 +24,6 @@ use Rattle.boundaries.proofs.Leaves.{index_passes}
 use Rattle.boundaries.proofs.Stepping.{IsAt, child_right, items_split, x_at}
 use Rattle.boundaries.proofs.Ways.{way}
 
-both_empty : {X : Type 0} (xs ys : List X) → xs ++ ys ≡ [] → (xs ≡ []) × (ys ≡ [])
-both_empty [] ys e = (refl, e)
-both_empty (x ∷ xs) ys e = absurd (cc)
-
 -- Each version of items is that of one of them.
 each_there : (xs : List Item) → All (λ x. Any (λ w. x.version ≡ w.version) xs) xs
 each_there xs k d within = (k, get_or xs k d, within, get_or_default xs k (get_or xs k d) d within, refl)

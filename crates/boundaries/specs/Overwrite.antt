@@ -10,6 +10,7 @@ use Rattle.boundaries.specs.Bound.{Keys, bytes_at, is_below}
 use Rattle.boundaries.specs.Item.{Item}
 use Rattle.boundaries.specs.Items.{IsLast, ended_by}
 use Rattle.boundaries.specs.Path.{IsPartitioned, items_below, following, between, first_key}
+use Rattle.boundaries.specs.Rebalancing.{KeepsKeys}
 use Rattle.boundaries.specs.Store.{PutsKeys}
 use Rattle.boundaries.specs.Walk.{CanChangeTree, IsRaisedInTree}
 
@@ -101,6 +102,32 @@ pub record GivesPart (new : Overwrite) (at_end : ℤ) (old store : Store) (was n
 abbrev pub GivesWritten : Overwrite → Option ℤ → Store → Store → Option ℕ → List Item → List Item → Type 0
 GivesWritten new None old store next was now = GivesEntire new old store next was now
 GivesWritten new (Some at_end) old store next was now = GivesPart new at_end old store was now
+
+-- What is given goes by the keys, and by what is removed.
+pub written_kept : (new : Overwrite) (at_end : Option ℤ) (old between store : Store) (next : Option ℕ) (was now : List Item)
+    → KeepsKeys between store → GivesWritten new at_end old between next was now → GivesWritten new at_end old store next was now
+written_kept new None old between store next was now keeps given = record {
+  first = given.first;
+  second = given.second;
+  ended = given.ended;
+  there = given.there;
+  some = given.some;
+  puts = subst (λ keys. PutsKeys old.keys keys new.start.now new.end.now given.first (if given.ended then None else Some given.second))
+      (sym keeps.keys) given.puts;
+  run_is = ap (λ removed. removed.items) keeps.removed ∙ given.run_is;
+  ended_is = given.ended_is;
+  written = given.written;
+}
+written_kept new (Some at_end) old between store next was now keeps given = record {
+  last = given.last;
+  none = given.none;
+  run_is = ap (λ removed. removed.items) keeps.removed ∙ given.run_is;
+  rest = given.rest;
+  last_is = given.last_is;
+  at_end_is = given.at_end_is;
+  filled = given.filled;
+  keys = keeps.keys ∙ given.keys;
+}
 
 -- A tree of which a run of items may be written over, and of which the leaf of the last write is right.
 pub record CanOverwrite (tree : Tree) (new : Overwrite) : Type 0 where

@@ -6,7 +6,7 @@ ghost use Rattle.boundaries.specs.Item.{item_of, key_of, version_of};
 ghost use Rattle.boundaries.specs.Heads.{AreHeads, KeyBytes};
 ghost use Rattle.boundaries.specs.Node.{entries_of, key_heads_of};
 ghost use Rattle.boundaries.specs.Path.{first_key};
-ghost use Rattle.boundaries.specs.Expire.{GivesUnexpired};
+ghost use Rattle.boundaries.specs.Expire.{GivesUnexpired, unexpired_kept};
 ghost use Rattle.boundaries.specs.Items.{IsLast, unexpired, expired};
 
 use crate::descent::Position;
@@ -95,6 +95,8 @@ impl<'a> LeafChange for Expiring<'a> {
     }
 
     ghost part = { λ t keys before items following wanted. wanted };
+
+    ghost kept = { λ t done. unexpired_kept t.bound t.count t.edge t.before done.removal };
 }
 
 // Looks at the entries of a leaf from one index up to another, and returns the result of a removal.

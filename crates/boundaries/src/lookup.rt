@@ -2,9 +2,9 @@
 //! for the first time, and then each question is answered. So the memory of the leaves is waited
 //! for at once.
 
-ghost use Rattle.std.specs.Prelude.{◌≡◌, ◌≤◌, ◌↔◌, length, map, slice_get, IfSome, IsSomeAnd};
-ghost use Rattle.std.specs.Prelude.{IsTrue};
-ghost use Rattle.std.specs.List.{All, AllZip};
+ghost use Rattle.std.specs.Prelude.{◌≡◌, ◌≤◌, ◌<ℤ◌, ◌↔◌, length, map, slice_get, IfSome};
+ghost use Rattle.std.specs.Prelude.{IsSomeAnd, IsTrue};
+ghost use Rattle.std.specs.List.{All, AllZip, Any};
 ghost use Rattle.keys.specs.Range.{IsEmpty};
 ghost use Rattle.boundaries.specs.Bound.{is_below};
 ghost use Rattle.boundaries.specs.Finding.{CanFind, IsLowerBound};
@@ -15,6 +15,7 @@ ghost use Rattle.boundaries.specs.Subtree.{items_in};
 ghost use Rattle.boundaries.specs.declared.question.TheConstants.{SIDE};
 
 use crate::approach::{Approach, Hint, Rest, approach};
+use crate::entry::NodeEntry;
 use crate::greatest_version::greatest;
 use crate::node::Node;
 use crate::query::QueryList;
@@ -162,11 +163,14 @@ fn leaf_answer(
     if end == entries.len() && hint.rest == Rest::Open {
         return None;
     }
-    let version = question.version;
-    let above = entries[begin - 1..end]
-        .iter()
-        .any(|entry| entry.version > version);
-    Some(above)
+    Some(any_above(&entries[begin - 1..end], question.version))
+}
+
+// Returns whether the version of some entry is above this one.
+fn any_above(entries: &[NodeEntry], version: i64) -> bool
+    ensures above { IsTrue result ↔ Any (λ e. version <ℤ e.version) entries.now }
+{
+    entries.iter().any(|entry| entry.version > version)
 }
 
 // Returns how many of the entries are below the end of a question. `begin` is how many aren't after

@@ -7,6 +7,7 @@ ghost use Rattle.boundaries.specs.Bound.{bytes_at};
 ghost use Rattle.boundaries.specs.EntryRun.{CanClearRun, CanFindRun, CanWriteRun, IsRunBefore};
 ghost use Rattle.boundaries.specs.EntryRun.{IsRunCleared, IsRunWritten};
 ghost use Rattle.boundaries.specs.Overwrite.{CanBeWritten, GivesWritten, part_of_part};
+ghost use Rattle.boundaries.specs.Overwrite.{written_kept};
 ghost use Rattle.boundaries.specs.Overwrite.{before_start, bound_to};
 ghost use Rattle.boundaries.specs.Rebalancing.{IsStored};
 ghost use Rattle.boundaries.specs.Store.{KeysStay};
@@ -144,10 +145,15 @@ impl<'a, 'b> LeafChange for Overwriting<'a, 'b> {
         })
     }
 
-    ghost part = { λ o keys before items following wanted. (wanted.0, record {
-      part = part_of_part (before_start keys o.new.now) before items following wanted.1.part;
-      room = wanted.1.room;
-    }) };
+    ghost part = { λ o keys before items following wanted. (
+      wanted.0,
+      record {
+        part = part_of_part (before_start keys o.new.now) before items following wanted.1.part;
+        room = wanted.1.room;
+      },
+    ) };
+
+    ghost kept = { λ o done. written_kept o.new.now done.at_end };
 }
 
 // Returns whether a leaf has the first boundary of all: that at the empty key.

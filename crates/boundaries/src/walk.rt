@@ -5,6 +5,7 @@ ghost use Rattle.std.specs.Prelude.{◌≡◌, ◌++◌, ℕ, List, Option};
 ghost use Rattle.boundaries.specs.Bound.{Keys, is_below};
 ghost use Rattle.boundaries.specs.Item.{Item};
 ghost use Rattle.boundaries.specs.Children.{items_with};
+ghost use Rattle.boundaries.specs.Rebalancing.{KeepsKeys};
 ghost use Rattle.boundaries.specs.Subtree.{items_in};
 ghost use Rattle.boundaries.specs.Walk.{added_by, CanChangeLeaf, IsChanged, IsChangedWithin};
 ghost use Rattle.boundaries.specs.declared.key_bound.KeyBound.{KeyBound as BoundValue};
@@ -75,6 +76,12 @@ pub trait LeafChange {
     ghost part: { (change : Self) (keys : Keys) (before items following : List Item)
         → wants change keys (before ++ (items ++ following))
         → wants change keys items };
+
+    // What it makes of them goes by the keys, and by what is removed.
+    ghost kept: { (change changed : Self) (old between new : StoreValue) (next : Option ℕ)
+        (was now : List Item) → KeepsKeys between new
+        → gives change changed old between next was now
+        → gives change changed old new next was now };
 }
 
 /// Changes a leaf of a subtree, and rebalances the nodes above it. Takes at most one slot at each

@@ -12,15 +12,6 @@ module _ {X Y : Type 0} (R : X → Y → Type 0) where
   AllZip-append (x ∷ xs) us [] vs all more = absurd all
   AllZip-append (x ∷ xs) us (y ∷ ys) vs all more = (all.0, AllZip-append xs us ys vs all.1 more)
 
-  -- one element more is gone through
-  pub AllZip-next : (xs : List X) (i : ℕ) (ys : List Y) (x : X) (y : Y) → i < length xs → x ≡ get_or xs i x
-      → AllZip R (take i xs) ys → R x y → AllZip R (take (i + 1) xs) (ys ++ y ∷ [])
-  AllZip-next xs i ys x y inside is all it =
-      let more : i + 1 ≡ suc i = omega arith in
-      let next : take (i + 1) xs ≡ take i xs ++ get_or xs i x ∷ [] = ap (λ n. take n xs) more ∙ take-suc xs i x inside in
-      subst (λ front. AllZip R front (ys ++ y ∷ [])) (ap (λ e. take i xs ++ e ∷ []) is ∙ sym next)
-      (all_zipped_more R (take i xs) ys x y all it)
-
   -- what each one of the second list gets from its partner
   pub AllZip-second : (Q : Y → Type 0) → ((x : X) (y : Y) → R x y → Q y) → (xs : List X) (ys : List Y) → AllZip R xs ys
       → All Q ys

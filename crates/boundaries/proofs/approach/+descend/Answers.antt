@@ -1,99 +1,205 @@
-use Rattle.std.proofs.Common.{rules, ◌≡◌, ◌≤◌, ℕ, ◌+◌, ◌-◌, Bool, false, List, length, filter, get_or, Option, Some, refl, arith}
-use Rattle.std.proofs.lemmas.Option.{slice_get_read}
-use Rattle.boundaries.proofs.Words.{NodeEntry, CanStep, IsAnswer, entries_of, items_in, least_of}
-use Rattle.boundaries.proofs.Approaches.{approach_wider}
+use Rattle.std.proofs.Common.{rules, ◌≡◌, ◌≤◌, ◌<◌, ◌∙◌, ℕ, drop, ◌+◌, ◌-◌, Bool, true, false, List, length, length-drop, filter, get_or, get_or-drop, slice_get, Option, Some, IsTrue, refl, sym, arith}
+use Rattle.std.proofs.lemmas.Option.{get_or_from_slice_get, slice_get_read, slice_get_within}
+use Rattle.boundaries.specs.Question.{IsRestAt, begun, before_end, bound_after, bound_before, is_clear}
+use Rattle.boundaries.specs.declared.approach.Rest.{Rest}
+use Rattle.boundaries.specs.declared.approach.Rest.TheVariants as rest
+use Rattle.boundaries.specs.declared.question.Question.{Question}
+use Rattle.boundaries.proofs.Words.{HALF_FULL, Node, NodeEntry, Store, CanStep, HasHead, IsAnswer, IsStep, IsPartitioned, entries_of, index_in, items_in}
 use Rattle.boundaries.proofs.Above.{at_most_tested}
+use Rattle.boundaries.proofs.AnsweredKeys.{last_passes, next_fails, some_pass, some_told}
+use Rattle.boundaries.proofs.Approaches.{approach_wider}
 use Rattle.boundaries.proofs.FirstKeys.{knows_child}
 use Rattle.boundaries.proofs.Frames.{IsRight}
-use Rattle.boundaries.proofs.Looks.{IsLook, can_step_at, look_answers, child_is, child_partitioned, child_reached}
-use Rattle.boundaries.proofs.Placing.{entries_from_header}
+use Rattle.boundaries.proofs.KeyBytes.{first_common}
+use Rattle.boundaries.proofs.Looks.{IsLook, can_step_at, look_answers, look_bound, child_is, child_partitioned, child_reached}
+use Rattle.boundaries.proofs.Placing.{entries_from_header, live_if_some}
 use Rattle.boundaries.proofs.QuestionAnswers.{clears_after, answered_by_child, answered_by_entry}
-use Rattle.boundaries.proofs.AnsweredKeys.{known_some_below, last_passes, some_pass}
+use Rattle.boundaries.proofs.QuestionBounds.{nested, same_below}
 use Rattle.boundaries.proofs.approach.+descend.Goals as goal
-use Rattle.boundaries.proofs.approach.+descend.Goals.{After-entries-entries, After-is_clear-clear}
+use Rattle.boundaries.proofs.approach.+descend.Goals.{After-header_ref-node, After-step_by-step, Joined-question}
+
+-- What is known of the items after a child: none of the next entry's is before the end, and where there is none, none of those
+-- after the node's items is.
+record IsRest (store : Store) (node : Node) (index : ℕ) (q : Question) (was now : Rest) : Type 0 where
+  pub next : IsTrue (is_clear now) → (e : NodeEntry) → slice_get (entries_of node) (index + 1) ≡ Some e
+      → before_end store.keys q e.key ≡ false
+  pub last : IsTrue (is_clear now) → length (entries_of node) ≤ index + 1 → IsTrue (is_clear was)
+
+module _ (store : Store) (node : Node) (index : ℕ) (q : Question) (was : Rest) where
+  -- where no item after the child's is before the end that isn't after the begin
+  rest_single : q.is_single ≡ true → IsPartitioned (λ e. begun store.keys q e.key) (entries_of node)
+      → index ≡ index_in (begun store.keys q) (entries_of node) → IsRest store node index q was was
+  rest_single single partitioned at = record {
+    next = λ clear e there. same_below store.keys q single e.key
+        ∙ next_fails (begun store.keys q) (entries_of node) index e partitioned at there;
+    last = λ clear all. clear;
+  }
+
+  -- where there is no next entry
+  rest_last : index + 1 ≡ length (entries_of node) → IsRest store node index q was was
+  rest_last end = record {
+    next = λ clear e there. absurd (omega (arith, end, slice_get_within (entries_of node) (index + 1) e there));
+    last = λ clear all. clear;
+  }
+
+  -- where the next entry is looked at
+  rest_next : (now : Rest) → index + 1 < length (entries_of node) → IsRestAt store node (index + 1) q now
+      → IsRest store node index q was now
+  rest_next now more fail = record {
+    next = λ clear e there.
+        let sum : index + 1 + 0 ≡ index + 1 = omega arith in
+        let read = get_or_from_slice_get (entries_of node) (index + 1) e e there in
+        let same : get_or (drop (index + 1) (entries_of node)) 0 e ≡ e =
+        cc (sum, read, get_or-drop (index + 1) (entries_of node) 0 e) in
+        rw same at (fail clear 0 e (omega (arith, more, length-drop (index + 1) (entries_of node))));
+    last = λ clear all. absurd (omega (arith, more, all));
+  }
+
+  rest_open : IsRest store node index q was rest.Open
+  rest_open = record { next = λ clear. absurd (cc); last = λ clear. absurd (cc) }
 
 -- what is asked of the search in a node
-asked : (g : Over) (t : ℕ) (c : After-entries-entries g t)
-    → CanStep (g.P.Bound.bytes c.args.question.now.from) (g.P.Bound.below c.args.question.now.from)
-    (g.P.Bound.target c.args.question.now.from) c.header_ref-node.result.now (Some c.args.common_prefix_len)
-asked g t c = can_step_at c.requires.asked.can_reach c.header_ref-node.ensures.header c.requires.known
+module _ (t : ℕ) (c : After-header_ref-node t) where
+  can_step : CanStep c.args.store.now.keys (bound_after c.args.question.now) c.header_ref-node.result.now c.args.hint.common_prefix_len
+  can_step = can_step_at c.requires.asked.searchable c.header_ref-node.ensures.header c.requires.hint.known
 
-pub head_for-from_head-requires : goal.head_for-from_head-requires
-head_for-from_head-requires g t c = search (rules, asked g t (goal.at.head_for-from_head-requires g t c).After-entries-entries)
+  ends : IsPartitioned (λ e. before_end c.args.store.now.keys c.args.question.now e.key) (entries_of c.header_ref-node.result.now)
+  ends = look_bound c.args.store.now.nodes HALF_FULL c.args.height c.args.hint.slot
+      (before_end c.args.store.now.keys c.args.question.now) c.header_ref-node.result.now _ c.requires.asked.searchable.subtree
+      c.requires.asked.to c.header_ref-node.ensures.header refl
+
+pub head_for-head-requires : goal.head_for-head-requires
+head_for-head-requires t c =
+    let can = can_step t (goal.at.head_for-head-requires t c).After-header_ref-node in
+    let common = first_common c.args.store.now.keys (bound_after c.args.question.now) c.header_ref-node.result.now
+    c.args.hint.common_prefix_len can in
+    (search rules, rw c.from.ensures.bound (can.can_find.headed, common))
 
 pub step_by-step-requires : goal.step_by-step-requires
-step_by-step-requires g t c = search (rules, asked g t (goal.at.step_by-step-requires g t c).After-entries-entries)
+step_by-step-requires t c =
+    let can = can_step t (goal.at.step_by-step-requires t c).After-header_ref-node in
+    (search rules, rw c.from-2.ensures.bound (can, rw c.from.ensures.bound at c.head_for-head.ensures.head))
 
-pub is_clear-clear-requires : goal.is_clear-clear-requires
-is_clear-clear-requires g t c = search (rules, asked g t (goal.at.is_clear-clear-requires g t c).After-entries-entries)
+-- the entry at which the search goes on
+module _ (t : ℕ) (c : After-step_by-step t) where
+  is_step : IsStep c.args.store.now.keys (bound_after c.args.question.now) c.header_ref-node.result.now c.step_by-step.result
+  is_step = rw c.from-2.ensures.bound at c.step_by-step.ensures.step
 
--- the child of the entry at which the search goes on
-module _ (g : Over) (t : ℕ) (c : After-is_clear-clear g t) where
+pub head_beside-to_head-requires : goal.head_beside-to_head-requires
+head_beside-to_head-requires t c =
+    let can = can_step t (goal.at.head_beside-to_head-requires t c).After-header_ref-node in (
+      search rules,
+      rw c.to.ensures.bound record {
+        other = bound_after c.args.question.now;
+        can_step = can;
+        head = (rw c.from.ensures.bound at c.head_for-head.ensures.head).head;
+        common = c.args.question.now.common;
+      },
+    )
+
+pub rest_at-rest-requires : goal.rest_at-rest-requires
+rest_at-rest-requires t c =
+    let at = goal.at.rest_at-rest-requires t c in
+    let can = can_step t at.After-header_ref-node in
+    let step = is_step t at.After-step_by-step in
+    let head = rw c.to.ensures.bound at c.head_beside-to_head.ensures.head in
+    (search rules, (can.can_find.headed, (ends t at.After-header_ref-node, (omega (arith, step.within, c.len.ensures.len), head))))
+
+-- the child at which the search goes on, and what is known of the items after its own
+module _ (t : ℕ) (c : Joined-question t) where
+  abbrev q : Question
+  q = c.args.question.now
+
   abbrev p : ℕ → Bool
-  p = g.P.Bound.below c.args.question.now.from
+  p = begun c.args.store.now.keys q
 
-  abbrev q : ℕ → Bool
-  q = g.Q.Bound.below c.args.question.now.to
+  abbrev node : Node
+  node = c.header_ref-node.result.now
 
   abbrev es : List NodeEntry
-  es = entries_of c.header_ref-node.result.now
+  es = entries_of node
+
+  abbrev at_node : After-header_ref-node t
+  at_node = (goal.at.Joined-question t c).After-header_ref-node
+
+  step : IsStep c.args.store.now.keys (bound_after q) node c.step_by-step.result
+  step = is_step t (goal.at.Joined-question t c).After-step_by-step
 
   -- the two bounds of the node
-  look : IsLook c.args.nodes.now (least_of FAN_OUT) c.args.height c.args.slot p q es (length (filter (λ x. p x.key) es))
-      (length (filter (λ x. q x.key) es))
-  look = search (rules, entries_from_header c.args.nodes.now _ _ c.header_ref-node.ensures.header)
+  look : IsLook c.args.store.now.nodes HALF_FULL c.args.height c.args.hint.slot p (before_end c.args.store.now.keys q) es
+      (length (filter (λ e. p e.key) es)) (length (filter (λ e. before_end c.args.store.now.keys q e.key) es))
+  look = record {
+    subtree = c.requires.asked.searchable.subtree;
+    from = c.requires.asked.searchable.partitioned;
+    to = c.requires.asked.to;
+    nested = nested c.args.store.now.keys q;
+    read = entries_from_header c.args.store.now.nodes c.args.hint.slot node c.header_ref-node.ensures.header;
+    begin_is = refl;
+    end_is = refl;
+  }
 
   is : c.index-entries-step.result ≡ get_or es c.step_by-step.result.index c.index-entries-step.result
-  is = rw (← c.entries-entries.ensures.entries) c.index-entries-step.is
+  is = rw (← c.entries.ensures.entries) c.index-entries-step.is
 
-  child : IsRight c.args.nodes.now (least_of FAN_OUT) (c.args.height - 1) c.index-entries-step.result
-  child = child_is _ _ _ _ _ _ _ _ _ look c.if-height-eq0.false _ _ c.step_by-step.ensures.step.within is
+  child : IsRight c.args.store.now.nodes HALF_FULL (c.args.height - 1) c.index-entries-step.result
+  child = child_is _ _ _ _ _ _ _ _ _ look c.if-height-eq0.false _ _ step.within is
+
+  there : slice_get es c.step_by-step.result.index ≡ Some c.index-entries-step.result
+  there = slice_get_read es _ _ c.index-entries-step.result refl step.within is
+
+  is_rest : IsRest c.args.store.now node c.step_by-step.result.index q c.args.hint.rest c.if-question.rest
+  is_rest = ?
 
   -- What is told of its items is told of those of the node.
   answered : (result : Option Bool)
-      → IsAnswer p q c.args.question.now.version c.is_clear-clear.result
-      (items_in c.args.nodes.now (c.args.height - 1) c.index-entries-step.result.child) result
-      → IsAnswer p q c.args.question.now.version c.args.clear (items_in c.args.nodes.now c.args.height c.args.slot) result
+      → IsAnswer c.args.store.now.keys q c.if-question.rest
+      (items_in c.args.store.now.nodes (c.args.height - 1) c.index-entries-step.result.child) result
+      → IsAnswer c.args.store.now.keys q c.args.hint.rest (items_in c.args.store.now.nodes c.args.height c.args.hint.slot) result
   answered result =
-      answered_by_child _ _ _ _ _ _ _ _ _ look _ c.args.clear c.if-height-eq0.false _ _ c.step_by-step.ensures.step.within is _ result
-      (clears_after q _ es (c.step_by-step.result.index + 1) c.args.clear c.is_clear-clear.result
-      (look_answers _ _ _ _ _ _ _ _ _ look c.if-height-eq0.false) c.is_clear-clear.ensures.next c.is_clear-clear.ensures.last)
+      answered_by_child _ _ _ _ _ _ _ _ _ look q.version (is_clear c.args.hint.rest) c.if-height-eq0.false _ _ step.within is _
+      result
+      (clears_after (before_end c.args.store.now.keys q) _ es (c.step_by-step.result.index + 1) (is_clear c.args.hint.rest)
+      (is_clear c.if-question.rest) (look_answers _ _ _ _ _ _ _ _ _ look c.if-height-eq0.false) is_rest.next is_rest.last)
 
 pub descend-requires : goal.descend-requires
-descend-requires g t c κs within_lives =
-    let at = (goal.at.descend-requires g t c).After-is_clear-clear in
-    let k = look g t at in
-    let node = child g t at in
-    let step = c.step_by-step.ensures.step in
-    let least_some : 1 ≤ least_of FAN_OUT = omega arith in
-    let can_reach = child_reached _ _ _ _ _ _ _ _ _ k c.if-height-eq0.false _ _ step.within (is g t at) c.requires.asked.can_reach
-    least_some in
-    let to = child_partitioned _ _ _ _ _ _ _ _ _ k c.if-height-eq0.false _ _ step.within (is g t at) _ c.requires.asked.to in
-    let there = slice_get_read (es g t at) _ _ c.index-entries-step.result refl step.within (is g t at) in
-    let bytes = g.P.Bound.bytes c.args.question.now.from in
-    let below = g.P.Bound.below c.args.question.now.from in
-    let target = g.P.Bound.target c.args.question.now.from in
-    let some_below = known_some_below bytes below target _ _ node.describes c.in-Some.is (step.knows _ there) in
-    let knows = knows_child _ _ _ _ _ bytes below target c.step_by-step.result.common_prefix_len node refl (step.knows _ there) in
-    (search rules, (search rules, (search rules, (search rules, (search rules, (search rules, rw c.in-Some.is at knows))))))
+descend-requires t c κs within_lives =
+    let at = (goal.at.descend-requires t c).Joined-question in
+    let k = look t at in
+    let e = c.index-entries-step.result in
+    let child = child t at in
+    let step = step t at in
+    let knows = step.knows e (there t at) in
+    let least_some : 1 ≤ HALF_FULL = omega arith in
+    let can = child_reached _ _ _ _ _ _ _ _ _ k c.if-height-eq0.false _ _ step.within (is t at) c.requires.asked.searchable least_some in
+    let to = child_partitioned _ _ _ _ _ _ _ _ _ k c.if-height-eq0.false _ _ step.within (is t at) _ c.requires.asked.to in
+    let asked = record { searchable = can; to = to; some_below = some_told (p t at) e _ child.describes knows.0 } in
+    let hint = record {
+      live = live_if_some c.args.store.now.nodes e.child can.some;
+      some = can.some;
+      headed = can.headed;
+      known = knows_child _ _ _ e e.child _ (p t at) c.args.question.now.begin.now _ child refl knows;
+    } in
+    search (rules, asked, hint)
 
 pub returns-then-height-eq0 : goal.returns-then-height-eq0
-returns-then-height-eq0 g t c =
+returns-then-height-eq0 t c =
     let asked = rw c.if-height-eq0.true at c.requires.asked in
-    rw c.if-height-eq0.true (search rules)
+    rw c.if-height-eq0.true (record {
+      approach = record { hint_is = c.requires.hint; asked = asked; describes = λ result answered. answered };
+    })
 
-pub returns : goal.returns
-returns g t c =
-    let wider = answered g t (goal.at.returns g t c).After-is_clear-clear in
-    record { approach = approach_wider _ _ _ _ _ _ _ _ _ _ _ _ c.descend.result wider c.descend.ensures.approach }
+pub returns-in_default : goal.returns-in_default
+returns-in_default t c =
+    let wider = answered t (goal.at.returns-in_default t c).Joined-question in
+    record { approach = approach_wider _ _ _ _ _ _ _ _ c.descend.result wider c.descend.ensures.approach }
 
-pub returns-then-clear : goal.returns-then-clear
-returns-then-clear g t c =
-    let at = (goal.at.returns-then-clear g t c).After-is_clear-clear in
-    let a = asked g t (goal.at.returns-then-clear g t c).After-entries-entries in
-    let v = c.args.question.now.version in
-    let le = at_most_tested c.index-entries-step.result.version v (search rules) (search rules) c.if-entry-question.true in
-    let some = some_pass (p g t at) (es g t at) a.can_find.some (λ e there. (a.known e there).0) in
-    let passed = last_passes (p g t at) _ _ _ a.can_find.partitioned some c.step_by-step.ensures.step.index_is (is g t at) in
-    let part = answered_by_entry _ _ v c.args.question.now.nested _ _ _ (child g t at).describes passed c.if-clear.true le in
-    record { approach = answered g t at (Some false) part }
+pub returns-in-Clear : goal.returns-in-Clear
+returns-in-Clear t c =
+    let at = (goal.at.returns-in-Clear t c).Joined-question in
+    let can = can_step t (at_node t at) in
+    let q = c.args.question.now in
+    let le = at_most_tested c.index-entries-step.result.version q.version (search rules) (search rules) c.if-decides.true in
+    let some = some_pass (p t at) (es t at) can.can_find.some (λ e there. (can.known e there).0) in
+    let passed = last_passes (p t at) _ _ _ can.can_find.partitioned some (step t at).index_is (is t at) in
+    let part = answered_by_entry _ _ q.version (nested c.args.store.now.keys q) _ _ true (child t at).describes passed refl le in
+    record { approach = answered t at (Some false) (rw c.in-Clear.is part) }

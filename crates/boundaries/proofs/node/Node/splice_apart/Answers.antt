@@ -1,4 +1,4 @@
-use Rattle.std.proofs.Common.{rules, ◌≡◌, ◌++◌, ◌∙◌, Some, take, drop, refl, sym, All}
+use Rattle.std.proofs.Common.{rules, ◌≡◌, ◌++◌, ◌∙◌, ℕ, List, Some, take, drop, refl, sym, All}
 use Rattle.std.proofs.lemmas.List.{length-map, map-append}
 use Rattle.boundaries.proofs.Words.{NodeEntry, AreHeads, IsKnown, KeyBytes, KeyHeads, entries_of, key_at, key_heads_of, keys_of}
 use Rattle.boundaries.proofs.HeadChanges.{headed_apart, headed_spliced, known_spliced, map_spliced}

@@ -1,4 +1,4 @@
-use Rattle.std.proofs.Common.{rules, ◌<◌, filter, length, arith}
+use Rattle.std.proofs.Common.{rules, ◌<◌, ◌-◌, filter, length, arith}
 use Rattle.boundaries.proofs.Words.{NodeEntry, entries_of, is_below, order}
 use Rattle.boundaries.proofs.HeadAt.{entry_at, all_known}
 use Rattle.boundaries.proofs.HeadCounts.{passing_at, passing_inside}
@@ -23,8 +23,8 @@ some_below c =
     let some = passing_inside passes es 0 first.0 can.can_find.partitioned first.1 (can.known first.0 first.1).0 in
     omega (arith, some, c.lower_bound_by_head.ensures.count.count_is)
 
-pub sub-index-result : goal.sub-index-result
-sub-index-result c = omega (arith, some_below (goal.at.sub-index-result c).After-lower_bound_by_head)
+pub overflow_sub-index : goal.overflow_sub-index
+overflow_sub-index c = omega (arith, some_below (goal.at.overflow_sub-index c).After-lower_bound_by_head)
 
 pub common_prefix_len_in-known-requires : goal.common_prefix_len_in-known-requires
 common_prefix_len_in-known-requires c =
@@ -33,7 +33,7 @@ common_prefix_len_in-known-requires c =
     let passes = λ (e : NodeEntry). is_below c.args.keys.now c.args.bound e.key in
     let count = c.lower_bound_by_head.ensures.count in
     let some = some_below (goal.at.common_prefix_len_in-known-requires c).After-lower_bound_by_head in
-    let i = c.index in
+    let i = c.lower_bound_by_head.result - 1 in
     let less : i < length (filter passes es) = omega (arith, some, count.count_is) in
     let inside : i < length es = omega (arith, less, count.count_is, count.within) in
     let below = λ (e : NodeEntry). passing_at passes es i e can.can_find.partitioned in

@@ -1,4 +1,4 @@
-use Rattle.std.proofs.Common.{[], ◌∷◌, option_map, ap, is_some}
+use Rattle.std.proofs.Common.{[], ◌∷◌, option_map, ap, is_some, refl}
 use Rattle.boundaries.proofs.Changing.{changes_if_moves, moves_placed}
 use Rattle.boundaries.proofs.Headed.{headed_put}
 use Rattle.boundaries.proofs.Placing.{entries_from_header, placed_spare}
@@ -18,4 +18,5 @@ returns c =
             c.requires.keyless k.was_free k.placed k.record k.others (placed_spare a b c.requires.room k.spare));
         headed = λ bytes headed all. headed_put bytes a b c.unwrap.result c.args.node all header headed k.others;
       };
+      keeps = record { keys = refl; removed = refl };
     }

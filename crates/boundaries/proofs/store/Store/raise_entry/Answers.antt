@@ -62,6 +62,7 @@ returns c =
         few_less = omega (arith, ap length now_is, length-set {A = NodeEntry});
         spare = search rules;
         headed = headed_header _ a (with_header a slot node) slot node refl can.sound.headed headed;
+        keeps = record { keys = refl; removed = refl };
       };
       outcome = inr (
         refl,

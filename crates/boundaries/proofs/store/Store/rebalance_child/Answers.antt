@@ -25,8 +25,31 @@ header_ref-requires-2 c = record {
       (child_is (goal.at.header_ref-requires-2 c).After-index-entries-index);
 }
 
-pub returns-then-len-least : goal.returns-then-len-least
-returns-then-len-least c =
+pub merge_or_redistribute-requires : goal.merge_or_redistribute-requires
+merge_or_redistribute-requires c =
+    let L = HALF_FULL in
+    let j_is : j ≡ i - 1 = c.saturating_sub.ensures in (
+      search rules,
+      record {
+        sound = can.sound;
+        live = can.live;
+        within = omega (arith, can.within, can.several, j_is);
+        filled = filled_pair a L can.family.0 slot i j can.family.1 j_is c.index-entries-index.result can.within can.several;
+        family = (can.family.0, widened a L can.family.0 slot i j can.family.1 j_is);
+      },
+    )
+  where
+    open c use {args.{self.{now.{nodes as a}}, slot, index as i}, requires.{can_rebalance as can}, saturating_sub.{result as j}}
+
+pub returns-then-len-HALF_FULL : goal.returns-then-len-HALF_FULL
+returns-then-len-HALF_FULL c = record {
+  rebalanced = λ height family.
+      c.merge_or_redistribute.ensures.rebalanced height (widened _ _ height _ _ _ family c.saturating_sub.ensures);
+  rest = c.merge_or_redistribute.ensures.rest;
+}
+
+pub returns : goal.returns
+returns c =
     let a = c.args.self.now.nodes in
     let slot = c.args.slot in
     let L = HALF_FULL in
@@ -34,11 +57,11 @@ returns-then-len-least c =
     let set = c.set_with_head.ensures in
     let can = c.requires.can_rebalance in
     let x = (get_or c.entries.result.now c.args.index c.index-entries-index.result).child in
-    let x_is = child_is (goal.at.returns-then-len-least c).After-index-entries-index in
+    let x_is = child_is (goal.at.returns c).After-index-entries-index in
     let child = c.header_ref-2 in
     let len = ap length (entries_from_header a x child.result.now child.ensures.header) ∙ sym c.len.ensures.len in
-    let filled : L ≤ length (entries_at a x) = omega (arith, len, c.if-len-least.true) in
-    let here = entries_from_header a slot c.header_mut.result.now c.header_mut.ensures.header in
+    let filled : L ≤ length (entries_at a x) = omega (arith, len, c.if-len-HALF_FULL.false) in
+    let here = entries_from_header a slot c.header_mut-node.result.now c.header_mut-node.ensures.header in
     let now_is = put_entries a (with_header a slot node) slot node refl ∙ set.entries in
     let entry = c.entry_for-entry in
     record {
@@ -48,29 +71,6 @@ returns-then-len-least c =
         few_less = omega (arith, ap length now_is, ap length here, length-set {A = NodeEntry});
         spare = search rules;
         headed = headed_header _ a (with_header a slot node) slot node refl can.sound.headed set.headed;
+        keeps = record { keys = refl; removed = refl };
       };
     }
-
-pub merge_or_redistribute-requires : goal.merge_or_redistribute-requires
-merge_or_redistribute-requires c =
-    let L = HALF_FULL in
-    let j_is : j ≡ i - 1 = c.saturating_sub.ensures in (
-      search rules,
-      record {
-        live = can.live;
-        within = omega (arith, can.within, can.several, j_is);
-        filled = filled_pair a L can.family.0 slot i j can.family.1 j_is c.index-entries-index.result can.within can.several;
-        keyless = can.sound.keyless;
-        family = (can.family.0, widened a L can.family.0 slot i j can.family.1 j_is);
-        headed = can.sound.headed;
-      },
-    )
-  where
-    open c use {args.{self.{now.{nodes as a}}, slot, index as i}, requires.{can_rebalance as can}, saturating_sub.{result as j}}
-
-pub returns : goal.returns
-returns c = record {
-  rebalanced = λ height family.
-      c.merge_or_redistribute.ensures.rebalanced height (widened _ _ height _ _ _ family c.saturating_sub.ensures);
-  rest = c.merge_or_redistribute.ensures.rest;
-}

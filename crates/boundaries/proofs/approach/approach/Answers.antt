@@ -1,0 +1,20 @@
+use Rattle.std.proofs.Common.{rules}
+use Rattle.boundaries.proofs.AnsweredKeys.{root_known, some_reached}
+use Rattle.boundaries.proofs.Placing.{live_if_some}
+use Rattle.boundaries.proofs.approach.approach.Goals as goal
+
+pub descend-requires : goal.descend-requires
+descend-requires c =
+    let from = c.requires.asked.from in
+    let can = from.searchable in (
+      search rules,
+      (
+        record { searchable = can; to = c.requires.asked.to.searchable.partitioned; some_below = some_reached from },
+        record {
+          live = live_if_some c.args.store.now.nodes c.args.root.slot can.some;
+          some = can.some;
+          headed = can.headed;
+          known = root_known from;
+        },
+      ),
+    )
