@@ -46,7 +46,7 @@ pub enum Approach {
 }
 
 /// Goes down a tree, from its root towards the leaf that answers a question.
-pub fn approach(store: &Store, root: Root, question: &Question<'_>) -> Approach
+pub fn find_approach(store: &Store, root: Root, question: &Question<'_>) -> Approach
     requires asked { CanAsk store.now root.height root.slot question.now }
     ensures approach { IsApproach store.now root.height root.slot Rest.Clear question.now result }
 {

@@ -14,7 +14,7 @@ ghost use Rattle.boundaries.specs.Question.{IsLooked, IsLookedAt, IsSearched};
 ghost use Rattle.boundaries.specs.Subtree.{items_in};
 ghost use Rattle.boundaries.specs.declared.question.TheConstants.{SIDE};
 
-use crate::approach::{Approach, Hint, Rest, approach};
+use crate::approach::{Approach, Hint, Rest, find_approach};
 use crate::entry::NodeEntry;
 use crate::greatest_version::greatest;
 use crate::node::Node;
@@ -75,7 +75,7 @@ fn approach_each(store: &Store, root: Root, questions: &[Question<'_>]) -> Array
 {
     let mut approaches = ArrayVec::new();
     for question in questions {
-        approaches.push(approach(store, root, question));
+        approaches.push(find_approach(store, root, question));
     }
     approaches
 }
@@ -93,13 +93,13 @@ fn look_each(
 {
     let mut looks = ArrayVec::new();
     for (question, approach) in questions.iter().zip(approaches) {
-        looks.push(look(store, question, *approach));
+        looks.push(look_at(store, question, *approach));
     }
     looks
 }
 
 // Looks at the leaf to which a question leads, for the first time.
-fn look(store: &Store, question: &Question<'_>, approach: Approach) -> Look
+fn look_at(store: &Store, question: &Question<'_>, approach: Approach) -> Look
     requires leading { IsLeading store.now question.now approach }
     ensures approach { result.approach ≡ approach }
     ensures looked { IsLooked store.now question.now result }

@@ -21,9 +21,10 @@ pub fn write_in_leaf(store: &mut Store, leaf: RaisedLeaf, new: &Overwrite<'_>) -
     if new.version != leaf.version || new.at_end.is_some() {
         return false;
     }
+    let slot = leaf.slot;
     match find_inner_run(store, leaf, new) {
         Some(run) => {
-            write_run(store, leaf.slot, new, run);
+            write_run(store, slot, new, run);
             true
         }
         None => false,

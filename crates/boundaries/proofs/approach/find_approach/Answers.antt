@@ -1,7 +1,7 @@
 use Rattle.std.proofs.Common.{rules}
 use Rattle.boundaries.proofs.AnsweredKeys.{root_known, some_reached}
 use Rattle.boundaries.proofs.Placing.{live_if_some}
-use Rattle.boundaries.proofs.approach.approach.Goals as goal
+use Rattle.boundaries.proofs.approach.find_approach.Goals as goal
 
 pub descend-requires : goal.descend-requires
 descend-requires c =

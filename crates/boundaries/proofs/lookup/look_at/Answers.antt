@@ -2,7 +2,7 @@ use Rattle.std.proofs.Common.{rules, inl, inr, refl}
 use Rattle.boundaries.specs.Question.{IsLookedAt}
 use Rattle.boundaries.proofs.Headed.{headed_at}
 use Rattle.boundaries.proofs.Placing.{entries_from_header}
-use Rattle.boundaries.proofs.lookup.look.Goals as goal
+use Rattle.boundaries.proofs.lookup.look_at.Goals as goal
 
 pub head_for-requires : goal.head_for-requires
 head_for-requires c =
