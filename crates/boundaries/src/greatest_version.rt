@@ -47,12 +47,12 @@ impl<'a> Sought<'a> {
 
 /// Returns the greatest of this version and those of the boundaries below the second bound, of
 /// those below the first one the last alone.
-pub fn greatest(store: &Store, root: Root, from: KeyBound<'_>, to: KeyBound<'_>, least: i64) -> i64
-    requires from { CanReach store.now from root.height root.slot }
-    requires to { CanReach store.now to root.height root.slot }
+pub fn greatest(store: &Store, root: &Root, from: KeyBound<'_>, to: KeyBound<'_>, least: i64) -> i64
+    requires from { CanReach store.now from root.now.height root.now.slot }
+    requires to { CanReach store.now to root.now.height root.now.slot }
     requires nested { AreNested store.now.keys from to }
     ensures most { IsMost item_version least (from_last (is_below store.now.keys from)
-        (Some (is_below store.now.keys to)) (items_in store.now.nodes root.height root.slot))
+        (Some (is_below store.now.keys to)) (items_in store.now.nodes root.now.height root.now.slot))
         result }
 {
     // The first key is empty.

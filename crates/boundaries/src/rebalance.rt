@@ -34,16 +34,13 @@ impl Store {
         ensures stored { IsStored self.old self.new slot result }
         ensures keeps { KeepsKeys self.old self.new }
     {
+        let child = self.nodes.header_ref(slot).entries()[index].child;
+        let new = [self.entry_for(child), self.entry_for(added)];
         let node = self.nodes.header_ref(slot);
-        let new = [
-            self.entry_for(node.entries()[index].child),
-            self.entry_for(added),
-        ];
-        let heads = match (
-            node.head_of(&self.keys, new[0].key, index),
-            node.head_of(&self.keys, new[1].key, index),
-        ) {
-            (Some(head), Some(added)) => Some([head, added]),
+        let first = node.head_of(&self.keys, new[0].key, index);
+        let second = node.head_of(&self.keys, new[1].key, index);
+        let heads = match (first, second) {
+            (Some(first), Some(second)) => Some([first, second]),
             _ => None,
         };
         self.splice(slot, Splice::new(index, index + 1, &new, heads))
