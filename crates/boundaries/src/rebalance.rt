@@ -52,9 +52,9 @@ impl Store {
     pub fn splice(&mut self, slot: Slot, splice: Splice<'_>) -> Option<Slot>
         requires can_splice { CanSpliceAt self.old slot splice }
         ensures entries { entries_at_both self.new.nodes slot result
-            ≡ spliced splice (entries_at self.old.nodes slot) }
+            ≡ spliced splice.entry (entries_at self.old.nodes slot) }
         ensures stored { IsStored self.old self.new slot result }
-        ensures fits { length (spliced splice (entries_at self.old.nodes slot)) ≤ FAN_OUT
+        ensures fits { length (spliced splice.entry (entries_at self.old.nodes slot)) ≤ FAN_OUT
             → result ≡ None }
         ensures keeps { KeepsKeys self.old self.new }
     {
