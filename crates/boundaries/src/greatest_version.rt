@@ -55,8 +55,8 @@ pub fn greatest(store: &Store, root: &Root, from: KeyBound<'_>, to: KeyBound<'_>
     requires to { CanReach store.now to root.now.height root.now.slot }
     requires nested { AreNested store.now.keys from to }
     ensures most { IsMost item_version least (from_last (is_below store.now.keys from.entry)
-        (Some (is_below store.now.keys to.entry)) (items_in store.now.nodes root.now.height root.now.slot))
-        result }
+        (Some (is_below store.now.keys to.entry))
+        (items_in store.now.nodes root.now.height root.now.slot)) result }
 {
     // The first key is empty.
     let (from, to) = (Sought::new(from, 0), Sought::new(to, 0));
@@ -76,7 +76,8 @@ fn greatest_between(
     requires to { IsSought store.now to height slot }
     requires nested { AreNested store.now.keys from.bound to.bound }
     ensures most { IsMost item_version least (from_last (is_below store.now.keys from.entry.bound)
-        (Some (is_below store.now.keys to.entry.bound)) (items_in store.now.nodes height slot)) result }
+        (Some (is_below store.now.keys to.entry.bound))
+        (items_in store.now.nodes height slot)) result }
 {
     let node = store.nodes.header_ref(slot);
     let entries = node.entries();
@@ -107,8 +108,8 @@ fn greatest_between(
 // the bound on.
 fn greatest_from(store: &Store, slot: Slot, height: usize, from: Sought<'_>, least: i64) -> i64
     requires from { IsSought store.now from height slot }
-    ensures most { IsMost item_version least (from_last (is_below store.now.keys from.entry.bound) None
-        (items_in store.now.nodes height slot)) result }
+    ensures most { IsMost item_version least (from_last (is_below store.now.keys from.entry.bound)
+        None (items_in store.now.nodes height slot)) result }
 {
     let node = store.nodes.header_ref(slot);
     let entries = node.entries();
