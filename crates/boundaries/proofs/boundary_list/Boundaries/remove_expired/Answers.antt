@@ -1,4 +1,4 @@
-use Rattle.std.proofs.Common.{arith, ◌≡◌, ◌≢◌, ℕ, ◌≤◌, ◌<◌, ◌^◌, List, [], ◌++◌, length, take, drop, All, Any, IfSome, true, refl, sym, ◌∙◌, ap, unwrap_or, option_map, w64, Fits, SFits, rules, vec_capacity}
+use Rattle.std.proofs.Common.{arith, ◌≡◌, ℕ, ◌+◌, ◌≤◌, ◌<◌, ◌^◌, List, [], length, All, Any, true, sym, ◌∙◌, ap, unwrap_or, option_map, w64, Fits, SFits, rules, vec_capacity}
 use Rattle.std.proofs.lemmas.Int.{to_z-of_z}
 use Rattle.std.proofs.lemmas.List.Elements.{All-weaker}
 use Rattle.std.specs.List.{Contains}
@@ -6,10 +6,9 @@ use Rattle.std.specs.FinMap as finite
 use Rattle.arena.specs.Arena.{IsLive, record_at}
 use Rattle.keys.specs.Key.{IsKey}
 use Rattle.boundaries.specs.Item.{Item}
-use Rattle.boundaries.specs.Boundary.{Boundary, first_key, last_version}
+use Rattle.boundaries.specs.Boundary.{Boundary}
 use Rattle.boundaries.specs.Bound.{Keys, bytes_at, slot_is_below}
 use Rattle.boundaries.specs.Stored.{boundaries_of}
-use Rattle.boundaries.specs.Swept.{left_from, passed_to, unexpired}
 use Rattle.boundaries.specs.Walk.{items_of_tree}
 use Rattle.boundaries.specs.declared.store.Store.{Store}
 use Rattle.boundaries.specs.declared.tree.Tree.{Tree}
@@ -20,7 +19,7 @@ use Rattle.boundaries.proofs.StoredItems.{AreKept, gone_distinct, gone_live, kep
 use Rattle.boundaries.proofs.StoredTrees.{can_reach_after, stored_again}
 use Rattle.boundaries.proofs.Unlinked.{slots_of}
 use Rattle.boundaries.proofs.UnexpiredRun.{RunExpired, run, run_expired, parted, some_stays, looked_within, last_looked, next_has, next_bytes, unexpired_boundaries, unexpired_kept, unexpired_record}
-use Rattle.boundaries.proofs.boundary_list.Boundaries.remove_expired.Goals.{After-new-expiring, After-change, After-release_removed}
+use Rattle.boundaries.proofs.boundary_list.Boundaries.remove_expired.Goals.{After-change, After-release_removed}
 use Rattle.boundaries.proofs.boundary_list.Boundaries.remove_expired.Goals as goal
 
 pub change-requires : goal.change-requires
