@@ -16,9 +16,9 @@ HasHead keys bound head node = IfSome head (λ d. IsTargetHead (key_at keys) (ke
 
 -- The same, if the first key and the bound's are known to have that many bytes in common. It is missing only if the first key may be
 -- empty, or where they don't begin as all keys do.
-pub record IsHeadFor (keys : Keys) (bound : KeyBound) (node : Node) (known : ℕ) (head : Option ℕ) : Type 0 where
-  pub head : HasHead keys bound head node
-  pub none : head ≡ None → get_or (key_heads_of node).heads 0 0 ≢ 0 → known < (key_heads_of node).prefix_len
+pub record IsHeadFor (keys : Keys) (bound : KeyBound) (node : Node) (known : ℕ) (given : Option ℕ) : Type 0 where
+  pub head : HasHead keys bound given node
+  pub none : given ≡ None → get_or (key_heads_of node).heads 0 0 ≢ 0 → known < (key_heads_of node).prefix_len
 
 -- there is a first key, and it and the bound's begin with that many bytes in common, or it is shorter
 abbrev pub BeginsInCommon : Keys → KeyBound → Node → ℕ → Type 0
@@ -39,16 +39,16 @@ IsKnownAt keys bound node index known =
     IsCommonPrefixAt (key_at keys) (is_below keys bound) bound.key.now (Some known) (entries_of node) index
 
 -- a node that can be searched, and what is known of its first key
-pub record CanStep (keys : Keys) (bound : KeyBound) (node : Node) (known : ℕ) : Type 0 where
+pub record CanStep (keys : Keys) (bound : KeyBound) (node : Node) (common_prefix_len : ℕ) : Type 0 where
   pub can_find : CanFind keys bound node
-  pub known : IsKnownAt keys bound node 0 known
+  pub known : IsKnownAt keys bound node 0 common_prefix_len
 
 -- A node that was searched by another bound, with this head. The keys of both bounds begin with that many bytes in common.
-pub record IsSearchedBeside (keys : Keys) (bound : KeyBound) (node : Node) (known common : ℕ) (head : Option ℕ) : Type 0 where
+pub record IsSearchedBeside (keys : Keys) (bound : KeyBound) (node : Node) (known count : ℕ) (given : Option ℕ) : Type 0 where
   pub other : KeyBound
   pub can_step : CanStep keys other node known
-  pub head : HasHead keys other head node
-  pub common : take common other.key.now ≡ take common bound.key.now
+  pub head : HasHead keys other given node
+  pub common : take count other.key.now ≡ take count bound.key.now
 
 -- how many of the entries are below the bound
 pub record IsLowerBound (is_below : ℕ → Bool) (node : Node) (count : ℕ) : Type 0 where

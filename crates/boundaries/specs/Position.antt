@@ -33,9 +33,9 @@ IsFirstKnown store bound slot known =
     IsCommonPrefixAt (key_at store.keys) (is_below store.keys bound) bound.key.now (Some known) (entries_at store.nodes slot) 0
 
 -- a subtree to which a search has come
-pub record CanSearch (store : Store) (bound : KeyBound) (height slot known : ℕ) : Type 0 where
+pub record CanSearch (store : Store) (bound : KeyBound) (height slot common_prefix_len : ℕ) : Type 0 where
   pub searchable : CanBeSearched store bound height slot
-  pub known : IsFirstKnown store bound slot known
+  pub known : IsFirstKnown store bound slot common_prefix_len
 
 -- A tree that can be searched from its root: the first key is empty, and below the bound.
 pub record CanReach (store : Store) (bound : KeyBound) (height slot : ℕ) : Type 0 where

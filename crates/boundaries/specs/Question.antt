@@ -85,9 +85,9 @@ abbrev pub IsRestAt : Store → Node → ℕ → Question → Rest → Type 0
 IsRestAt store node index q r = IsTrue (is_clear r) → All (λ e. before_end store.keys q e.key ≡ false) (drop index (entries_of node))
 
 -- a node that was searched by the begin of a question, whose head is this
-pub record IsSearched (store : Store) (node : Node) (q : Question) (known : ℕ) (head : Option ℕ) : Type 0 where
+pub record IsSearched (store : Store) (node : Node) (q : Question) (known : ℕ) (given : Option ℕ) : Type 0 where
   pub can_step : CanStep store.keys (bound_after q) node known
-  pub head : HasHead store.keys (bound_after q) head node
+  pub head : HasHead store.keys (bound_after q) given node
 
 -- a subtree that has entries, with what is known of its first key
 pub record IsHint (store : Store) (q : Question) (hint : Hint) : Type 0 where

@@ -46,9 +46,10 @@ pub enum Approach {
 }
 
 /// Goes down a tree, from its root towards the leaf that answers a question.
-pub fn find_approach(store: &Store, root: Root, question: &Question<'_>) -> Approach
-    requires asked { CanAsk store.now root.height root.slot question.now }
-    ensures approach { IsApproach store.now root.height root.slot Rest.Clear question.now result }
+pub fn find_approach(store: &Store, root: &Root, question: &Question<'_>) -> Approach
+    requires asked { CanAsk store.now root.now.height root.now.slot question.now }
+    ensures approach { IsApproach store.now root.now.height root.now.slot Rest.Clear question.now
+        result }
 {
     let hint = Hint {
         slot: root.slot,

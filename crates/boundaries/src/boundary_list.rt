@@ -133,7 +133,7 @@ impl Boundaries {
     {
         let from = KeyBound::after(range.begin.as_bytes());
         let to = KeyBound::before(range.end.as_bytes());
-        greatest(&self.tree.store, self.tree.root, from, to, i64::MIN)
+        greatest(&self.tree.store, &self.tree.root, from, to, i64::MIN)
     }
 
     /// Answers for each of the queries at these places, in order, whether the version at some key
@@ -148,7 +148,7 @@ impl Boundaries {
             (λ q. IsTrue above ↔ Exceeds self.now.boundaries q)) places.now result.items }
     {
         let questions = questions(queries, places);
-        answer_each(&self.tree.store, self.tree.root, questions.as_slice())
+        answer_each(&self.tree.store, &self.tree.root, questions.as_slice())
     }
 
     /// Takes the memory for the boundaries of ranges with keys of these lengths.

@@ -39,7 +39,7 @@ impl Position {
 pub fn find(store: &Store, height: usize, bound: KeyBound<'_>, position: Position) -> Position
     requires can_search { CanSearch store.now bound height position.slot
         position.common_prefix_len }
-    ensures found { IsFoundLeaf store.now bound height position result }
+    ensures found { IsFoundLeaf store.now bound.entry height position result }
 {
     if height == 0 {
         return position;

@@ -28,7 +28,10 @@ struct Sought<'a> {
 impl<'a> Sought<'a> {
     // Returns the bound at a subtree.
     fn new(bound: KeyBound<'a>, common_prefix_len: usize) -> Self
-        ensures sought { result ≡ record { bound = bound; common_prefix_len = common_prefix_len } }
+        ensures sought { result ≡ record {
+          bound = bound.entry;
+          common_prefix_len = common_prefix_len;
+        } }
     {
         Sought {
             bound,
@@ -39,7 +42,7 @@ impl<'a> Sought<'a> {
     // Finds the last entry of a node below the bound.
     fn step(self, store: &Store, node: &Node) -> Step
         requires can_step { CanStep store.now.keys self.bound node.now self.common_prefix_len }
-        ensures step { IsStep store.now.keys self.bound node.now result }
+        ensures step { IsStep store.now.keys self.entry.bound node.now result }
     {
         node.step(&store.keys, self.bound, self.common_prefix_len)
     }
@@ -47,13 +50,13 @@ impl<'a> Sought<'a> {
 
 /// Returns the greatest of this version and those of the boundaries below the second bound, of
 /// those below the first one the last alone.
-pub fn greatest(store: &Store, root: Root, from: KeyBound<'_>, to: KeyBound<'_>, least: i64) -> i64
-    requires from { CanReach store.now from root.height root.slot }
-    requires to { CanReach store.now to root.height root.slot }
+pub fn greatest(store: &Store, root: &Root, from: KeyBound<'_>, to: KeyBound<'_>, least: i64) -> i64
+    requires from { CanReach store.now from root.now.height root.now.slot }
+    requires to { CanReach store.now to root.now.height root.now.slot }
     requires nested { AreNested store.now.keys from to }
-    ensures most { IsMost item_version least (from_last (is_below store.now.keys from)
-        (Some (is_below store.now.keys to)) (items_in store.now.nodes root.height root.slot))
-        result }
+    ensures most { IsMost item_version least (from_last (is_below store.now.keys from.entry)
+        (Some (is_below store.now.keys to.entry))
+        (items_in store.now.nodes root.now.height root.now.slot)) result }
 {
     // The first key is empty.
     let (from, to) = (Sought::new(from, 0), Sought::new(to, 0));
@@ -72,8 +75,9 @@ fn greatest_between(
     requires from { IsSought store.now from height slot }
     requires to { IsSought store.now to height slot }
     requires nested { AreNested store.now.keys from.bound to.bound }
-    ensures most { IsMost item_version least (from_last (is_below store.now.keys from.bound)
-        (Some (is_below store.now.keys to.bound)) (items_in store.now.nodes height slot)) result }
+    ensures most { IsMost item_version least (from_last (is_below store.now.keys from.entry.bound)
+        (Some (is_below store.now.keys to.entry.bound))
+        (items_in store.now.nodes height slot)) result }
 {
     let node = store.nodes.header_ref(slot);
     let entries = node.entries();
@@ -104,8 +108,8 @@ fn greatest_between(
 // the bound on.
 fn greatest_from(store: &Store, slot: Slot, height: usize, from: Sought<'_>, least: i64) -> i64
     requires from { IsSought store.now from height slot }
-    ensures most { IsMost item_version least (from_last (is_below store.now.keys from.bound) None
-        (items_in store.now.nodes height slot)) result }
+    ensures most { IsMost item_version least (from_last (is_below store.now.keys from.entry.bound)
+        None (items_in store.now.nodes height slot)) result }
 {
     let node = store.nodes.header_ref(slot);
     let entries = node.entries();
@@ -125,7 +129,7 @@ fn greatest_from(store: &Store, slot: Slot, height: usize, from: Sought<'_>, lea
 // Returns the greatest of this version and those of a subtree's boundaries below the bound.
 fn greatest_to(store: &Store, slot: Slot, height: usize, to: Sought<'_>, least: i64) -> i64
     requires to { IsSought store.now to height slot }
-    ensures most { IsMost item_version least (items_below (is_below store.now.keys to.bound)
+    ensures most { IsMost item_version least (items_below (is_below store.now.keys to.entry.bound)
         (items_in store.now.nodes height slot)) result }
 {
     let node = store.nodes.header_ref(slot);

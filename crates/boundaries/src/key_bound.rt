@@ -24,21 +24,21 @@ pub struct KeyBound<'a> {
 impl<'a> KeyBound<'a> {
     /// Returns the bound right after a key.
     pub fn after(key: &'a [u8]) -> Self
-        ensures bound { result ≡ record { key = key; up_to = true } }
+        ensures bound { result ≡ record { key = key.entry; up_to = true } }
     {
         KeyBound { key, up_to: true }
     }
 
     /// Returns the bound right before a key.
     pub fn before(key: &'a [u8]) -> Self
-        ensures bound { result ≡ record { key = key; up_to = false } }
+        ensures bound { result ≡ record { key = key.entry; up_to = false } }
     {
         KeyBound { key, up_to: false }
     }
 
     /// Returns whether the key of a slot is below the bound. That of a slot without a record isn't.
     pub fn is_below(self, keys: &Keys, slot: Slot) -> bool
-        ensures is_below { result ≡ is_below keys.now self slot }
+        ensures is_below { result ≡ is_below keys.now self.entry slot }
     {
         if !keys.is_live(slot) {
             return false;
@@ -52,8 +52,8 @@ impl<'a> KeyBound<'a> {
 
     /// Returns the head of the bound's key, after its first n bytes.
     pub fn head(self, prefix_len: usize) -> u32
-        ensures head { result ≡ head_after prefix_len self.key.now }
-        ensures are_bytes { IsBytes self.key.now }
+        ensures head { result ≡ head_after prefix_len self.entry.key.now }
+        ensures are_bytes { IsBytes self.entry.key.now }
     {
         short_head(self.key, prefix_len)
     }
@@ -61,7 +61,7 @@ impl<'a> KeyBound<'a> {
     /// Returns the length of the common prefix of the bound's key and that of a slot.
     #[inline(always)]
     pub fn common_prefix_len(self, keys: &Keys, slot: Slot) -> usize
-        ensures common { IsCommonPrefixLen result (bytes_at keys.now slot) self.key.now }
+        ensures common { IsCommonPrefixLen result (bytes_at keys.now slot) self.entry.key.now }
     {
         common_prefix_len(bytes_of(keys, slot), self.key)
     }
@@ -70,7 +70,7 @@ impl<'a> KeyBound<'a> {
     #[inline(always)]
     pub fn begins_as(self, keys: &Keys, slot: Slot, count: usize) -> bool
         ensures same { IsTrue result
-            ↔ (take count (bytes_at keys.now slot) ≡ take count self.key.now) }
+            ↔ (take count (bytes_at keys.now slot) ≡ take count self.entry.key.now) }
     {
         first(bytes_of(keys, slot), count) == first(self.key, count)
     }

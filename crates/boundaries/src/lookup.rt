@@ -50,27 +50,46 @@ pub fn questions<'a, L: QueryList>(queries: &'a L, places: &[usize]) -> ArrayVec
 }
 
 /// Answers each question, in their order. There are at most [`SIDE`].
-pub fn answer_each(store: &Store, root: Root, questions: &[Question<'_>]) -> ArrayVec<bool, SIDE>
+pub fn answer_each(store: &Store, root: &Root, questions: &[Question<'_>]) -> ArrayVec<bool, SIDE>
     requires few { length questions.now ≤ SIDE }
-    requires asked { All (CanAsk store.now root.height root.slot) questions.now }
+    requires asked { All (CanAsk store.now root.now.height root.now.slot) questions.now }
     ensures answered { AllZip (λ q above. IsTrue above
-        ↔ Exceeds store.now.keys q (items_in store.now.nodes root.height root.slot))
+        ↔ Exceeds store.now.keys q (items_in store.now.nodes root.now.height root.now.slot))
         questions.now result.items }
 {
     let approaches = approach_each(store, root, questions);
     let looks = look_each(store, questions, approaches.as_slice());
+    answer_looks(store, root, questions, looks.as_slice())
+}
+
+// Answers each question, in their order, after the first look at its leaf.
+fn answer_looks(
+    store: &Store,
+    root: &Root,
+    questions: &[Question<'_>],
+    looks: &[Look],
+) -> ArrayVec<bool, SIDE>
+    requires few { length questions.now ≤ SIDE }
+    requires asked { All (CanAsk store.now root.now.height root.now.slot) questions.now }
+    requires approaches { AllZip (λ q l. IsApproach store.now root.now.height root.now.slot
+        Rest.Clear q l.approach) questions.now looks.now }
+    requires looked { AllZip (IsLooked store.now) questions.now looks.now }
+    ensures answered { AllZip (λ q above. IsTrue above
+        ↔ Exceeds store.now.keys q (items_in store.now.nodes root.now.height root.now.slot))
+        questions.now result.items }
+{
     let mut answers = ArrayVec::new();
-    for (question, look) in questions.iter().zip(looks.as_slice()) {
+    for (question, look) in questions.iter().zip(looks) {
         answers.push(answer(store, root, question, *look));
     }
     answers
 }
 
 // Goes down a tree for each question.
-fn approach_each(store: &Store, root: Root, questions: &[Question<'_>]) -> ArrayVec<Approach, SIDE>
+fn approach_each(store: &Store, root: &Root, questions: &[Question<'_>]) -> ArrayVec<Approach, SIDE>
     requires few { length questions.now ≤ SIDE }
-    requires asked { All (CanAsk store.now root.height root.slot) questions.now }
-    ensures approaches { AllZip (IsApproach store.now root.height root.slot Rest.Clear)
+    requires asked { All (CanAsk store.now root.now.height root.now.slot) questions.now }
+    ensures approaches { AllZip (IsApproach store.now root.now.height root.now.slot Rest.Clear)
         questions.now result.items }
 {
     let mut approaches = ArrayVec::new();
@@ -93,15 +112,15 @@ fn look_each(
 {
     let mut looks = ArrayVec::new();
     for (question, approach) in questions.iter().zip(approaches) {
-        looks.push(look_at(store, question, *approach));
+        looks.push(look_at(store, question, approach));
     }
     looks
 }
 
 // Looks at the leaf to which a question leads, for the first time.
-fn look_at(store: &Store, question: &Question<'_>, approach: Approach) -> Look
-    requires leading { IsLeading store.now question.now approach }
-    ensures approach { result.approach ≡ approach }
+fn look_at(store: &Store, question: &Question<'_>, approach: &Approach) -> Look
+    requires leading { IsLeading store.now question.now approach.now }
+    ensures approach { result.approach ≡ approach.now }
     ensures looked { IsLooked store.now question.now result }
 {
     let head = match approach {
@@ -111,20 +130,24 @@ fn look_at(store: &Store, question: &Question<'_>, approach: Approach) -> Look
         }
         Approach::Clear | Approach::Open => None,
     };
-    Look { approach, head }
+    Look {
+        approach: *approach,
+        head,
+    }
 }
 
 // Answers a question.
-fn answer(store: &Store, root: Root, question: &Question<'_>, look: Look) -> bool
-    requires asked { CanAsk store.now root.height root.slot question.now }
-    requires approach { IsApproach store.now root.height root.slot Rest.Clear question.now
+fn answer(store: &Store, root: &Root, question: &Question<'_>, look: Look) -> bool
+    requires asked { CanAsk store.now root.now.height root.now.slot question.now }
+    requires approach { IsApproach store.now root.now.height root.now.slot Rest.Clear question.now
         look.approach }
     requires looked { IsLooked store.now question.now look }
-    ensures above { IsTrue result
-        ↔ Exceeds store.now.keys question.now (items_in store.now.nodes root.height root.slot) }
+    ensures above { IsTrue result ↔ Exceeds store.now.keys question.now
+        (items_in store.now.nodes root.now.height root.now.slot) }
 {
-    let answered = match look.approach {
-        Approach::Leaf(hint) => leaf_answer(store, hint, question, look.head),
+    let Look { approach, head } = look;
+    let answered = match approach {
+        Approach::Leaf(hint) => leaf_answer(store, hint, question, head),
         Approach::Clear => Some(false),
         Approach::Open => None,
     };

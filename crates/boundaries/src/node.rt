@@ -156,7 +156,7 @@ impl Node {
         requires room { from + length new.now + (length (entries_of self.old) - to) ≤ FAN_OUT }
         ensures entries { entries_of self.new
             ≡ take from (entries_of self.old) ++ (new.now ++ drop to (entries_of self.old)) }
-        ensures heads { IfSome heads (λ heads. HasHeads self.old self.new
+        ensures heads { IfSome heads.entry (λ heads. HasHeads self.old self.new
             (take from (key_heads_of self.old).heads
             ++ (heads.now ++ drop to (key_heads_of self.old).heads))) }
     {

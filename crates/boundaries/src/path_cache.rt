@@ -44,7 +44,7 @@ impl PathCache {
         common_prefix_len: usize,
     ) -> Step
         requires can_step { CanStep keys.now bound node.now common_prefix_len }
-        ensures step { IsStep keys.now bound node.now result }
+        ensures step { IsStep keys.now bound.entry node.now result }
     {
         if height < 2 || height >= HEIGHTS {
             return node.step(keys, bound, common_prefix_len);

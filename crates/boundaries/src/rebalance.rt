@@ -34,16 +34,13 @@ impl Store {
         ensures stored { IsStored self.old self.new slot result }
         ensures keeps { KeepsKeys self.old self.new }
     {
+        let child = self.nodes.header_ref(slot).entries()[index].child;
+        let new = [self.entry_for(child), self.entry_for(added)];
         let node = self.nodes.header_ref(slot);
-        let new = [
-            self.entry_for(node.entries()[index].child),
-            self.entry_for(added),
-        ];
-        let heads = match (
-            node.head_of(&self.keys, new[0].key, index),
-            node.head_of(&self.keys, new[1].key, index),
-        ) {
-            (Some(head), Some(added)) => Some([head, added]),
+        let first = node.head_of(&self.keys, new[0].key, index);
+        let second = node.head_of(&self.keys, new[1].key, index);
+        let heads = match (first, second) {
+            (Some(first), Some(second)) => Some([first, second]),
             _ => None,
         };
         self.splice(slot, Splice::new(index, index + 1, &new, heads))
@@ -55,9 +52,9 @@ impl Store {
     pub fn splice(&mut self, slot: Slot, splice: Splice<'_>) -> Option<Slot>
         requires can_splice { CanSpliceAt self.old slot splice }
         ensures entries { entries_at_both self.new.nodes slot result
-            ≡ spliced splice (entries_at self.old.nodes slot) }
+            ≡ spliced splice.entry (entries_at self.old.nodes slot) }
         ensures stored { IsStored self.old self.new slot result }
-        ensures fits { length (spliced splice (entries_at self.old.nodes slot)) ≤ FAN_OUT
+        ensures fits { length (spliced splice.entry (entries_at self.old.nodes slot)) ≤ FAN_OUT
             → result ≡ None }
         ensures keeps { KeepsKeys self.old self.new }
     {

@@ -79,9 +79,9 @@ impl Tree {
     pub fn version_and_next(&self, bound: KeyBound<'_>) -> (i64, Option<Slot>)
         requires can_reach { CanReach self.now.store bound self.now.root.height self.now.root.slot }
         ensures last { IsLast result.0 (map item_version
-            (items_below (is_below self.now.store.keys bound) (items_of_tree self.now))) }
-        ensures next { result.1 ≡ first_key None (following (is_below self.now.store.keys bound)
-            (items_of_tree self.now)) }
+            (items_below (is_below self.now.store.keys bound.entry) (items_of_tree self.now))) }
+        ensures next { result.1 ≡ first_key None
+            (following (is_below self.now.store.keys bound.entry) (items_of_tree self.now)) }
     {
         let Store { keys, nodes, .. } = &self.store;
         let found = find(&self.store, self.root.height, bound, self.root.position());

@@ -44,7 +44,8 @@ impl Node {
     {
         self.prefix_len = self.prefix(keys);
         for index in 0..self.len {
-            self.heads[index] = self.head_in(keys, self.entries[index].key);
+            let key = self.entries[index].key;
+            self.heads[index] = self.head_in(keys, key);
         }
     }
 

@@ -25,7 +25,7 @@ impl Node {
     /// bound's begin with `common_prefix_len` bytes in common.
     pub fn lower_bound(&self, keys: &Keys, bound: KeyBound<'_>, common_prefix_len: usize) -> usize
         requires can_step { CanStep keys.now bound self.now common_prefix_len }
-        ensures count { IsLowerBound (is_below keys.now bound) self.now result }
+        ensures count { IsLowerBound (is_below keys.now bound.entry) self.now result }
     {
         let head = self.head_for(keys, bound, common_prefix_len);
         self.lower_bound_by_head(keys, bound, head)
@@ -40,7 +40,7 @@ impl Node {
         requires none { head ≡ None → get_or (key_heads_of self.now).heads 0 0 ≢ 0
             → length (filter (λ e. is_below keys.now bound e.key) (entries_of self.now))
             ≡ length (entries_of self.now) }
-        ensures count { IsLowerBound (is_below keys.now bound) self.now result }
+        ensures count { IsLowerBound (is_below keys.now bound.entry) self.now result }
     {
         let Some(own) = head else {
             // All keys are below that begin in the same way.
@@ -65,7 +65,7 @@ impl Node {
     ) -> Option<u32>
         requires headed { IsHeaded keys.now self.now }
         requires common_prefix_len { BeginsInCommon keys.now bound self.now common_prefix_len }
-        ensures head { IsHeadFor keys.now bound self.now common_prefix_len result }
+        ensures head { IsHeadFor keys.now bound.entry self.now common_prefix_len result }
     {
         let has_prefix = if self.heads[0] == 0 && self.prefix_len > 0 {
             self.has_prefix_of(keys, self.len() - 1, bound)
@@ -91,7 +91,7 @@ impl Node {
     ) -> Option<u32>
         requires searched { IsSearchedBeside keys.now bound self.now common_prefix_len common
             other }
-        ensures head { HasHead keys.now bound result self.now }
+        ensures head { HasHead keys.now bound.entry result self.now }
     {
         if other.is_some() && self.prefix_len() <= common {
             return Some(bound.head(self.prefix_len()));
@@ -104,7 +104,7 @@ impl Node {
     pub fn has_prefix_of(&self, keys: &Keys, index: usize, bound: KeyBound<'_>) -> bool
         requires headed { IsHeaded keys.now self.now }
         ensures has_prefix { IsTrue result
-            → HasPrefix (key_at keys.now) (key_heads_of self.now) bound.key.now }
+            → HasPrefix (key_at keys.now) (key_heads_of self.now) bound.entry.key.now }
     {
         if index >= self.len() || self.heads[index] == 0 {
             return false;
@@ -133,7 +133,7 @@ impl Node {
         requires within { index < length (entries_of self.now) }
         requires head { HasHead keys.now bound head self.now }
         ensures is_below { (e : NodeEntry) → slice_get (entries_of self.now) index ≡ Some e
-            → result ≡ is_below keys.now bound e.key }
+            → result ≡ is_below keys.now bound.entry e.key }
     {
         let own = self.heads[index];
         match head {
@@ -155,7 +155,7 @@ impl Node {
         requires head { HasHead keys.now bound head self.now }
         requires least { from ≤ length
             (filter (λ e. is_below keys.now bound e.key) (entries_of self.now)) }
-        ensures count { IsLowerBound (is_below keys.now bound) self.now result }
+        ensures count { IsLowerBound (is_below keys.now bound.entry) self.now result }
     {
         let (from, to) = match head {
             Some(head) => self.tied(from, head),
@@ -241,7 +241,7 @@ fn lower_bound(keys: &Keys, entries: &[NodeEntry], bound: KeyBound<'_>) -> usize
     requires partitioned { IsPartitioned (λ e. is_below keys.now bound e.key) entries.now }
     ensures within { result ≤ length entries.now }
     ensures count { result ≡ length
-        (filter (λ e. is_below keys.now bound e.key) entries.now) }
+        (filter (λ e. is_below keys.now bound.entry e.key) entries.now) }
 {
     entries.partition_point(|entry| bound.is_below(keys, entry.key))
 }

@@ -44,7 +44,7 @@ impl Node {
     pub fn splice(&mut self, keys: &Keys, splice: Splice<'_>)
         requires can_splice { CanSplice keys.now self.old splice }
         requires room { length (spliced splice (entries_of self.old)) ≤ FAN_OUT }
-        ensures entries { entries_of self.new ≡ spliced splice (entries_of self.old) }
+        ensures entries { entries_of self.new ≡ spliced splice.entry (entries_of self.old) }
         ensures headed { IsHeaded keys.now self.new }
     {
         let Splice {
@@ -66,7 +66,7 @@ impl Node {
         requires can_splice { CanSplice keys.now self.old splice }
         requires many { FAN_OUT < length (spliced splice (entries_of self.old)) }
         ensures entries { entries_of self.new ++ entries_of result
-            ≡ spliced splice (entries_of self.old) }
+            ≡ spliced splice.entry (entries_of self.old) }
         ensures filled { AreHalfFull (entries_of self.new) (entries_of result) }
         ensures headed { IsHeaded keys.now self.new × IsHeaded keys.now result }
     {
@@ -87,12 +87,12 @@ impl Node {
         requires within { splice.to ≤ length (entries_of self.old) }
         requires many { FAN_OUT < length (spliced splice (entries_of self.old)) }
         ensures entries { entries_of self.new ++ entries_of result
-            ≡ spliced splice (entries_of self.old) }
+            ≡ spliced splice.entry (entries_of self.old) }
         ensures filled { AreHalfFull (entries_of self.new) (entries_of result) }
-        ensures heads { IfSome splice.heads (λ heads. ShareHeads self.old self.new result
-            (take splice.from (key_heads_of self.old).heads
-            ++ (take (length splice.new.now) heads
-            ++ drop splice.to (key_heads_of self.old).heads))) }
+        ensures heads { IfSome splice.entry.heads (λ heads. ShareHeads self.old self.new result
+            (take splice.entry.from (key_heads_of self.old).heads
+            ++ (take (length splice.entry.new.now) heads
+            ++ drop splice.entry.to (key_heads_of self.old).heads))) }
     {
         let Splice { from, to, new, .. } = splice;
         let heads = match &splice.heads {

@@ -26,7 +26,7 @@ impl Node {
     #[inline(always)]
     pub fn step(&self, keys: &Keys, bound: KeyBound<'_>, common_prefix_len: usize) -> Step
         requires can_step { CanStep keys.now bound self.now common_prefix_len }
-        ensures step { IsStep keys.now bound self.now result }
+        ensures step { IsStep keys.now bound.entry self.now result }
     {
         let head = self.head_for(keys, bound, common_prefix_len);
         self.step_by(keys, bound, common_prefix_len, head)
@@ -43,7 +43,7 @@ impl Node {
         guess: usize,
     ) -> Step
         requires can_step { CanStep keys.now bound self.now common_prefix_len }
-        ensures step { IsStep keys.now bound self.now result }
+        ensures step { IsStep keys.now bound.entry self.now result }
     {
         let head = self.head_for(keys, bound, common_prefix_len);
         let Some(own) = head else {
@@ -85,7 +85,7 @@ impl Node {
     ) -> Step
         requires can_step { CanStep keys.now bound self.now common_prefix_len }
         requires head { IsHeadFor keys.now bound self.now common_prefix_len head }
-        ensures step { IsStep keys.now bound self.now result }
+        ensures step { IsStep keys.now bound.entry self.now result }
     {
         let index = self.lower_bound_by_head(keys, bound, head) - 1;
         let known = self.common_prefix_len_in(keys, index, bound, common_prefix_len, head);
@@ -111,7 +111,7 @@ impl Node {
         requires is_below { (e : NodeEntry) → slice_get (entries_of self.now) index ≡ Some e
             → IsTrue (is_below keys.now bound e.key) }
         requires head { IsHeadFor keys.now bound self.now common_prefix_len head }
-        ensures known { IsKnownAt keys.now bound self.now index result }
+        ensures known { IsKnownAt keys.now bound.entry self.now index result }
     {
         if index == 0 {
             return common_prefix_len;

@@ -11,7 +11,7 @@ descend-requires c =
       (
         record { searchable = can; to = c.requires.asked.to.searchable.partitioned; some_below = some_reached from },
         record {
-          live = live_if_some c.args.store.now.nodes c.args.root.slot can.some;
+          live = live_if_some c.args.store.now.nodes c.args.root.now.slot can.some;
           some = can.some;
           headed = can.headed;
           known = root_known from;

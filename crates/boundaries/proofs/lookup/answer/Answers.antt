@@ -6,7 +6,7 @@ use Rattle.boundaries.proofs.Exceeding.{above_by_most}
 use Rattle.boundaries.proofs.QuestionAnswers.{answered_of_all}
 use Rattle.boundaries.proofs.QuestionBounds.{nested}
 use Rattle.boundaries.proofs.lookup.answer.Goals as goal
-use Rattle.boundaries.proofs.lookup.answer.Goals.{Joined-look, in-Leaf, in-Clear, in-Open}
+use Rattle.boundaries.proofs.lookup.answer.Goals.{Joined-approach, in-Leaf, in-Clear, in-Open}
 
 pub leaf_answer-requires : goal.leaf_answer-requires
 leaf_answer-requires c =
@@ -14,9 +14,9 @@ leaf_answer-requires c =
     (search rules, (is.asked, (is.hint_is, rw c.in-Leaf.is at c.requires.looked)))
 
 -- what is answered of the whole tree, if anything
-told : (c : Joined-look) → IsAnswer c.args.store.now.keys c.args.question.now rest.Clear
-    (items_in c.args.store.now.nodes c.args.root.height c.args.root.slot) c.match-look.answered
-told c = elim c.match-look.branch [
+told : (c : Joined-approach) → IsAnswer c.args.store.now.keys c.args.question.now rest.Clear
+    (items_in c.args.store.now.nodes c.args.root.now.height c.args.root.now.slot) c.match-approach.answered
+told c = elim c.match-approach.branch [
   | in-Leaf w ↦
       let is = rw w.in-Leaf.is at c.requires.approach in
       rw w.answered-is (is.describes w.leaf_answer.result w.leaf_answer.ensures.answered)
@@ -27,7 +27,7 @@ told c = elim c.match-look.branch [
 pub returns-in-Some : goal.returns-in-Some
 returns-in-Some c =
     let q = c.args.question.now in
-    let answered = rw c.in-Some.is at (told (goal.at.returns-in-Some c).Joined-look) in
+    let answered = rw c.in-Some.is at (told (goal.at.returns-in-Some c).Joined-approach) in
     record {
       above = answered_of_all _ _ q.version (nested c.args.store.now.keys q) _ c.in-Some.above answered
           c.requires.asked.from.searchable.partitioned c.requires.asked.to.searchable.partitioned;

@@ -14,8 +14,8 @@ entire c =
     c.loop-question.yielded_by refl c.in-None.ensures.steps in
     (omega arith, omega arith)
 
-pub look-requires : goal.look-requires
-look-requires c =
+pub look_at-requires : goal.look_at-requires
+look_at-requires c =
     -- where the loop stands in the two lists
     let t = zip_turn c.args.questions.now c.args.approaches.now _ _ _ c.next.new.self _ (search rules) (search rules)
     c.loop-question.yielded_by (c.in-Some.question, c.in-Some.approach) refl c.in-Some.ensures.steps in
@@ -28,9 +28,9 @@ loop-question-preserved c =
     c.loop-question.yielded_by (c.in-Some.question, c.in-Some.approach) refl c.in-Some.ensures.steps in
     let more = length-append c.loop-question.yielded ((c.in-Some.question, c.in-Some.approach) ∷ []) in
     let before = c.loop-question.invariant in
-    let approach = c.look.ensures.approach in (
-      map-turn (λ (k : Look). k.approach) _ _ _ _ _ c.look.result t.1 (rw approach (t.3 _)) more c.push.ensures.items before.0,
-      AllZip-turn _ _ _ _ _ _ _ _ t.0 (t.2 _) more c.push.ensures.items before.1 c.look.ensures.looked,
+    let approach = c.look_at.ensures.approach in (
+      map-turn (λ (k : Look). k.approach) _ _ _ _ _ c.look_at.result t.1 (rw approach (t.3 _)) more c.push.ensures.items before.0,
+      AllZip-turn _ _ _ _ _ _ _ _ t.0 (t.2 _) more c.push.ensures.items before.1 c.look_at.ensures.looked,
     )
 
 pub push-requires : goal.push-requires

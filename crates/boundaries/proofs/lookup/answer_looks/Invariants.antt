@@ -2,7 +2,7 @@ use Rattle.std.proofs.Common.{IsTrue, length, take, ◌↔◌}
 use Rattle.std.specs.List.{AllZip}
 use Rattle.boundaries.specs.Question.{Exceeds}
 use Rattle.boundaries.proofs.Words.{items_in}
-use Rattle.boundaries.proofs.lookup.answer_each.Given as goal
+use Rattle.boundaries.proofs.lookup.answer_looks.Given as goal
 
 abbrev pub invariant-loop-question : goal.invariant-loop-question
 invariant-loop-question l =
