@@ -17,12 +17,12 @@ use Rattle.boundaries.proofs.Puts.{IsKeyPlaced, both_heads, key_placed, puts_bot
 use Rattle.boundaries.proofs.RunSpliced.{beside_one, beside_two, can_splice_run, spliced_few, spliced_is, stored_of}
 use Rattle.boundaries.proofs.RunWritten.{items_with_entries, keys_removed, last_entry, same_last}
 use Rattle.boundaries.proofs.SpareKeys.{spare_for_begin, spare_for_end}
-use Rattle.boundaries.proofs.run.write_run.Goals.{After-entries, After-unwrap-start, After-unwrap-key}
+use Rattle.boundaries.proofs.run.write_run.Goals.{After-entries-entries, After-unwrap-start, After-unwrap-key}
 use Rattle.boundaries.proofs.run.write_run.Goals as goal
 
 -- the entries that were read
-read : (c : After-entries) → c.entries.result.now ≡ entries_of c.requires.can_write.run_is.leaf
-read c = cc (c.requires.can_write.run_is.there, c.header_ref.ensures.header, c.entries.ensures.entries)
+read : (c : After-entries-entries) → c.entries-entries.result.now ≡ entries_of c.requires.can_write.run_is.leaf
+read c = cc (c.requires.can_write.run_is.there, c.header_ref.ensures.header, c.entries-entries.ensures.entries)
 
 -- the key of the start is placed
 first_placed : (c : After-unwrap-start)
@@ -40,12 +40,12 @@ second_placed c =
 
 pub put_removed-requires : goal.put_removed-requires
 put_removed-requires c =
-    let es = c.entries.result.now in
+    let es = c.entries-entries.result.now in
     let is = (c.requires.can_write).run_is.run_is in
-    let in_leaf = ap length (read (goal.at.put_removed-requires c).After-entries) in
+    let in_leaf = ap length (read (goal.at.put_removed-requires c).After-entries-entries) in
     rw c.requires.can_write.none_removed
     (omega (arith, length-take (c.args.run.end - c.args.run.begin) (drop c.args.run.begin es), length-drop c.args.run.begin es,
-    c.entries.ensures.most, ap length c.entries.ensures.entries))
+    c.entries-entries.ensures.most, ap length c.entries-entries.ensures.entries))
 
 pub unwrap-start-requires : goal.unwrap-start-requires
 unwrap-start-requires c =
