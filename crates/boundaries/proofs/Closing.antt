@@ -11,7 +11,7 @@ use Rattle.boundaries.proofs.Indexes.{up_to}
 use Rattle.boundaries.specs.Written.{closed_at}
 use Rattle.boundaries.proofs.callers.InTurn.{get_or_twice}
 use Rattle.boundaries.proofs.callers.Order.{Rising, rising_from, rising_in_order, rise_above, empty_unless_after, not_empty_if_after}
-use Rattle.boundaries.proofs.Placed.{filter_same}
+use Rattle.boundaries.proofs.callers.LeftFrom.{filter_same}
 
 none_of : {X : Type 0} (P : X → Type 0) (xs : List X) → All (λ x. ¬ P x) xs → ¬ Any P xs
 none_of P xs all a = all a.0 a.1 a.2 (subst P (sym a.3) a.4)

@@ -3,12 +3,13 @@ use Rattle.std.proofs.Common.{◌≡◌, ◌≢◌, ℕ, zero, suc, ◌+◌, ◌
 use Rattle.std.specs.Prelude.{ℤ, negsuc, ◌≤ℤ◌, All}
 use Rattle.std.proofs.lemmas.Bool.{cases_lt}
 use Rattle.std.proofs.lemmas.List.Elements.{All-head, All-tail, All-cons, All-nil, All-append, All-weaker, filter-append, filter_agree}
-use Rattle.keys.specs.Key.{IsBytes, IsKey, is_before, IsBefore, IsAtMost}
+use Rattle.keys.specs.Key.{IsBytes, IsKey, is_before, IsBefore}
 use Rattle.keys.specs.Range.{IsEmpty}
 use Rattle.keys.specs.declared.range.Range.{Range}
 use Rattle.keys.proofs.callers.KeyHeads.{after_by_first, before_after_first}
 use Rattle.keys.proofs.callers.Booleans.{not_both_ways}
 use Rattle.keys.proofs.callers.KeyOrder.{before_trans, before_at_most_same, not_before_itself, not_before_if}
+use Rattle.boundaries.specs.Item.{Item}
 use Rattle.boundaries.specs.Path.{following as items_after}
 use Rattle.boundaries.proofs.callers.Partitions.{All-back}
 use Rattle.boundaries.specs.Boundary.{Boundary, AreBoundaries, AreInOrder, RiseFrom, value_from, value_at, last_version, below, from_on}

@@ -1,11 +1,10 @@
 -- The bound at the cursor of a sweep parts stored boundaries into those that it has passed and those that are left.
-use Rattle.std.proofs.Common.{◌≡◌, ◌≢◌, ℕ, Bool, not, ◌&&◌, List, [], ◌∷◌, ◌++◌, length, None, refl, sym, ◌∙◌, ap, inl, inr, ◌==◌, arith, unwrap_or, option_map, All, IfSome}
+use Rattle.std.proofs.Common.{◌≡◌, ◌≢◌, ℕ, Bool, true, not, map, ◌&&◌, List, [], ◌∷◌, ◌++◌, length, None, refl, sym, ◌∙◌, ap, inl, inr, ◌==◌, arith, unwrap_or, option_map, All, IfSome}
 use Rattle.std.specs.Prelude.{ℤ}
 use Rattle.std.proofs.lemmas.Bool.{ne_eqb}
 use Rattle.std.proofs.lemmas.List.Elements.{All-head, All-tail, All-cons, All-nil, filter_agree}
 use Rattle.boundaries.specs.Item.{Item}
 use Rattle.boundaries.specs.Path.{IsPartitioned, items_below, following, first_key as first_slot}
-use Rattle.boundaries.specs.Items.{IsLast}
 use Rattle.keys.specs.Key.{is_before}
 use Rattle.keys.proofs.callers.Booleans.{true_or_false}
 use Rattle.boundaries.specs.Boundary.{Boundary, AreInOrder, last_version}
@@ -39,6 +38,28 @@ some_passed cursor (b ∷ bs) o e =
     let k : b ∷ passed_to cursor bs ≡ [] = rw f at e in
     cc
 
+-- the last of the items' versions is that of their boundaries
+pub last_of_versions : (keys : Keys) (xs : List Item) (front : List ℤ) (before last : ℤ)
+    → map (λ (x : Item). x.version) xs ≡ front ++ last ∷ [] → last_version before (boundaries_in keys xs) ≡ last
+last_of_versions keys [] [] before last e = absurd (cc e)
+last_of_versions keys [] (v ∷ front) before last e = absurd (cc e)
+last_of_versions keys (x ∷ []) [] before last e = let k : x.version ≡ last = cc in k
+last_of_versions keys (x ∷ y ∷ xs) [] before last e = absurd (cc e)
+last_of_versions keys (x ∷ xs) (v ∷ front) before last e =
+    let k : map (λ (x : Item). x.version) xs ≡ front ++ last ∷ [] = cc in
+    last_of_versions keys xs front x.version last k
+
+-- the empty key comes before the bound that the code makes
+pub passes_empty : (up_to : Bool) (key cursor : List ℕ) (n : ℕ) → key ≡ cursor → length key ≡ n → up_to ≡ (n == 0)
+    → is_below_at up_to key [] ≡ true
+passes_empty up_to key cursor n same len is =
+    let up : up_to ≡ (length key == 0) = is ∙ ap (λ m. m == 0) (sym len) in
+    ap (λ u. is_below_at u key []) up ∙ of_key key
+  where
+    of_key : (k : List ℕ) → is_below_at (length k == 0) k [] ≡ true
+    of_key [] = refl
+    of_key (x ∷ xs) = ap (λ u. is_below_at u (x ∷ xs) []) (ne_eqb (length (x ∷ xs)) 0 (λ e. absurd (omega (arith, e))))
+
 module _ (keys : Keys) where
   -- the key of the first slot, if there is one
   pub first_bytes : (items : List Item)
@@ -59,15 +80,6 @@ module _ (keys : Keys) where
       All-cons (λ y. P (bytes_at keys y.key)) x xs
       (All-head (λ b. P b.key) (boundary_of keys x) (boundaries_in keys xs) a)
       (keys_have P xs (All-tail (λ b. P b.key) (boundary_of keys x) (boundaries_in keys xs) a))
-
-  pub last_of : (before : List Item) (x : Item) (v : ℤ)
-      → last_version v (boundaries_in keys (before ++ x ∷ [])) ≡ x.version
-  last_of [] x v = refl
-  last_of (y ∷ ys) x v = last_of ys x y.version
-
-  pub last_is : (x : Item) (items : List Item) (v : ℤ) → IsLast x items
-      → last_version v (boundaries_in keys items) ≡ x.version
-  last_is x items v l = ap (λ xs. last_version v (boundaries_in keys xs)) l.1 ∙ last_of l.0 x v
 
   -- what the bound does that the code makes
   pub record ArePassed (items : List Item) (up_to : Bool) (key cursor : List ℕ) : Type 0 where

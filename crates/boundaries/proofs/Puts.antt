@@ -1,18 +1,14 @@
 -- Keys that are placed in slots that were spare: what was known of keys stays known.
-use Rattle.std.proofs.Common.{◌≡◌, ◌≢◌, ℕ, ◌+◌, ◌≤◌, ◌==◌, if◌then◌else◌, cond, List, [], ◌∷◌, length, Option, None, Some, is_some, false, option_map, unwrap_or, refl, sym, ◌∙◌, ap, subst, inl, inr, arith}
-use Rattle.std.specs.Prelude.{IsSome, IfSome, Ok}
+use Rattle.std.proofs.Common.{◌≡◌, ◌≢◌, ℕ, ◌+◌, ◌≤◌, ◌==◌, if◌then◌else◌, cond, List, [], ◌∷◌, length, Option, None, Some, is_some, false, option_map, unwrap_or, refl, sym, ◌∙◌, ap, subst, arith}
+use Rattle.std.specs.Prelude.{IsSome, Ok}
 use Rattle.std.specs.FinMap as finite
 use Rattle.std.specs.Cmp.{nat_cmp_total}
-use Rattle.arena.specs.Arena.{Arena, Record, IsLive, record_at, key_at, spare_of, size_of, slots_of as slots_for, wanted_of}
+use Rattle.arena.specs.Arena.{Record, IsLive, record_at, key_at, spare_of, size_of, slots_of as slots_for, wanted_of}
 use Rattle.arena.specs.declared.error.ArenaError.{ArenaError}
-use Rattle.keys.specs.Key.{IsBytes}
-use Rattle.boundaries.specs.Bound.{Keys, bytes_at, is_below}
-use Rattle.boundaries.specs.Children.{slot_taken}
-use Rattle.boundaries.specs.Heads.{KeyBytes, KeyHeads, HasPrefix, IsHeadBeside, IsKnown, IsTargetHead}
+use Rattle.boundaries.specs.Bound.{Keys, bytes_at}
+use Rattle.boundaries.specs.Heads.{KeyBytes, KeyHeads, HasPrefix, IsHeadBeside, IsTargetHead}
 use Rattle.boundaries.specs.Store.{KeysStay, PutsKeys}
-use Rattle.boundaries.specs.declared.key_bound.KeyBound.{KeyBound}
 use Rattle.boundaries.proofs.HeadChanges.{target_beside}
-use Rattle.boundaries.proofs.Releasing.{same_or_other}
 use Rattle.boundaries.proofs.SpareKeys.{taken_by_place}
 
 abbrev Key : Type 0
@@ -55,32 +51,33 @@ key_placed old new slot key free placed is others spare other_sizes = record {
   spare = taken_by_place old new key {E = ArenaError} (Ok slot) slot refl spare other_sizes;
 }
 
-module _ (old mid new : Keys) (start end : List ℕ) (first second : ℕ) (a : IsKeyPlaced old mid first start) where
-  -- the key of the start alone
-  pub puts_one : PutsKeys old mid start end first None
-  puts_one = record {
-    free = a.was_free;
-    start_is = a.is;
-    free_end = λ slot e. absurd (cc);
-    others = λ slot apart none. a.others slot apart;
-    counted = a.counted;
-    spare = λ size. omega (arith, a.spare size);
-  }
+-- the key of the start alone
+pub puts_one : {old new : Keys} {start : List ℕ} {first : ℕ} (end : List ℕ) → IsKeyPlaced old new first start
+    → PutsKeys old new start end first None
+puts_one end a = record {
+  free = a.was_free;
+  start_is = a.is;
+  free_end = λ slot e. absurd (cc);
+  others = λ slot apart none. a.others slot apart;
+  counted = a.counted;
+  spare = λ size. omega (arith, a.spare size);
+}
 
-  -- both keys
-  pub puts_both : IsKeyPlaced mid new second end → PutsKeys old new start end first (Some second)
-  puts_both b =
-      let apart : second ≢ first = λ same. none_is_not_live (record_at mid first) (ap (record_at mid) (sym same) ∙ b.was_free)
-      (live_by_key mid first start a.is) in
-      record {
-        free = a.was_free;
-        start_is = ap (option_map (λ r. r.key)) (b.others first (λ same. apart (sym same))) ∙ a.is;
-        free_end = λ slot e. let same : second ≡ slot = cc in subst (λ s. (record_at old s ≡ None) × (s ≢ first) × (key_at new s ≡ Some end))
-            same (sym (a.others second apart) ∙ b.was_free, apart, b.is);
-        others = λ slot other not_second. b.others slot (λ same. not_second (ap (λ s. Some s) (sym same))) ∙ a.others slot other;
-        counted = omega (arith, a.counted, b.counted);
-        spare = λ size. omega (arith, a.spare size, b.spare size);
-      }
+-- both keys
+pub puts_both : {old mid new : Keys} {start end : List ℕ} {first second : ℕ} → IsKeyPlaced old mid first start
+    → IsKeyPlaced mid new second end → PutsKeys old new start end first (Some second)
+puts_both {old} {mid} {new} {start} {end} {first} {second} a b =
+    let apart : second ≢ first = λ same. none_is_not_live (record_at mid first) (ap (record_at mid) (sym same) ∙ b.was_free)
+    (live_by_key mid first start a.is) in
+    record {
+      free = a.was_free;
+      start_is = ap (option_map (λ r. r.key)) (b.others first (λ same. apart (sym same))) ∙ a.is;
+      free_end = λ slot e. let same : second ≡ slot = cc in subst (λ s. (record_at old s ≡ None) × (s ≢ first) × (key_at new s ≡ Some end))
+          same (sym (a.others second apart) ∙ b.was_free, apart, b.is);
+      others = λ slot other not_second. b.others slot (λ same. not_second (ap (λ s. Some s) (sym same))) ∙ a.others slot other;
+      counted = omega (arith, a.counted, b.counted);
+      spare = λ size. omega (arith, a.spare size, b.spare size);
+    }
 
 -- Keys that were there stay.
 pub puts_stay : {old new : Keys} {start end : List ℕ} {first : ℕ} {second : Option ℕ} → PutsKeys old new start end first second
@@ -116,9 +113,3 @@ module _ (a b : KeyBytes) (same : (key : ℕ) (text : List ℕ) → a key ≡ So
       record { has_prefix = prefix_stays target is.has_prefix; head_is = is.head_is; are_bytes = is.are_bytes } in
       target_beside b key_heads key head (record { text = target; known = there; are_bytes = is.are_bytes })
       (λ text known. let e : target ≡ text = cc (there, known) in subst (λ t. IsTargetHead b key_heads t head) e found)
-
--- both heads, or none
-abbrev pub both_heads : Option ℕ → Option ℕ → Option (List ℕ)
-both_heads None end = None
-both_heads (Some start) None = None
-both_heads (Some start) (Some end) = Some (start ∷ end ∷ [])

@@ -1,5 +1,5 @@
 -- The entries of a leaf of which a run is replaced by those of new keys.
-use Rattle.std.proofs.Common.{◌≡◌, ℕ, ◌+◌, ◌-◌, ◌≤◌, List, [], ◌∷◌, ◌++◌, Option, None, Some, length, take, drop, refl, sym, ap, ◌∙◌, subst, arith, IfSome}
+use Rattle.std.proofs.Common.{◌≡◌, ℕ, ◌+◌, ◌-◌, ◌≤◌, List, [], ◌∷◌, ◌++◌, Option, Some, length, take, drop, refl, sym, ap, ◌∙◌, subst, arith, IfSome}
 use Rattle.std.specs.List.{All}
 use Rattle.std.proofs.lemmas.List.{length-append, length-drop, length-take-le}
 use Rattle.arena.specs.Arena.{header_at, key_at, spare_of}
@@ -11,13 +11,13 @@ use Rattle.boundaries.specs.declared.run.EntryRun.{EntryRun}
 use Rattle.boundaries.specs.declared.store.Store.{Store}
 use Rattle.boundaries.specs.Children.{Changes, IsKeyless, slot_taken}
 use Rattle.boundaries.specs.EntryRun.{CanWriteRun}
-use Rattle.boundaries.specs.Heads.{AllAreHeads, AreHeadsBeside, KeyBytes, KeyHeads, IsKnown, IsTargetHead}
+use Rattle.boundaries.specs.Heads.{AllAreHeads, AreHeadsBeside, IsKnown}
 use Rattle.boundaries.specs.Node.{all_heads_of, entries_of, key_heads_of, keys_of}
 use Rattle.boundaries.specs.Rebalancing.{CanSpliceAt, IsStored}
 use Rattle.boundaries.specs.Splice.{CanSplice, spliced}
 use Rattle.boundaries.specs.Store.{AreHeaded, KeysStay}
 use Rattle.boundaries.proofs.Headed.{headed_at, headed_kept}
-use Rattle.boundaries.proofs.Puts.{both_heads, stays_known, target_is_beside}
+use Rattle.boundaries.proofs.Puts.{stays_known}
 
 -- a node is stored as it is in a store with the same nodes
 pub stored_of : {mid old new : Store} {slot : ℕ} {added : Option ℕ} → mid.nodes ≡ old.nodes → IsStored mid new slot added
@@ -37,25 +37,6 @@ headed_stays {old} {new} same stay headed =
     headed_kept (key_at old.keys) (key_at new.keys) (stays_known stay) (all_heads_of new.nodes)
     (subst (λ n. AllAreHeads (key_at old.keys) (all_heads_of n)) (sym same) headed)
 
--- The heads of a start and an end are those of the keys with their bytes.
-module _ (a b : KeyBytes) (same : (key : ℕ) (text : List ℕ) → a key ≡ Some text → b key ≡ Some text) (key_heads : KeyHeads)
-    (start end : List ℕ) (first : ℕ) (start_is : b first ≡ Some start) where
-  pub beside_one : (from to : Option ℕ) → IfSome from (IsTargetHead a key_heads start)
-      → IfSome (both_heads from to) (λ heads. AreHeadsBeside b key_heads (first ∷ []) (take 1 heads))
-  beside_one None to h = tt
-  beside_one (Some from) None h = tt
-  beside_one (Some from) (Some to) h = (target_is_beside a b same key_heads start from first h start_is, tt)
-
-  pub beside_two : (second : ℕ) → b second ≡ Some end → (from to : Option ℕ) → IfSome from (IsTargetHead a key_heads start)
-      → IfSome to (IsTargetHead a key_heads end)
-      → IfSome (both_heads from to) (λ heads. AreHeadsBeside b key_heads (first ∷ second ∷ []) (take 2 heads))
-  beside_two second end_is None to h k = tt
-  beside_two second end_is (Some from) None h k = tt
-  beside_two second end_is (Some from) (Some to) h k = (
-    target_is_beside a b same key_heads start from first h start_is,
-    (target_is_beside a b same key_heads end to second k end_is, tt),
-  )
-
 module _ {old mid : Store} {slot : ℕ} {o : Overwrite} {run : EntryRun} (can : CanWriteRun old slot o run) (nodes : mid.nodes ≡ old.nodes)
     (stay : KeysStay old.keys mid.keys) (splice : Splice) (new : List NodeEntry) (from : splice.from ≡ run.begin)
     (to : splice.to ≡ run.end) (new_is : splice.new.now ≡ new) where
@@ -63,11 +44,10 @@ module _ {old mid : Store} {slot : ℕ} {o : Overwrite} {run : EntryRun} (can : 
   leaf = can.run_is.leaf
 
   -- The run can be replaced by these entries.
-  pub can_splice_run : splice.heads ≡ both_heads run.begin_head run.end_head → All (IsKnown (key_at mid.keys)) (keys_of new)
-      → IfSome (both_heads run.begin_head run.end_head)
-      (λ heads. AreHeadsBeside (key_at mid.keys) (key_heads_of leaf) (keys_of new) (take (length new) heads))
+  pub can_splice_run : (heads : Option (List ℕ)) → splice.heads ≡ heads → All (IsKnown (key_at mid.keys)) (keys_of new)
+      → IfSome heads (λ heads. AreHeadsBeside (key_at mid.keys) (key_heads_of leaf) (keys_of new) (take (length new) heads))
       → CanSpliceAt mid slot splice
-  can_splice_run heads known beside =
+  can_splice_run heads heads_are known beside =
       let headed = headed_stays nodes stay can.sound.headed in
       let there : header_at mid.nodes slot ≡ Some leaf = ap (λ n. header_at n slot) nodes ∙ can.run_is.there in
       let splices : CanSplice mid.keys leaf splice = record {
@@ -75,7 +55,7 @@ module _ {old mid : Store} {slot : ℕ} {o : Overwrite} {run : EntryRun} (can : 
         within = rw to can.run_is.run_is.end.within;
         headed = headed_at (key_at mid.keys) mid.nodes slot leaf headed there;
         known = rw new_is known;
-        beside = rw (new_is, heads) beside;
+        beside = rw (new_is, heads_are) beside;
       } in
       record {
         sound = record { keyless = subst IsKeyless (sym nodes) can.sound.keyless; headed = headed };

@@ -49,6 +49,12 @@ pub first_item : (es : List NodeEntry) → 0 < length es → FirstItem es
 first_item [] some = absurd (omega arith)
 first_item (e ∷ es) some = record { entry = e; there = refl; items = refl }
 
+-- the version of the last of some entries
+pub version_of_last : (xs : List NodeEntry) (last : NodeEntry) (v : ℤ) → IsLast last xs → IsLast v (map version_of xs) → v ≡ last.version
+version_of_last xs last v is versions =
+    let own = ap (map version_of) is.1 ∙ map-append version_of is.0 (last ∷ []) in
+    sym (same_from_push (map version_of is.0) versions.0 last.version v (sym own ∙ versions.1)).1
+
 module _ (es : List NodeEntry) (end : ℕ) (some : 0 < end) (within : end ≤ length es) where
   -- the last entry before an index
   pub last_entry : Ended (take end es)
@@ -66,9 +72,7 @@ module _ (es : List NodeEntry) (end : ℕ) (some : 0 < end) (within : end ≤ le
   same_last x is = (same_from_push last_item.0 is.0 (item_of last_entry.last) x (sym last_item.1 ∙ is.1)).1
 
   pub same_version : (v : ℤ) → IsLast v (map version_of (take end es)) → v ≡ last_entry.last.version
-  same_version v is =
-      let own = ap (map version_of) last_entry.is ∙ map-append version_of last_entry.front (last_entry.last ∷ []) in
-      sym (same_from_push (map version_of last_entry.front) is.0 last_entry.last.version v (sym own ∙ is.1)).1
+  same_version v = version_of_last (take end es) last_entry.last v (last_entry.front, last_entry.is)
 
 module _ (old new : Store) (o : Overwrite) (leaf : Node) (run : EntryRun) (is : IsRun old.keys leaf o run)
     (from : IsPartitioned (λ e. before_start old.keys o e.key) (entries_of leaf))

@@ -18,7 +18,7 @@ use Rattle.boundaries.specs.Item.{Item, item_of}
 use Rattle.boundaries.specs.Store.{AreHeaded, IsTree}
 use Rattle.boundaries.specs.declared.boundary_list.TheConstants.{LONGEST_PATH}
 use Rattle.boundaries.specs.Path.{IsPartitioned}
-use Rattle.boundaries.specs.Overwrite.{CanBeWritten, CanOverwrite, GivesEntire, GivesPart, HasKeyRoom, before_start, bound_to}
+use Rattle.boundaries.specs.Overwrite.{CanBeWritten, CanOverwrite, GivesEntire, GivesPart, GivesWritten, HasKeyRoom, before_start, bound_to}
 use Rattle.boundaries.specs.Position.{CanReach}
 use Rattle.boundaries.specs.Stored.{AreStored, boundaries_of, boundary_of, overwritten, version_at_end}
 use Rattle.boundaries.specs.Subtree.{entries_at, items_in, slots_in}
@@ -262,3 +262,16 @@ stored_with tree store room more s keys nodes none wider enough =
       raised = raised_stays a b tree.root.slot tree.root.height tree.raised nodes s.raised;
       none_removed = none;
     }
+
+module _ (old mid : Tree) (new : Overwrite) {room : ℕ} (s : AreStored old room) where
+  -- What is removed may be released.
+  pub removed_live : (o : Option ℤ) → IsChangedTree (bound_to new) (GivesWritten new o old.store mid.store) old mid
+      → All (IsLive mid.store.keys) mid.store.removed.items × IsDistinct nat_eq mid.store.removed.items
+  removed_live None c = (entire_live old mid new s c, entire_distinct old mid new s c)
+  removed_live (Some at_end) c = (part_live old mid new s at_end c, part_distinct old mid new s at_end c)
+
+  -- The boundaries are stored once it is.
+  pub stored_after : (o : Option ℤ) → IsChangedTree (bound_to new) (GivesWritten new o old.store mid.store) old mid
+      → (store : Store) → IsReleased mid.store store → length (items_of_tree old) + 2 ≤ room → AreStored (record mid { store = store }) room
+  stored_after None c store r fits = entire_stored old mid new s c store r fits
+  stored_after (Some at_end) c store r fits = part_stored old mid new s at_end c store r

@@ -6,7 +6,7 @@ use Rattle.std.proofs.lemmas.Bool.{cases_Bool}
 use Rattle.std.proofs.lemmas.List.{drop-drop, length-drop, take_all, drop_all}
 use Rattle.keys.specs.Key.{IsKey}
 use Rattle.boundaries.specs.Boundary.{Boundary, AreInOrder, last_version}
-use Rattle.boundaries.specs.Stored.{first_key}
+use Rattle.boundaries.specs.Boundary.{first_key}
 use Rattle.boundaries.specs.Swept.{left_from, passed_to, unexpired}
 use Rattle.boundaries.proofs.callers.Order.{rising_in_order, not_empty_if_after}
 use Rattle.boundaries.proofs.callers.LeftFrom.{parted_left, left_middle}

@@ -1,5 +1,5 @@
 -- A run of stored boundaries is swept of expired items that begins at a key.
-use Rattle.std.proofs.Common.{◌≡◌, ◌≢◌, ℕ, ◌≤◌, Bool, true, false, not, ◌&&◌, List, [], ◌∷◌, ◌++◌, length, take, drop, map, filter, Some, None, option_map, unwrap_or, refl, sym, ◌∙◌, ap, ap₂, subst, inl, inr, arith, length-append, append_assoc, All, Any}
+use Rattle.std.proofs.Common.{◌≡◌, ◌≢◌, ℕ, ◌+◌, ◌≤◌, Bool, true, false, not, ◌&&◌, List, [], ◌∷◌, ◌++◌, length, take, drop, map, filter, Some, None, option_map, unwrap_or, refl, sym, ◌∙◌, ap, ap₂, subst, inl, inr, arith, length-append, append_assoc, All, Any}
 use Rattle.std.specs.Prelude.{ℤ, int_lt, IfSome}
 use Rattle.std.specs.List.{Contains}
 use Rattle.std.proofs.Math.Seq.{take-append_seam, drop-append_seam}
@@ -31,7 +31,7 @@ use Rattle.boundaries.proofs.Partitioning.{stored_partitioned}
 use Rattle.boundaries.proofs.LastFound.{last_boundary, last_if_there}
 use Rattle.boundaries.proofs.callers.LeftFrom.{left_middle, filter_yes, filter_no}
 use Rattle.boundaries.proofs.callers.Order.{rise_middle, rise_swap}
-use Rattle.boundaries.proofs.Passed.{first_bytes, first_has}
+use Rattle.boundaries.proofs.Passed.{first_bytes, first_has, last_of_versions}
 use Rattle.boundaries.proofs.callers.Unexpired.{unexpired_rises}
 use Rattle.boundaries.proofs.Unlinked.{AreParted, slots_of, none_go, unexpired_parted, parted_beside}
 
@@ -82,19 +82,9 @@ unexpired_in_order edge before (x ∷ xs) ys zs some o = (
       (λ j r. unexpired_rises edge before j ys zs r),
 )
 
--- the last of the items' versions is that of their boundaries
-last_of_versions : (keys : Keys) (xs : List Item) (front : List ℤ) (before last : ℤ)
-    → map (λ (x : Item). x.version) xs ≡ front ++ last ∷ [] → last_version before (boundaries_in keys xs) ≡ last
-last_of_versions keys [] [] before last e = absurd (cc e)
-last_of_versions keys [] (v ∷ front) before last e = absurd (cc e)
-last_of_versions keys (x ∷ []) [] before last e = let k : x.version ≡ last = cc in k
-last_of_versions keys (x ∷ y ∷ xs) [] before last e = absurd (cc e)
-last_of_versions keys (x ∷ xs) (v ∷ front) before last e =
-    let k : map (λ (x : Item). x.version) xs ≡ front ++ last ∷ [] = cc in
-    last_of_versions keys xs front x.version last k
-
 -- A run of items was looked at that begins with the last one below the bound, and those that are expired are gone.
-pub record RunExpired (p : ℕ → Bool) (count : ℕ) (edge before : ℤ) (removal : Removal) (was now : List Item) : Type 0 where
+pub record RunExpired (p : ℕ → Bool) (count : ℕ) (edge before : ℤ) (removal : Removal) (gone : List ℕ) (was now : List Item)
+    : Type 0 where
   pub front : List Item
   pub first : Item
   pub looked : List Item
@@ -105,15 +95,16 @@ pub record RunExpired (p : ℕ → Bool) (count : ℕ) (edge before : ℤ) (remo
   pub some : 1 ≤ removal.looked_at
   pub few : removal.looked_at ≤ count
   pub now_is : now ≡ front ++ (unexpired_items edge before looked ++ rest)
+  pub gone_is : gone ≡ slots_of (expired edge before looked)
   pub last : IsLast removal.last (map (λ x. x.version) looked)
   pub next_is : removal.next ≡ first_slot None rest
 
 -- what is said of the items of a tree, where the bound is right after a key
 pub run_expired : {bound : KeyBound} {count : ℕ} {edge before : ℤ} {removal : Removal} {old new : Store} {was now : List Item}
     (key : List ℕ) → bound.up_to ≡ true → bound.key.now ≡ key → GivesUnexpired bound count edge before removal old new None was now
-    → RunExpired (slot_is_below old.keys true key) count edge before removal was now
+    → RunExpired (slot_is_below old.keys true key) count edge before removal new.removed.items was now
 run_expired {bound} {count} {edge} {before} {removal} {old} {new} {was} {now} key up at h =
-    subst (λ p. RunExpired p count edge before removal was now)
+    subst (λ p. RunExpired p count edge before removal new.removed.items was now)
     (ap₂ (slot_is_below old.keys) up at)
     (record {
       front = h.front;
@@ -126,6 +117,7 @@ run_expired {bound} {count} {edge} {before} {removal} {old} {new} {was} {now} ke
       some = h.some;
       few = h.few;
       now_is = h.now_is;
+      gone_is = h.run_is;
       last = h.last;
       next_is = h.next_is;
     })
@@ -194,8 +186,8 @@ module _ (keys : Keys) where
             (left_middle b (boundaries_in keys front) (boundaries_in keys rest) around.before around.after around.filled)
 
       -- a run that begins there is swept of expired items
-      module _ (count : ℕ) (edge before : ℤ) (unexpired_by : Removal) (next : List Item)
-          (h : RunExpired p count edge before unexpired_by items next) where
+      module _ (count : ℕ) (edge before : ℤ) (unexpired_by : Removal) (gone : List ℕ) (next : List Item)
+          (h : RunExpired p count edge before unexpired_by gone items next) where
         abbrev pub run : List Item
         run = expired edge before h.looked
 
@@ -297,9 +289,9 @@ module _ (keys : Keys) where
               ∙ ap₂ (λ xs ys. passed_to key bs ++ (unexpired edge before xs ++ ys)) (sym looked_are) (sym rest_are)
 
           pub unexpired_kept : finite.len new.records + length (slots_of run) ≡ finite.len keys.records → AreKept new next
-          unexpired_kept gone =
+          unexpired_kept less =
               now_kept keys keys new items next run [] stored parted (λ s live. refl) released (All-nil (λ (x : Item). record_at keys x.key ≡ None)) (none_go next)
-              (All-nil (λ (x : Item). IsLive keys x.key)) (λ s. omega arith) (omega arith) gone (subst AreInOrder (sym same) now_in_order)
+              (All-nil (λ (x : Item). IsLive keys x.key)) (λ s. omega arith) (omega arith) less (subst AreInOrder (sym same) now_in_order)
 
           pub unexpired_record : (s : ℕ) → 1 ≤ times s (slots_of next) → record_at new s ≡ record_at keys s
           unexpired_record = mid_record keys keys new items next run [] stored parted (λ s live. refl) released (All-nil (λ (x : Item). record_at keys x.key ≡ None))

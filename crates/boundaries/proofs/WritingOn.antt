@@ -1,70 +1,59 @@
--- A range is written, run by run: first its boundaries are taken out, and at last it is written over.
-use Rattle.std.proofs.Common.{◌≡◌, ℕ, suc, ◌+◌, ◌<◌, ◌≤◌, arith, true, false, [], ◌∷◌, length, Option, None, Some, is_some, option_map, unwrap_or, refl, ◌∙◌}
-use Rattle.std.specs.Prelude.{ℤ, IfSome}
-use Rattle.arena.specs.Arena.{wanted_of}
+-- A range is written, run by run: first its boundaries are removed, and at last it is written over.
+use Rattle.std.proofs.Common.{◌≡◌, ℕ, ◌+◌, ◌≤◌, arith, [], ◌∷◌, length, None, Some, refl, sym, ap, ◌∙◌}
+use Rattle.std.specs.Prelude.{ℤ}
+use Rattle.arena.specs.Arena.{HasRoomFor, wanted_of}
 use Rattle.keys.specs.declared.range.Range.{Range}
-use Rattle.boundaries.specs.Boundary.{AreBoundaries, value_at}
-use Rattle.boundaries.specs.Stored.{Stored, spare_in}
-use Rattle.boundaries.specs.Written.{written, written_to}
+use Rattle.boundaries.specs.declared.overwrite.Overwrite.{Overwrite}
+use Rattle.boundaries.specs.Boundary.{AreBoundaries}
+use Rattle.boundaries.specs.Stored.{IsCleared, IsWrittenOver, Stored, overwritten, spare_in, version_at_end}
+use Rattle.boundaries.specs.Written.{written}
 
--- how many runs there can be before the range is written
-abbrev pub runs_left : Stored → Option ℤ → ℕ
-runs_left now at_end = unwrap_or (option_map (λ _. suc (length now.boundaries)) at_end) 0
+-- the range can be written as at first
+pub record IsToWrite (range : Range) (version : ℤ) (old now : Stored) (new : Overwrite) : Type 0 where
+  pub start : new.start.now ≡ range.begin
+  pub end : new.end.now ≡ range.end
+  pub same : overwritten new (version_at_end new now.boundaries) now.boundaries ≡ written range version old.boundaries
+  pub boundaries : AreBoundaries now.boundaries
+  pub few : length now.boundaries ≤ length old.boundaries
+  pub spare : (size : ℕ) → spare_in old size ≤ spare_in now size
+  pub room : now.room ≡ old.room
 
-pub runs_fewer : (now new : Stored) (at_end result : Option ℤ) → is_some at_end ≡ true
-    → IfSome result (λ _. length new.boundaries < length now.boundaries) → runs_left new result < runs_left now at_end
-runs_fewer now new None result some fewer = absurd (cc some)
-runs_fewer now new (Some given) None some fewer = omega arith
-runs_fewer now new (Some given) (Some more) some fewer = omega (arith, fewer)
+-- at first it is
+pub to_write : (range : Range) (version : ℤ) (old : Stored) (new : Overwrite) → new.start.now ≡ range.begin → new.end.now ≡ range.end
+    → new.version ≡ version → new.at_end ≡ None → AreBoundaries old.boundaries → IsToWrite range version old old new
+to_write range version old new start end version_is none are = record {
+  start = start;
+  end = end;
+  same = rw (start, end, version_is, none) refl;
+  boundaries = are;
+  few = omega arith;
+  spare = λ size. omega arith;
+  room = refl;
+}
 
-module _ (range : Range) (version : ℤ) (old : Stored) where
-  -- how many slots of the size the keys of the range take
-  abbrev wanted : ℕ → ℕ
-  wanted size = wanted_of (length range.begin ∷ length range.end ∷ []) size
+module _ {range : Range} {version : ℤ} {old now next : Stored} {new : Overwrite} (h : IsToWrite range version old now new) where
+  -- There is room.
+  pub keys_fit : HasRoomFor (spare_in old) (length range.begin ∷ length range.end ∷ [])
+      → HasRoomFor (spare_in now) (length new.start.now ∷ length new.end.now ∷ [])
+  keys_fit room size within = rw (h.start, h.end) (omega (arith, room size within, h.spare size))
 
-  -- the range can be written as at first, with this version at its end
-  pub record IsToWrite (given : ℤ) (now : Stored) : Type 0 where
-    pub same : written_to range version given now.boundaries ≡ written range version old.boundaries
-    pub boundaries : AreBoundaries now.boundaries
-    pub few : length now.boundaries ≤ length old.boundaries
-    pub spare : (size : ℕ) → spare_in old size ≤ spare_in now size
+  -- some of its boundaries are removed
+  pub to_write_still : (at_end : ℤ) (later : Overwrite) → later ≡ record new { at_end = Some at_end } → IsCleared new now next at_end
+      → next.room ≡ now.room → IsToWrite range version old next later
+  to_write_still at_end later is c room = rw is record {
+    start = h.start;
+    end = h.end;
+    same = c.same ∙ h.same;
+    boundaries = c.boundaries;
+    few = omega (arith, c.fewer, h.few);
+    spare = λ size. omega (arith, h.spare size, c.none_used size);
+    room = room ∙ h.room;
+  }
 
-  -- it is written
-  pub record IsWrittenOver (now : Stored) : Type 0 where
-    pub is : now.boundaries ≡ written range version old.boundaries
-    pub spare : (size : ℕ) → spare_in old size ≤ spare_in now size + wanted size
+  -- it is written over
+  pub is_written : IsWrittenOver new now next → next.boundaries ≡ written range version old.boundaries
+  is_written w = w.boundaries ∙ h.same
 
-  -- one of them, by whether a version is told for its end
-  abbrev pub IsWriting : Option ℤ → Stored → Type 0
-  IsWriting None now = IsWrittenOver now
-  IsWriting (Some given) now = IsToWrite given now
-
-  -- the version that counts at its end, and whether the range is still to be written
-  pub to_write : (at_end : Option ℤ) (now : Stored) → is_some at_end ≡ true → IsWriting at_end now
-      → IsToWrite (unwrap_or at_end (value_at now.boundaries range.end)) now
-  to_write None now some h = absurd (cc some)
-  to_write (Some given) now some h = h
-
-  pub is_written : (at_end : Option ℤ) (now : Stored) → is_some at_end ≡ false → IsWriting at_end now → IsWrittenOver now
-  is_written None now none h = h
-  is_written (Some given) now none h = absurd (cc none)
-
-  -- one run more
-  module _ (now new : Stored) (given : ℤ) (h : IsToWrite given now) where
-    pub run_written : (result : Option ℤ)
-        → (result ≡ None → new.boundaries ≡ written_to range version given now.boundaries)
-        → (result ≡ None → (size : ℕ) → spare_in now size ≤ spare_in new size + wanted size)
-        → IfSome result (λ more. written_to range version more new.boundaries
-        ≡ written_to range version given now.boundaries)
-        → IfSome result (λ _. AreBoundaries new.boundaries)
-        → IfSome result (λ _. length new.boundaries < length now.boundaries)
-        → IfSome result (λ _. (size : ℕ) → spare_in now size ≤ spare_in new size)
-        → IsWriting result new
-    run_written None is used cleared boundaries fewer none_used =
-        record { is = is refl ∙ h.same; spare = λ size. omega (arith, h.spare size, used refl size) }
-    run_written (Some more) is used cleared boundaries fewer none_used = record {
-      same = cleared ∙ h.same;
-      boundaries = boundaries;
-      few = omega (arith, fewer, h.few);
-      spare = λ size. omega (arith, h.spare size, none_used size);
-    }
+  pub is_used : IsWrittenOver new now next → (size : ℕ)
+      → spare_in old size ≤ spare_in next size + wanted_of (length range.begin ∷ length range.end ∷ []) size
+  is_used w size = rw (h.start, h.end) at (omega (arith, h.spare size, w.used size))

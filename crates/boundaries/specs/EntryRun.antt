@@ -1,5 +1,5 @@
 -- The run of a leaf that is written over. This project's own.
-use Rattle.std.specs.Prelude.{◌≡◌, ◌≢◌, ◌≤◌, ◌<◌, ◌+◌, ◌-◌, ◌⊎◌, ◌++◌, ◌∷◌, ℕ, ℤ, Bool, List, [], length, map, take, drop, slice_get, if◌then◌else◌, Option, None, Some, unwrap_or, IsTrue}
+use Rattle.std.specs.Prelude.{◌≡◌, ◌≢◌, ◌≤◌, ◌<◌, ◌+◌, ◌-◌, ◌⊎◌, ◌++◌, ◌∷◌, ℕ, ℤ, Bool, List, [], length, map, take, drop, slice_get, if◌then◌else◌, true, false, Option, None, Some, unwrap_or, IsTrue}
 use Rattle.arena.specs.Arena.{IsLive, header_at, spare_of}
 use Rattle.boundaries.specs.declared.descent.Position.{Position}
 use Rattle.boundaries.specs.declared.entry.NodeEntry.{NodeEntry}
@@ -117,5 +117,6 @@ pub record IsWrittenInLeaf (old new : Store) (leaf : RaisedLeaf) (o : Overwrite)
   pub keys : KeysStay old.keys new.keys
 
 -- It was written over, or nothing was changed.
-abbrev pub WritesInLeaf : Store → Store → RaisedLeaf → Overwrite → Bool → Type 0
-WritesInLeaf old new leaf o done = if done then IsWrittenInLeaf old new leaf o else (new ≡ old)
+pub WritesInLeaf : Store → Store → RaisedLeaf → Overwrite → Bool → Type 0
+WritesInLeaf old new leaf o true = IsWrittenInLeaf old new leaf o
+WritesInLeaf old new leaf o false = new ≡ old

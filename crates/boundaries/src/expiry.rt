@@ -48,6 +48,9 @@ impl<'a> Expiring<'a> {
     /// Returns the removal from this bound on.
     pub fn new(bound: KeyBound<'a>, count: usize, edge: i64, before: i64) -> Self
         requires some { 1 ≤ count }
+        ensures bound { result.bound ≡ bound.entry }
+        ensures count { result.count ≡ count }
+        ensures versions { (result.edge ≡ edge) × (result.before ≡ before) }
     {
         Expiring {
             bound,

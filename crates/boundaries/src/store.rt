@@ -33,7 +33,7 @@ impl Store {
     pub fn place(&mut self, node: Node) -> Slot
         requires keyless { IsKeyless self.old.nodes }
         requires room { 0 < spare_of self.old.nodes 0 }
-        ensures placed { IsPlaced self.old.nodes self.new.nodes node.entry result }
+        ensures placed { IsPlaced self.old.nodes self.new.nodes node result }
         ensures keeps { KeepsKeys self.old self.new }
     {
         self.nodes.place(node, &[]).unwrap()

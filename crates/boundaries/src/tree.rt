@@ -62,7 +62,7 @@ pub struct Tree {
 impl Tree {
     /// Returns the tree of one leaf.
     pub fn new(store: Store, slot: Slot) -> Self
-        ensures store { result.store ≡ store.entry }
+        ensures store { result.store ≡ store }
         ensures root { result.root ≡ record { slot = slot; height = 0 } }
         ensures raised { result.raised ≡ None }
     {

@@ -1,5 +1,5 @@
 -- What a sweep has passed, and the writes from which it comes.
-use Rattle.std.proofs.Common.{◌≢◌, ℕ, true, false, not, cond, List, [], ◌∷◌, subst, inl, inr}
+use Rattle.std.proofs.Common.{◌≡◌, ◌≢◌, ℕ, false, not, cond, List, [], ◌∷◌, subst, inl, inr}
 use Rattle.std.specs.Prelude.{ℤ, All}
 use Rattle.std.proofs.lemmas.List.Elements.{All-head, All-tail, All-cons, All-nil}
 use Rattle.keys.specs.Key.{is_before}

@@ -28,7 +28,7 @@ use Rattle.keys.specs.Key.{is_before}
 use Rattle.keys.proofs.callers.Booleans.{and_left}
 use Rattle.stepmap.specs.Boundary.{Boundary}
 use Rattle.stepmap.specs.StepMap.{Round, Steps}
-use Rattle.boundaries.specs.Stored.{first_key}
+use Rattle.boundaries.specs.Boundary.{first_key}
 use Rattle.stepmap.specs.Sweeping.{
   cursor_of,
   round_edge,

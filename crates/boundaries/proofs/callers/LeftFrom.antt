@@ -22,8 +22,8 @@ use Rattle.std.proofs.Common.{
   inr,
   arith,
 }
-use Rattle.std.specs.Prelude.{ℤ, All}
-use Rattle.std.proofs.lemmas.List.Elements.{All-head, All-tail, All-cons, All-nil, filter-append}
+use Rattle.std.specs.Prelude.{All}
+use Rattle.std.proofs.lemmas.List.Elements.{All-head, All-tail, filter-append}
 use Rattle.keys.specs.Key.{is_before, IsBefore}
 use Rattle.keys.proofs.callers.KeyOrder.{before_trans, at_most_before, before_at_most_same, not_before_itself}
 use Rattle.keys.proofs.callers.Booleans.{
@@ -79,6 +79,17 @@ pub filter_no : (p : Boundary → Bool) (bs : List Boundary) → All (λ b. p b 
 filter_no p [] a = refl
 filter_no p (b ∷ bs) a = let f = All-head (λ b. p b ≡ false) b bs a in
     rw f (filter_no p bs (All-tail (λ b. p b ≡ false) b bs a))
+
+-- tests that agree keep the same
+pub filter_same : {X : Type 0} (p q : X → Bool) (xs : List X) → All (λ x. p x ≡ q x) xs → filter p xs ≡ filter q xs
+filter_same p q [] a = refl
+filter_same p q (x ∷ xs) a =
+    let e = All-head (λ x. p x ≡ q x) x xs a in
+    let i = filter_same p q xs (All-tail (λ x. p x ≡ q x) x xs a) in
+    elim (true_or_false (q x)) [
+      | inl t ↦ let t' : p x ≡ true = e ∙ t in rw (t', t) (ap (λ ys. x ∷ ys) i)
+      | inr f ↦ let f' : p x ≡ false = e ∙ f in rw (f', f) i
+    ]
 
 -- a test that asks for more keeps fewer
 pub filter_shorter : (p q : Boundary → Bool) → ((b : Boundary) → p b ≡ true → q b ≡ true)

@@ -30,7 +30,6 @@ use Rattle.boundaries.specs.Boundary.{Boundary, RiseFrom, value_from, last_versi
 use Rattle.boundaries.specs.Swept.{unexpired, unexpired_all}
 use Rattle.boundaries.proofs.callers.Order.{rise_lower}
 use Rattle.boundaries.proofs.callers.Values.{value_after, first_after_rising}
-use Rattle.stepmap.proofs.Rooting.{end_lower}
 
 -- the same, or both below the edge
 abbrev pub SameOrBelow : ℤ → ℤ → ℤ → Type 0

@@ -7,16 +7,16 @@ use Rattle.boundaries.proofs.ChangedLeaf.{put_stored_in}
 use Rattle.boundaries.proofs.Headed.{headed_at}
 use Rattle.boundaries.proofs.Placing.{entries_from_header, put_entries}
 use Rattle.boundaries.proofs.Removing.{last_of_first}
-use Rattle.boundaries.proofs.run.clear_run.Goals.{After-entries}
+use Rattle.boundaries.proofs.run.clear_run.Goals.{After-entries-entries}
 use Rattle.boundaries.proofs.run.clear_run.Goals as goal
 
-read : (c : After-entries) → entries_at c.args.store.now.nodes c.args.slot ≡ c.entries.result.now
-read c = entries_from_header c.args.store.now.nodes c.args.slot _ c.header_ref.ensures.header ∙ sym c.entries.ensures.entries
+read : (c : After-entries-entries) → entries_at c.args.store.now.nodes c.args.slot ≡ c.entries-entries.result.now
+read c = entries_from_header c.args.store.now.nodes c.args.slot _ c.header_ref.ensures.header ∙ sym c.entries-entries.ensures.entries
 
 pub put_removed-requires : goal.put_removed-requires
 put_removed-requires c =
     rw c.requires.can_clear.none_removed
-    (omega (arith, length-take c.args.end c.entries.result.now, c.entries.ensures.most, ap length c.entries.ensures.entries))
+    (omega (arith, length-take c.args.end c.entries-entries.result.now, c.entries-entries.ensures.most, ap length c.entries-entries.ensures.entries))
 
 pub remove-requires : goal.remove-requires
 remove-requires c =
@@ -25,11 +25,11 @@ remove-requires c =
 
 pub returns : goal.returns
 returns c =
-    let at = (goal.at.returns c).After-entries in
+    let at = (goal.at.returns c).After-entries-entries in
     let old = c.args.store.now.nodes in
     let slot = c.args.slot in
     let can = c.requires.can_clear in
-    let es = c.entries.result.now in
+    let es = c.entries-entries.result.now in
     let e = c.index-entries-end.result in
     let node = c.remove.new.self in
     let there = entries_from_header old slot _ c.header_mut.ensures.header in

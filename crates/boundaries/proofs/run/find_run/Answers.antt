@@ -1,4 +1,5 @@
-use Rattle.std.proofs.Common.{rules, ◌≡◌, ◌<◌, ◌≤◌, ◌∙◌, sym, length, drop, map, arith}
+use Rattle.std.proofs.Common.{rules, ◌≡◌, ◌<◌, ◌≤◌, Bool, false, sym, length, drop, map, arith}
+use Rattle.boundaries.specs.EntryRun.{IsRunBefore}
 use Rattle.boundaries.specs.Overwrite.{before_end, before_start, bound_from, bound_past, bound_to, first_is_below, up_to_end}
 use Rattle.boundaries.proofs.Words.{CanFind, CanStep, IsHeadFor, entries_at, entries_of, first_key, item_of, order}
 use Rattle.boundaries.proofs.ChangedLeaf.{first_below}
@@ -10,7 +11,7 @@ use Rattle.boundaries.proofs.NearBounds.{no_more}
 use Rattle.boundaries.proofs.Nested.{start_before_end}
 use Rattle.boundaries.proofs.Placing.{entries_from_header}
 use Rattle.boundaries.proofs.WrittenLeaf.{ended_in_leaf, ended_after}
-use Rattle.boundaries.proofs.run.find_run.Goals.{After-header_ref-leaf, After-head_for-end_head, After-lower_bound_back-begin, then-end-len, else-end-len, in-Some, in-None}
+use Rattle.boundaries.proofs.run.find_run.Goals.{After-header_ref-leaf, After-head_for-end_head, After-lower_bound_back-begin}
 use Rattle.boundaries.proofs.run.find_run.Goals as goal
 
 -- what is known of the leaf, for the bound at the end and for that at the start
@@ -82,53 +83,70 @@ is_below_at-ended-requires c =
     let head = (end_head at.After-head_for-end_head).head in
     rw c.past.ensures.bound (search rules, (headed, (search rules, head)))
 
--- whether an item of the leaf, or behind it, has the key of the end
-answered : (c : After-lower_bound_back-begin) → c.if-end-len.ended
+-- the run, where this tells whether an item of the leaf, or behind it, has the key of the end
+found : (c : After-lower_bound_back-begin) (ended : Bool) → ended
     ≡ first_is_below (up_to_end c.args.store.now.keys c.args.new.now)
     (first_key c.args.position.following (map item_of (drop c.lower_bound_by_head-end.result (entries_of c.header_ref-leaf.result.now))))
-answered c =
-    let r = up_to_end c.args.store.now.keys c.args.new.now in
-    let es = entries_of c.header_ref-leaf.result.now in
-    let end = c.lower_bound_by_head-end.result in
-    elim c.if-end-len.branch [
-      | then-end-len w ↦
-          w.ended-is ∙ ended_in_leaf r es end c.args.position.following w.is_below_at-ended.result
-          (omega (arith, w.if-end-len.true, c.len.ensures.len)) (rw w.past.ensures.bound at w.is_below_at-ended.ensures.is_below)
-      | else-end-len w ↦
-          w.ended-is ∙ ended_after r es end c.args.position.following w.ended
-          (omega (arith, w.if-end-len.false, c.len.ensures.len))
-          (elim w.match-following.branch [
-            | in-Some v ↦ cc (v.is, v.past.ensures.bound, v.is_below.ensures.is_below)
-            | in-None v ↦ cc (v.is)
-          ])
-    ]
-
-pub returns : goal.returns
-returns c =
-    let at = goal.at.returns c in
+    → IsRunBefore c.args.store.now c.args.position.slot c.args.position.following c.args.new.now (record {
+      begin = c.lower_bound_back-begin.result;
+      end = c.lower_bound_by_head-end.result;
+      begin_head = c.head_beside-begin_head.result;
+      end_head = c.head_for-end_head.result;
+      ended = ended;
+    })
+found c ended answered =
     let keys = c.args.store.now.keys in
     let new = c.args.new.now in
     let leaf = c.header_ref-leaf.result.now in
     let read = entries_from_header c.args.store.now.nodes c.args.position.slot leaf c.header_ref-leaf.ensures.header in
-    let to = to_known at.After-header_ref-leaf in
+    let to = to_known (goal.at.After-lower_bound_back-begin c).After-header_ref-leaf in
     let end = rw c.to-2.ensures.bound at c.lower_bound_by_head-end.ensures.count in
     let begin = rw c.from-2.ensures.bound at c.lower_bound_back-begin.ensures.count in
     let more = no_more _ _ (start_before_end keys new) (entries_of leaf) in
     let some = first_below to in
     record {
-      run = record {
+      run_is = record {
+        leaf = leaf;
+        there = c.header_ref-leaf.ensures.header;
         run_is = record {
-          leaf = leaf;
-          there = c.header_ref-leaf.ensures.header;
-          run_is = record {
-            begin = begin;
-            end = end;
-            ordered = omega (arith, more, begin.count_is, end.count_is);
-            some = omega (arith, some, end.count_is);
-            begin_head = rw c.from.ensures.bound at c.head_beside-begin_head.ensures.head;
-            end_head = (end_head at.After-head_for-end_head).head;
-          };
+          begin = begin;
+          end = end;
+          ordered = omega (arith, more, begin.count_is, end.count_is);
+          some = omega (arith, some, end.count_is);
+          begin_head = rw c.from.ensures.bound at c.head_beside-begin_head.ensures.head;
+          end_head = (end_head (goal.at.After-lower_bound_back-begin c).After-head_for-end_head).head;
         };
-        ended = rw read (answered at.After-lower_bound_back-begin);
       };
+      ended = rw read answered;
+    }
+
+pub returns-then-end-len : goal.returns-then-end-len
+returns-then-end-len c =
+    let at = (goal.at.returns-then-end-len c).After-lower_bound_back-begin in
+    let r = up_to_end c.args.store.now.keys c.args.new.now in
+    let es = entries_of c.header_ref-leaf.result.now in
+    record {
+      run = found at c.is_below_at-ended.result (ended_in_leaf r es c.lower_bound_by_head-end.result c.args.position.following
+      c.is_below_at-ended.result (omega (arith, c.if-end-len.true, c.len.ensures.len))
+      (rw c.past.ensures.bound at c.is_below_at-ended.ensures.is_below));
+    }
+
+pub returns-in-Some : goal.returns-in-Some
+returns-in-Some c =
+    let at = (goal.at.returns-in-Some c).After-lower_bound_back-begin in
+    let r = up_to_end c.args.store.now.keys c.args.new.now in
+    let es = entries_of c.header_ref-leaf.result.now in
+    record {
+      run = found at c.is_below.result (ended_after r es c.lower_bound_by_head-end.result c.args.position.following
+      c.is_below.result (omega (arith, c.if-end-len.false, c.len.ensures.len)) (cc (c.in-Some.is, c.past.ensures.bound, c.is_below.ensures.is_below)));
+    }
+
+pub returns-in-None : goal.returns-in-None
+returns-in-None c =
+    let at = (goal.at.returns-in-None c).After-lower_bound_back-begin in
+    let r = up_to_end c.args.store.now.keys c.args.new.now in
+    let es = entries_of c.header_ref-leaf.result.now in
+    record {
+      run = found at false (ended_after r es c.lower_bound_by_head-end.result c.args.position.following
+      false (omega (arith, c.if-end-len.false, c.len.ensures.len)) (cc (c.in-None.is)));
     }

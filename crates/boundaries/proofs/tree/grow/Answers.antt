@@ -1,4 +1,4 @@
-use Rattle.std.proofs.Common.{arith, add-one, rules, ◌≡◌, ◌≤◌, List, [], ◌∷◌, ◌++◌, ◌∙◌, ap, sym, length}
+use Rattle.std.proofs.Common.{arith, add-one, rules, ◌≡◌, ◌≤◌, List, [], ◌∷◌, ◌++◌, ◌∙◌, ap, refl, sym, length}
 use Rattle.std.specs.List.{All}
 use Rattle.std.proofs.lemmas.List.{append-nil}
 use Rattle.std.proofs.lemmas.List.Elements.{All-nil, All-cons}

@@ -8,8 +8,8 @@ use Rattle.keys.specs.declared.range.Range.{Range}
 use Rattle.keys.proofs.callers.KeyOrder.{before_at_most_same}
 use Rattle.boundaries.specs.Boundary.{Boundary, AreBoundaries, value_at}
 use Rattle.boundaries.specs.Copying.{following, IsCopiedTo}
-use Rattle.stepmap.specs.StepMap.{lengths}
-use Rattle.boundaries.specs.Stored.{first_key, spare_in}
+use Rattle.boundaries.specs.Boundary.{first_key}
+use Rattle.boundaries.specs.Stored.{lengths, spare_in}
 use Rattle.boundaries.specs.Written.{written}
 use Rattle.boundaries.proofs.CopiedOn.{IsNext, has_next, next_has, rises, filled, version_here, copied_next, copied_longer, copied_boundaries}
 use Rattle.boundaries.proofs.boundary_list.Boundaries.copy_next.Goals as goal

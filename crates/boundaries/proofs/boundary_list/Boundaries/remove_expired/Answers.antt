@@ -1,208 +1,163 @@
-use Rattle.std.proofs.Common.{arith, ◌≡◌, ℕ, ◌≤◌, List, [], ◌++◌, length, take, drop, All, Any, sym, ◌∙◌, ap, subst, map, w64, SFits, rules, None, true, ◌≢◌, vec_capacity}
+use Rattle.std.proofs.Common.{arith, ◌≡◌, ℕ, ◌+◌, ◌≤◌, ◌<◌, ◌^◌, List, [], length, All, Any, true, sym, ◌∙◌, ap, unwrap_or, option_map, w64, Fits, SFits, rules, vec_capacity}
 use Rattle.std.proofs.lemmas.Int.{to_z-of_z}
 use Rattle.std.proofs.lemmas.List.Elements.{All-weaker}
-use Rattle.arena.specs.Arena.{IsLive}
+use Rattle.std.specs.List.{Contains}
+use Rattle.std.specs.FinMap as finite
+use Rattle.arena.specs.Arena.{IsLive, record_at}
 use Rattle.keys.specs.Key.{IsKey}
-use Rattle.boundaries.specs.Item.{Item, item_of}
-use Rattle.boundaries.specs.Expire.{RemovesExpired}
-use Rattle.boundaries.specs.Boundary.{Boundary, last_version}
-use Rattle.boundaries.specs.Bound.{slot_is_below}
-use Rattle.boundaries.specs.Stored.{Stored, bytes_at, boundaries_of, first_key}
-use Rattle.boundaries.specs.Swept.{left_from, passed_to, unexpired}
-use Rattle.boundaries.proofs.LastFound.{some_is_below}
+use Rattle.boundaries.specs.Item.{Item}
+use Rattle.boundaries.specs.Boundary.{Boundary}
+use Rattle.boundaries.specs.Bound.{Keys, bytes_at, slot_is_below}
+use Rattle.boundaries.specs.Stored.{boundaries_of}
+use Rattle.boundaries.specs.Walk.{items_of_tree}
+use Rattle.boundaries.specs.declared.store.Store.{Store}
+use Rattle.boundaries.specs.declared.tree.Tree.{Tree}
+use Rattle.boundaries.proofs.Inserting.{can_change}
 use Rattle.boundaries.proofs.Passed.{keys_have}
-use Rattle.boundaries.proofs.PlacedKeys.{none_placed, run_released}
-use Rattle.boundaries.proofs.UnexpiredRun.{key_is_partitioned, not_alone, looked_within, last_looked, next_has, next_bytes, run_live, run_distinct, unexpired_boundaries, unexpired_indexed}
+use Rattle.boundaries.proofs.PartUnexpired.{unexpired_all}
+use Rattle.boundaries.proofs.StoredItems.{AreKept, gone_distinct, gone_live, kept_items}
+use Rattle.boundaries.proofs.StoredTrees.{can_reach_after, stored_again}
+use Rattle.boundaries.proofs.Unlinked.{slots_of}
+use Rattle.boundaries.proofs.UnexpiredRun.{RunExpired, run, run_expired, parted, some_stays, looked_within, last_looked, next_has, next_bytes, unexpired_boundaries, unexpired_kept, unexpired_record}
+use Rattle.boundaries.proofs.boundary_list.Boundaries.remove_expired.Goals.{After-change, After-release_removed}
 use Rattle.boundaries.proofs.boundary_list.Boundaries.remove_expired.Goals as goal
-use Rattle.boundaries.proofs.boundary_list.Boundaries.remove_expired.Goals.{After-deref, After-remove_expired-removal}
 
--- a boundary stands at the cursor, which isn't empty
-there : (c : After-deref)
-    → Any (λ (b : Boundary). b.key ≡ c.deref.result.now) (boundaries_of c.self.inside.keys c.self.inside.tree.items)
-there c =
-    let key = c.deref.result.now in
-    subst (λ (v : Stored). Any (λ (b : Boundary). b.key ≡ key) v.boundaries) (sym c.self.view_is)
-    (subst (λ k. Any (λ (b : Boundary). b.key ≡ k) c.args.self.now.boundaries) (sym c.deref.ensures.value)
-    c.requires.there)
+pub change-requires : goal.change-requires
+change-requires c =
+    let fits : Fits w64 c.self.inside.room = search rules in
+    let few : length (items_of_tree c.self.inside.tree) < 2 ^ 64 = omega (arith, c.self.invariant.tree_is.within, fits) in
+    let up = ap (λ b. b.up_to) (c.new-expiring.ensures.bound ∙ c.after.ensures.bound) in
+    search (rules, can_change c.self.invariant.tree_is few (can_reach_after c.self.invariant c.new-expiring.result.bound up) tt
+    c.self.invariant.none_removed)
 
-later : (c : After-deref) → c.deref.result.now ≢ []
-later c none = c.requires.later (sym c.deref.ensures.value ∙ none)
+-- the run that was looked at, and what is gone of it
+module _ (c : After-change) where
+  abbrev old : Tree
+  old = c.self.inside.tree
 
--- the run that was looked at, and what was taken out of it
-run_of : (c : After-remove_expired-removal)
-    → RemovesExpired (slot_is_below c.self.inside.keys true c.deref.result.now) c.args.count c.args.edge c.args.before
-    c.remove_expired-removal.result (map item_of c.remove_expired-removal.new.taken.items) None c.self.inside.tree.items
-    c.remove_expired-removal.new.self.items
-run_of c =
-    let edge = to_z-of_z w64 c.args.edge c.ranges.edge in
-    let before = to_z-of_z w64 c.args.before c.ranges.before in
-    rw (edge, before) at c.remove_expired-removal.ensures.removal
+  abbrev mid : Tree
+  mid = c.change.new.self
 
-pub remove_expired-removal-requires : goal.remove_expired-removal-requires
-remove_expired-removal-requires c =
-    let keys = c.self.inside.keys in
-    let tree = c.self.inside.tree in
-    let key = c.deref.result.now in
-    let at = (goal.at.remove_expired-removal-requires c).After-deref in (
-      omega arith,
-      (
-        search rules,
-        record {
-          partitioned = key_is_partitioned keys tree c.self.invariant.stored key;
-          some = some_is_below keys tree c.self.invariant.stored key;
-          some_count = c.requires.count;
-          headed = c.self.invariant.headed;
-          first = λ one. absurd (not_alone keys tree c.self.invariant.stored key (later at) (there at) one);
-          none_taken = c.self.inside.none_taken;
-        },
-      ),
-    )
+  abbrev keys : Keys
+  keys = old.store.keys
+
+  abbrev items : List Item
+  items = items_of_tree old
+
+  abbrev next : List Item
+  next = items_of_tree mid
+
+  abbrev key : List ℕ
+  key = c.args.cursor.now.items
+
+  kept : AreKept keys items
+  kept = kept_items c.self.invariant
+
+  there : Any (λ (b : Boundary). b.key ≡ key) (boundaries_of old)
+  there = rw (← c.self.view_is) at c.requires.there
+
+  run_of : RunExpired (slot_is_below keys true key) c.args.count c.args.edge c.args.before c.change.new.change.removal
+      mid.store.removed.items items next
+  run_of =
+      let e = c.new-expiring.ensures in
+      let is = e.bound ∙ c.after.ensures.bound in
+      let edge = e.versions.0 ∙ to_z-of_z w64 c.args.edge c.ranges.edge in
+      let before = e.versions.1 ∙ to_z-of_z w64 c.args.before c.ranges.before in
+      rw (e.count, edge, before) at (run_expired key (ap (λ b. b.up_to) is) (ap (λ b. b.key.now) is ∙ c.deref.ensures.value)
+      (unexpired_all c.change.ensures.changed.items))
+
+  same_keys : mid.store.keys ≡ keys
+  same_keys = (unexpired_all c.change.ensures.changed.items).keys
+
+  abbrev gone : List Item
+  gone = run keys items kept key c.requires.later there c.args.count c.args.edge c.args.before c.change.new.change.removal
+      mid.store.removed.items next run_of
 
 pub move_to-requires-clause-live : goal.move_to-requires-clause-live
 move_to-requires-clause-live c =
-    let t = goal.at.move_to-requires-clause-live c in
-    let at = t.After-deref in
-    let now = t.After-remove_expired-removal in
-    let keys = c.self.inside.keys in
-    let tree = c.self.inside.tree in
-    let key = c.deref.result.now in
-    let next = c.remove_expired-removal.new.self in
-    let run = map item_of c.remove_expired-removal.new.taken.items in
-    next_has keys tree c.self.invariant.stored key (later at) (there at) c.args.count c.args.edge c.args.before
-    c.remove_expired-removal.result run next (run_of now) (IsLive keys)
-    c.self.invariant.stored.live
+    let h = (goal.at.move_to-requires-clause-live c).After-change in
+    rw (same_keys h) (next_has (keys h) (items h) (kept h) (key h) c.requires.later (there h) c.args.count c.args.edge c.args.before
+    c.change.new.change.removal _ (next h) (run_of h) (IsLive (keys h)) c.self.invariant.live)
 
 pub move_to-requires-clause-fits : goal.move_to-requires-clause-fits
 move_to-requires-clause-fits c =
-    let t = goal.at.move_to-requires-clause-fits c in
-    let at = t.After-deref in
-    let now = t.After-remove_expired-removal in
-    let keys = c.self.inside.keys in
-    let tree = c.self.inside.tree in
-    let key = c.deref.result.now in
-    let next = c.remove_expired-removal.new.self in
-    let run = map item_of c.remove_expired-removal.new.taken.items in
-    let all : All (λ b. IsKey b.key) (boundaries_of keys tree.items) =
-    subst (λ (v : Stored). All (λ b. IsKey b.key) v.boundaries) (sym c.self.view_is) c.requires.keys in
-    next_has keys tree c.self.invariant.stored key (later at) (there at) c.args.count c.args.edge c.args.before
-    c.remove_expired-removal.result run next (run_of now)
-    (λ slot. length (bytes_at keys slot) ≤ vec_capacity c.args.cursor.now)
-    (All-weaker (λ (x : Item). IsKey (bytes_at keys x.key))
-    (λ x. length (bytes_at keys x.key) ≤ vec_capacity c.args.cursor.now)
-    (λ x k. let short = k.short in omega (arith, c.requires.any_key)) tree.items (keys_have keys IsKey tree.items all))
+    let h = (goal.at.move_to-requires-clause-fits c).After-change in
+    let all : All (λ b. IsKey b.key) (boundaries_of (old h)) = rw (← c.self.view_is) at c.requires.keys in
+    rw (same_keys h) (next_has (keys h) (items h) (kept h) (key h) c.requires.later (there h) c.args.count c.args.edge c.args.before
+    c.change.new.change.removal _ (next h) (run_of h) (λ slot. length (bytes_at (keys h) slot) ≤ vec_capacity c.args.cursor.now)
+    (All-weaker (λ (x : Item). IsKey (bytes_at (keys h) x.key))
+    (λ x. length (bytes_at (keys h) x.key) ≤ vec_capacity c.args.cursor.now)
+    (λ x k. let short = k.short in omega (arith, c.requires.any_key)) (items h) (keys_have (keys h) IsKey (items h) all)))
 
-pub release_run-requires : goal.release_run-requires
-release_run-requires c =
-    let t = goal.at.release_run-requires c in
-    let at = t.After-deref in
-    let now = t.After-remove_expired-removal in
-    let keys = c.self.inside.keys in
-    let tree = c.self.inside.tree in
-    let key = c.deref.result.now in
-    let next = c.remove_expired-removal.new.self in
-    let run = map item_of c.remove_expired-removal.new.taken.items in
-    let live = run_live keys tree c.self.invariant.stored key (later at) (there at) c.args.count c.args.edge c.args.before
-    c.remove_expired-removal.result run next (run_of now) in
-    let distinct = run_distinct keys tree c.self.invariant.stored key (later at) (there at) c.args.count c.args.edge c.args.before
-    c.remove_expired-removal.result run next (run_of now) in
-    (search rules, (live, distinct))
+pub release_removed-requires : goal.release_removed-requires
+release_removed-requires c =
+    let h = (goal.at.release_removed-requires c).After-change in
+    let parts = parted (keys h) (items h) (kept h) (key h) c.requires.later (there h) c.args.count c.args.edge c.args.before
+    c.change.new.change.removal _ (next h) (run_of h) in
+    rw (same_keys h, (run_of h).gone_is) (search (rules, gone_live (kept h) parts, gone_distinct (kept h) parts))
+
+-- the keys of what is gone are released
+module _ (c : After-release_removed) where
+  abbrev at : After-change
+  at = (goal.at.After-release_removed c).After-change
+
+  abbrev store : Store
+  store = c.release_removed.new.self
+
+  released : (slot : ℕ) → ¬ Contains (slots_of (gone at)) slot → record_at store.keys slot ≡ record_at (keys at) slot
+  released slot without =
+      c.release_removed.ensures.others slot (rw (run_of at).gone_is without) ∙ ap (λ k. record_at k slot) (same_keys at)
+
+  less : finite.len store.keys.records + length (slots_of (gone at)) ≡ finite.len (keys at).records
+  less = rw ((run_of at).gone_is, same_keys at) at c.release_removed.ensures.counted
 
 pub invariant_of-self : goal.invariant_of-self
 invariant_of-self c =
     let t = goal.at.invariant_of-self c in
-    let at = t.After-deref in
-    let now = t.After-remove_expired-removal in
-    let keys = c.self.inside.keys in
-    let tree = c.self.inside.tree in
-    let key = c.deref.result.now in
-    let next = c.remove_expired-removal.new.self in
-    let run = map item_of c.remove_expired-removal.new.taken.items in
-    let e = c.release_run.ensures in
-    let new = c.release_run.new.keys in
-    let live = run_live keys tree c.self.invariant.stored key (later at) (there at) c.args.count c.args.edge c.args.before
-    c.remove_expired-removal.result run next (run_of now) in
-    let released = run_released keys keys new [] run (none_placed keys) live e.others e.counted e.spare in
-    unexpired_indexed keys tree c.self.invariant.stored key (later at) (there at) c.args.count c.args.edge c.args.before
-    c.remove_expired-removal.result run next (run_of now)
-    new released c.remove_expired-removal.ensures.known c.remove_expired-removal.ensures.headed
+    let h = t.After-change in
+    let r = t.After-release_removed in
+    let parts = parted (keys h) (items h) (kept h) (key h) c.requires.later (there h) c.args.count c.args.edge c.args.before
+    c.change.new.change.removal _ (next h) (run_of h) in
+    let some = some_stays (keys h) (items h) (kept h) (key h) c.requires.later (there h) c.args.count c.args.edge c.args.before
+    c.change.new.change.removal _ (next h) (run_of h) in
+    let records = unexpired_record (keys h) (items h) (kept h) (key h) c.requires.later (there h) c.args.count c.args.edge c.args.before
+    c.change.new.change.removal _ (next h) (run_of h) (store r).keys (released r) in
+    stored_again (old h) (mid h) (store r) c.self.inside.room c.self.invariant c.release_removed.ensures.nodes
+    c.release_removed.ensures.none c.change.ensures.changed.tree
+    (unexpired_kept (keys h) (items h) (kept h) (key h) c.requires.later (there h) c.args.count c.args.edge c.args.before
+    c.change.new.change.removal _ (next h) (run_of h) (store r).keys (released r) (less r))
+    (λ s here. records s here ∙ sym (ap (λ k. record_at k s) (same_keys h))) some
+    (omega (arith, parts.count, c.self.invariant.tree_is.within))
 
 pub returns-clause-count : goal.returns-clause-count
-returns-clause-count c =
-    let r = run_of (goal.at.returns-clause-count c).After-remove_expired-removal in (r.some, r.few)
+returns-clause-count c = let r = run_of (goal.at.returns-clause-count c).After-change in (r.some, r.few)
 
 pub returns-clause-within : goal.returns-clause-within
 returns-clause-within c =
-    let t = goal.at.returns-clause-within c in
-    let at = t.After-deref in
-    let now = t.After-remove_expired-removal in
-    let keys = c.self.inside.keys in
-    let tree = c.self.inside.tree in
-    let key = c.deref.result.now in
-    let next = c.remove_expired-removal.new.self in
-    let run = map item_of c.remove_expired-removal.new.taken.items in
-    let n = c.remove_expired-removal.result.looked_at in
-    let is = ap (λ k. length (left_from k (boundaries_of keys tree.items))) c.deref.ensures.value
-    ∙ ap (λ v. length (left_from c.args.cursor.now.items v.boundaries)) c.self.view_is in
-    subst (λ (m : ℕ). n ≤ m) is
-    (looked_within keys tree c.self.invariant.stored key (later at) (there at) c.args.count c.args.edge c.args.before
-    c.remove_expired-removal.result run next (run_of now))
+    let h = (goal.at.returns-clause-within c).After-change in
+    rw (← c.self.view_is) (looked_within (keys h) (items h) (kept h) (key h) c.requires.later (there h) c.args.count c.args.edge
+    c.args.before c.change.new.change.removal _ (next h) (run_of h))
 
 pub returns-clause-last : goal.returns-clause-last
 returns-clause-last c =
-    let t = goal.at.returns-clause-last c in
-    let at = t.After-deref in
-    let now = t.After-remove_expired-removal in
-    let keys = c.self.inside.keys in
-    let tree = c.self.inside.tree in
-    let key = c.deref.result.now in
-    let next = c.remove_expired-removal.new.self in
-    let run = map item_of c.remove_expired-removal.new.taken.items in
-    let n = c.remove_expired-removal.result.looked_at in
-    let last = c.remove_expired-removal.result.last in
+    let h = (goal.at.returns-clause-last c).After-change in
+    let last = c.change.new.change.removal.last in
     let fits : SFits w64 last = search rules in
-    to_z-of_z w64 last fits
-    ∙ last_looked keys tree c.self.invariant.stored key (later at) (there at) c.args.count c.args.edge c.args.before
-    c.remove_expired-removal.result run next (run_of now)
-    ∙ ap (λ k. last_version c.args.before (take n (left_from k (boundaries_of keys tree.items)))) c.deref.ensures.value
-    ∙ ap (λ v. last_version c.args.before (take n (left_from c.args.cursor.now.items v.boundaries))) c.self.view_is
+    rw (← c.self.view_is) (to_z-of_z w64 last fits ∙ last_looked (keys h) (items h) (kept h) (key h) c.requires.later (there h) c.args.count
+    c.args.edge c.args.before c.change.new.change.removal _ (next h) (run_of h))
 
 pub returns-clause-boundaries : goal.returns-clause-boundaries
 returns-clause-boundaries c =
     let t = goal.at.returns-clause-boundaries c in
-    let at = t.After-deref in
-    let now = t.After-remove_expired-removal in
-    let keys = c.self.inside.keys in
-    let tree = c.self.inside.tree in
-    let key = c.deref.result.now in
-    let next = c.remove_expired-removal.new.self in
-    let run = map item_of c.remove_expired-removal.new.taken.items in
-    let e = c.release_run.ensures in
-    let new = c.release_run.new.keys in
-    let live = run_live keys tree c.self.invariant.stored key (later at) (there at) c.args.count c.args.edge c.args.before
-    c.remove_expired-removal.result run next (run_of now) in
-    let released = run_released keys keys new [] run (none_placed keys) live e.others e.counted e.spare in
-    let n = c.remove_expired-removal.result.looked_at in
-    let kept = λ (key : List ℕ) (bs : List Boundary).
-    passed_to key bs ++ (unexpired c.args.edge c.args.before (take n (left_from key bs)) ++ drop n (left_from key bs)) in
-    unexpired_boundaries keys tree c.self.invariant.stored key (later at) (there at) c.args.count c.args.edge c.args.before
-    c.remove_expired-removal.result run next (run_of now)
-    new released
-    ∙ ap (λ k. kept k (boundaries_of keys tree.items)) c.deref.ensures.value
-    ∙ ap (λ v. kept c.args.cursor.now.items v.boundaries) c.self.view_is
+    let h = t.After-change in
+    let r = t.After-release_removed in
+    rw (← c.self.view_is, c.release_removed.ensures.nodes) (unexpired_boundaries (keys h) (items h) (kept h) (key h) c.requires.later (there h)
+    c.args.count c.args.edge c.args.before c.change.new.change.removal _ (next h) (run_of h) (store r).keys (released r))
 
 pub returns-clause-cursor : goal.returns-clause-cursor
 returns-clause-cursor c =
-    let t = goal.at.returns-clause-cursor c in
-    let at = t.After-deref in
-    let now = t.After-remove_expired-removal in
-    let keys = c.self.inside.keys in
-    let tree = c.self.inside.tree in
-    let key = c.deref.result.now in
-    let next = c.remove_expired-removal.new.self in
-    let run = map item_of c.remove_expired-removal.new.taken.items in
-    let n = c.remove_expired-removal.result.looked_at in
-    c.move_to.ensures.cursor
-    ∙ next_bytes keys tree c.self.invariant.stored key (later at) (there at) c.args.count c.args.edge c.args.before
-    c.remove_expired-removal.result run next (run_of now)
-    ∙ ap (λ k. first_key (drop n (left_from k (boundaries_of keys tree.items)))) c.deref.ensures.value
-    ∙ ap (λ v. first_key (drop n (left_from c.args.cursor.now.items v.boundaries))) c.self.view_is
+    let h = (goal.at.returns-clause-cursor c).After-change in
+    rw (← c.self.view_is) (c.move_to.ensures.cursor
+    ∙ ap (λ k. unwrap_or (option_map (bytes_at k) c.change.new.change.removal.next) []) (same_keys h)
+    ∙ next_bytes (keys h) (items h) (kept h) (key h) c.requires.later (there h) c.args.count c.args.edge c.args.before
+    c.change.new.change.removal _ (next h) (run_of h))

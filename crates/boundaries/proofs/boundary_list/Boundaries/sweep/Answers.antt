@@ -37,9 +37,9 @@ loop-left-init c =
       room = refl;
     }
 
-pub remove_expired-looked-requires : goal.remove_expired-looked-requires
-remove_expired-looked-requires c =
-    let order = in_order (goal.at.remove_expired-looked-requires c).After-resume-before in
+pub remove_expired-removal-requires : goal.remove_expired-removal-requires
+remove_expired-removal-requires c =
+    let order = in_order (goal.at.remove_expired-removal-requires c).After-resume-before in
     let h = c.loop-left.invariant in
     let later = not_empty c.loop-left.cursor (sym c.is_empty.ensures ∙ c.if-not-is_empty.true) in (
       omega arith,
@@ -63,13 +63,13 @@ loop-left-preserved c =
     let order = in_order (goal.at.loop-left-preserved c).After-resume-before in
     let h = c.loop-left.invariant in
     let later = not_empty c.loop-left.cursor (sym c.is_empty.ensures ∙ c.if-not-is_empty.true) in
-    let e = c.remove_expired-looked.ensures in
-    let fits : SFits w64 c.remove_expired-looked.result.last = search rules in
+    let e = c.remove_expired-removal.ensures in
+    let fits : SFits w64 c.remove_expired-removal.result.last = search rules in
     record {
       swept =
-          more_swept _ _ _ order _ _ _ _ _ h.swept later c.remove_expired-looked.result.count _ _
-          c.remove_expired-looked.new.self.boundaries e.count.1 e.within
-          (to_z-of_z w64 c.remove_expired-looked.result.last fits ∙ e.last) e.boundaries e.cursor;
+          more_swept _ _ _ order _ _ _ _ _ h.swept later c.remove_expired-removal.result.looked_at _ _
+          c.remove_expired-removal.new.self.boundaries e.count.1 e.within
+          (to_z-of_z w64 c.remove_expired-removal.result.last fits ∙ e.last) e.boundaries e.cursor;
       capacity = omega (arith, h.capacity, e.capacity);
       spare = λ size. omega (arith, h.spare size, e.spare size);
       room = e.room ∙ h.room;

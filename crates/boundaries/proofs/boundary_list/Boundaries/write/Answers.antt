@@ -1,41 +1,28 @@
-use Rattle.std.proofs.Common.{arith, rules, true, false, ◌≡◌, ◌∙◌, ap, refl, is_some, w64}
+use Rattle.std.proofs.Common.{arith, rules, refl, w64, ◌∙◌}
 use Rattle.std.proofs.lemmas.Int.{to_z-of_z}
-use Rattle.boundaries.specs.Written.{written}
-use Rattle.boundaries.proofs.WritingOn.{to_write, is_written, run_written, runs_fewer}
+use Rattle.boundaries.proofs.WritingOn.{is_used, is_written, keys_fit, to_write, to_write_still}
 use Rattle.boundaries.proofs.boundary_list.Boundaries.write.Goals as goal
 
 pub loop-at_end-init : goal.loop-at_end-init
 loop-at_end-init c =
-    let e = c.write_or_clear-at_end.ensures in (
-      run_written c.args.range.now _ c.args.self.now c.args.self.now c.write_or_clear-at_end.new.self _
-          (record { same = refl; boundaries = c.requires.boundaries; few = omega arith; spare = λ size. omega arith })
-          c.write_or_clear-at_end.result e.written e.used e.cleared e.boundaries e.fewer e.none_used,
-      e.room,
-    )
+    let e = c.of-new.ensures in
+    to_write c.args.range.now c.args.version c.args.self.now c.of-new.result e.start e.end
+    (e.version ∙ to_z-of_z w64 c.args.version c.ranges.version) e.at_end c.requires.boundaries
+
+pub overwrite-requires : goal.overwrite-requires
+overwrite-requires c =
+    let h = c.loop-at_end.invariant in
+    search (rules, h.boundaries, keys_fit h c.requires.keys, omega (arith, h.few, h.room, c.requires.nodes))
 
 pub loop-at_end-preserved : goal.loop-at_end-preserved
 loop-at_end-preserved c =
-    let some : is_some c.loop-at_end.at_end ≡ true = search rules in
-    let h = to_write c.args.range.now _ c.args.self.now c.loop-at_end.at_end c.loop-at_end.self some c.loop-at_end.invariant.0 in
-    let e = c.write_or_clear-at_end-in-loop-at_end.ensures in (
-      run_written c.args.range.now _ c.args.self.now c.loop-at_end.self c.write_or_clear-at_end-in-loop-at_end.new.self _ h c.write_or_clear-at_end-in-loop-at_end.result
-          e.written e.used e.cleared e.boundaries e.fewer e.none_used,
-      e.room ∙ c.loop-at_end.invariant.1,
-    )
+    to_write_still c.loop-at_end.invariant c.in-Some.at_end _ refl c.in-Some.ensures.cleared c.in-Some.ensures.room
 
 pub loop-at_end-smaller : goal.loop-at_end-smaller
-loop-at_end-smaller c =
-    let some : is_some c.loop-at_end.at_end ≡ true = search rules in
-    runs_fewer c.loop-at_end.self c.write_or_clear-at_end-in-loop-at_end.new.self c.loop-at_end.at_end c.write_or_clear-at_end-in-loop-at_end.result some
-    c.write_or_clear-at_end-in-loop-at_end.ensures.fewer
+loop-at_end-smaller c = omega (arith, c.in-Some.ensures.cleared.fewer)
 
 pub returns-clause-boundaries : goal.returns-clause-boundaries
-returns-clause-boundaries c =
-    let none : is_some c.loop-at_end.at_end ≡ false = search rules in
-    (is_written c.args.range.now _ c.args.self.now c.loop-at_end.at_end c.loop-at_end.self none c.loop-at_end.invariant.0).is
-    ∙ ap (λ v. written c.args.range.now v c.args.self.now.boundaries) (to_z-of_z w64 c.args.version c.ranges.version)
+returns-clause-boundaries c = is_written c.loop-at_end.invariant (c.in-None.ensures.written refl)
 
 pub returns-clause-spare : goal.returns-clause-spare
-returns-clause-spare c =
-    let none : is_some c.loop-at_end.at_end ≡ false = search rules in
-    (is_written c.args.range.now _ c.args.self.now c.loop-at_end.at_end c.loop-at_end.self none c.loop-at_end.invariant.0).spare
+returns-clause-spare c = is_used c.loop-at_end.invariant (c.in-None.ensures.written refl)

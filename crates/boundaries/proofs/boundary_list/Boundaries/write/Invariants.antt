@@ -1,10 +1,10 @@
-use Rattle.std.proofs.Common.{◌≡◌}
-use Rattle.boundaries.proofs.WritingOn.{IsWriting, runs_left}
+use Rattle.std.proofs.Common.{length}
+use Rattle.boundaries.proofs.WritingOn.{IsToWrite}
 use Rattle.boundaries.proofs.boundary_list.Boundaries.write.Given as goal
 
--- the range is written, or is still to be
+-- the range is still to be written
 abbrev pub invariant-loop-at_end : goal.invariant-loop-at_end
-invariant-loop-at_end l = IsWriting l.fn.range l.fn.version l.fn.self l.at_end l.self × (l.self.room ≡ l.fn.self.room)
+invariant-loop-at_end l = IsToWrite l.fn.range l.fn.version l.fn.self l.self l.new
 
 abbrev pub decreases-loop-at_end : goal.decreases-loop-at_end
-decreases-loop-at_end l = runs_left l.self l.at_end
+decreases-loop-at_end l = length l.self.boundaries

@@ -1,17 +1,15 @@
-use Rattle.std.proofs.Common.{rules, ℕ, ◌≡◌, ◌≢◌, ◌<◌, ◌≤◌, ◌∙◌, ap, sym, refl, subst, true, List, [], ◌∷◌, ◌++◌, None, Some, length, drop, map, inl, inr, ◌⊎◌, arith}
+use Rattle.std.proofs.Common.{rules, ℕ, ◌≡◌, ◌≢◌, ◌<◌, ◌≤◌, ◌∙◌, ap, sym, refl, subst, true, List, [], ◌∷◌, Option, length, drop, map, inl, inr, ◌⊎◌, arith}
 use Rattle.boundaries.specs.declared.entry.NodeEntry.{NodeEntry}
-use Rattle.boundaries.specs.declared.node.Node.{Node}
 use Rattle.boundaries.specs.declared.store.Store.{Store}
 use Rattle.boundaries.specs.declared.walk.RaisedLeaf.{RaisedLeaf}
 use Rattle.boundaries.specs.declared.walk.LeafOutcome.TheVariants.{Changed, Raised, Split}
 use Rattle.boundaries.specs.Bound.{bytes_at}
 use Rattle.boundaries.specs.Children.{items_with}
-use Rattle.boundaries.specs.EntryRun.{IsRun, IsRunWritten}
+use Rattle.boundaries.specs.EntryRun.{IsRunWritten}
 use Rattle.boundaries.specs.Finding.{CanFind, CanStep}
 use Rattle.boundaries.specs.Item.{Item, item_of}
 use Rattle.boundaries.specs.Node.{entries_of}
 use Rattle.boundaries.specs.Overwrite.{GivesEntire, before_end, before_start, bound_from, bound_to}
-use Rattle.boundaries.specs.Rebalancing.{IsSound}
 use Rattle.boundaries.specs.Subtree.{entries_at, items_in}
 use Rattle.boundaries.specs.Walk.{IsRaisedAt}
 use Rattle.boundaries.proofs.callers.Partitions.{not_both}

@@ -1,7 +1,9 @@
 use Rattle.std.proofs.Common.{rules, ◌≡◌, None, refl, ◌∙◌, arith}
 use Rattle.boundaries.specs.Bound.{is_below}
 use Rattle.boundaries.specs.Children.{items_with}
+use Rattle.boundaries.specs.Rebalancing.{KeepsKeys}
 use Rattle.boundaries.specs.Subtree.{items_in}
+use Rattle.boundaries.specs.declared.store.Store.{Store}
 use Rattle.boundaries.specs.Walk.{IsChanged, IsChangedWithin, added_by}
 use Rattle.boundaries.proofs.RaisedLeaves.{raised_tree}
 use Rattle.boundaries.proofs.Roots.{root_can_change}
@@ -18,13 +20,29 @@ put : (g : Over) (c : After-change_leaf-outcome g)
     c.change_leaf-outcome.result
 put g c = rw c.position-start.ensures.position at c.change_leaf-outcome.ensures.changed
 
-within : (g : Over) (c : After-change_leaf-outcome g)
+-- what the change gives goes by the keys and by what is removed, which stay
+within : (g : Over) (c : After-change_leaf-outcome g) (new : Store) → KeepsKeys c.change_leaf-outcome.new.store new
     → IsChangedWithin (is_below c.args.self.now.store.keys (g.C.LeafChange.bound_of c.args.change.now))
-    (g.C.LeafChange.gives c.args.change.now c.change_leaf-outcome.new.change c.args.self.now.store c.change_leaf-outcome.new.store) None
+    (g.C.LeafChange.gives c.args.change.now c.change_leaf-outcome.new.change c.args.self.now.store new) None
     (items_in c.args.self.now.store.nodes c.args.self.now.root.height c.args.self.now.root.slot)
     (items_with c.change_leaf-outcome.new.store.nodes c.args.self.now.root.height c.args.self.now.root.slot
     (added_by c.change_leaf-outcome.result))
-within g c = rw c.position-start.ensures.position at c.change_leaf-outcome.ensures.items
+within g c new keeps =
+    let old = c.args.self.now.store in
+    let mid = c.change_leaf-outcome.new.store in
+    let k = rw c.position-start.ensures.position at c.change_leaf-outcome.ensures.items in
+    record {
+      before = k.before;
+      leaf = k.leaf;
+      changed = k.changed;
+      following = k.following;
+      was_is = k.was_is;
+      now_is = k.now_is;
+      items_below = k.items_below;
+      failing = k.failing;
+      found = k.found;
+      gives = g.met.C.LeafChange.kept c.args.change.now c.change_leaf-outcome.new.change old mid new _ _ _ keeps k.gives;
+    }
 
 pub grow-requires : goal.grow-requires
 grow-requires g c =
@@ -59,7 +77,7 @@ pub returns-in-Split : goal.returns-in-Split
 returns-in-Split g c =
     let at = (goal.at.returns-in-Split g c).After-change_leaf-outcome in
     let put = rw c.in-Split.is at (put g at) in
-    let items = rw c.in-Split.is at (within g at) in
+    let items = rw c.in-Split.is at (within g at c.grow.new.store c.grow.ensures.keeps) in
     let tree = c.grow.ensures.tree in
     record {
       items = rw c.grow.ensures.items items;
@@ -71,7 +89,7 @@ pub returns-in-Changed : goal.returns-in-Changed
 returns-in-Changed g c =
     let at = (goal.at.returns-in-Changed g c).After-change_leaf-outcome in
     let put = rw c.in-Changed.is at (put g at) in
-    let items = rw c.in-Changed.is at (within g at) in
+    let items = rw c.in-Changed.is at (within g at c.shrink.new.store c.shrink.ensures.keeps) in
     let tree = c.shrink.ensures.tree in
     record {
       items = rw c.shrink.ensures.items items;
@@ -84,7 +102,7 @@ returns-in-Same g c =
     let at = (goal.at.returns-in-Same g c).After-change_leaf-outcome in
     let put = rw c.in-Same.is at (put g at) in
     record {
-      items = rw c.in-Same.is at (within g at);
+      items = rw c.in-Same.is at (within g at c.change_leaf-outcome.new.store (record { keys = refl; removed = refl }));
       tree = record {
         rooted = rw (put.same refl) c.requires.can_change.rooted;
         spare = put.changes.spare;
@@ -99,7 +117,7 @@ returns-in-Raised g c =
     let at = (goal.at.returns-in-Raised g c).After-change_leaf-outcome in
     let put = rw c.in-Raised.is at (put g at) in
     record {
-      items = rw c.in-Raised.is at (within g at);
+      items = rw c.in-Raised.is at (within g at c.change_leaf-outcome.new.store (record { keys = refl; removed = refl }));
       tree = raised_tree c.in-Raised.leaf c.requires.can_change.rooted put;
       keys = put.keys;
     }

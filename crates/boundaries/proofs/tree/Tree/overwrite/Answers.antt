@@ -9,7 +9,7 @@ use Rattle.boundaries.proofs.Nested.{start_before_end}
 use Rattle.boundaries.proofs.RaisedLeaves.{part_of_raised, raised_tree, within_raised, written}
 use Rattle.boundaries.proofs.Roots.{root_can}
 use Rattle.boundaries.proofs.WrittenLeaf.{part_partitioned, raised}
-use Rattle.boundaries.proofs.tree.Tree.overwrite.Goals.{In-Some, then-write_in_leaf}
+use Rattle.boundaries.proofs.tree.Tree.overwrite.Goals.{In-Some, Then-write_in_leaf}
 use Rattle.boundaries.proofs.tree.Tree.overwrite.Goals as goal
 
 -- the leaf of the last write, in the tree as it is
@@ -47,13 +47,13 @@ write_in_leaf-requires c =
     )
 
 -- the leaf once the run was written over
-done : (c : then-write_in_leaf) → IsWrittenInLeaf c.args.self.now.store c.write_in_leaf.new.store c.in-Some.leaf c.args.new.now
+done : (c : Then-write_in_leaf) → IsWrittenInLeaf c.args.self.now.store c.write_in_leaf.new.store c.in-Some.leaf c.args.new.now
 done c = rw c.if-write_in_leaf.true at c.write_in_leaf.ensures.written
 
-changed : (c : then-write_in_leaf)
+changed : (c : Then-write_in_leaf)
     → IsChanged c.args.self.now.store c.write_in_leaf.new.store 0 c.in-Some.leaf.slot (Raised c.in-Some.leaf)
 changed c =
-    let h = (goal.at.then-write_in_leaf c).In-Some in
+    let h = (goal.at.Then-write_in_leaf c).In-Some in
     let leaf = c.in-Some.leaf in
     let new = c.args.new.now in
     let old = c.args.self.now.store in
@@ -75,8 +75,8 @@ pub returns-then-write_in_leaf : goal.returns-then-write_in_leaf
 returns-then-write_in_leaf c =
     let at = goal.at.returns-then-write_in_leaf c in
     let h = at.In-Some in
-    let done = done at.then-write_in_leaf in
-    let put = changed at.then-write_in_leaf in
+    let done = done at.Then-write_in_leaf in
+    let put = changed at.Then-write_in_leaf in
     let can = c.requires.can_overwrite.can_change in
     let old = c.args.self.now.store in
     let root = c.args.self.now.root in
