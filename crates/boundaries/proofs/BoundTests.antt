@@ -1,5 +1,5 @@
 -- What the comparison of a key with that of a bound tells, and what a slot without a record does.
-use Rattle.std.proofs.Common.{◌≡◌, ℕ, Bool, true, false, not, List, [], Option, None, Some, is_some, option_map, unwrap_or, refl, sym, ap, ◌∙◌, Less, Equal, Greater}
+use Rattle.std.proofs.Common.{◌≡◌, ℕ, Bool, true, false, List, [], Option, None, Some, is_some, option_map, unwrap_or, refl, sym, ap, ◌∙◌, Less, Equal, Greater}
 use Rattle.std.specs.Cmp.Lexicographic.{slice_cmp}
 use Rattle.std.specs.Ordering.{nat_cmp, is_le, is_lt}
 use Rattle.keys.proofs.callers.KeyOrder.{is_le-cmp}

@@ -1,8 +1,8 @@
 -- The items before a bound, of those before another bound the last alone, in parts.
-use Rattle.std.proofs.Common.{◌≡◌, ◌≢◌, ℕ, ◌+◌, ◌-◌, ◌≤◌, ◌⊎◌, Bool, true, false, not, ◌&&◌, List, [], ◌∷◌, ◌++◌, length, get_or, drop, filter, All, refl, sym, ◌∙◌, ap, inl, inr, arith, append-nil, append_assoc, length-append, slice_range}
+use Rattle.std.proofs.Common.{◌≡◌, ℕ, ◌+◌, ◌-◌, ◌≤◌, ◌⊎◌, Bool, true, false, not, ◌&&◌, List, [], ◌∷◌, ◌++◌, length, get_or, drop, filter, All, refl, sym, ◌∙◌, ap, inl, inr, arith, append-nil, append_assoc, length-append, slice_range}
 use Rattle.std.proofs.Math.Seq.{drop-append-add}
 use Rattle.std.proofs.lemmas.Bool.{cases_Bool}
-use Rattle.std.proofs.lemmas.List.{drop-append-le, drop-take, length-drop, nil_from_length, take_at}
+use Rattle.std.proofs.lemmas.List.{drop-append-le, drop-take, take_at}
 use Rattle.std.proofs.lemmas.List.Elements.{All-cons, All-head, All-tail, filter-append}
 use Rattle.boundaries.proofs.Words.{IsPartitioned}
 use Rattle.boundaries.proofs.callers.Partitions.{Falls, Falls-below_from, none_pass, none_fail, All-front, All-back}

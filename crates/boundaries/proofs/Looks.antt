@@ -1,9 +1,8 @@
 -- A look at the items before a bound, of those before another bound the last alone, below a node.
-use Rattle.std.proofs.Common.{rules, ◌≡◌, ℕ, zero, suc, ◌+◌, ◌-◌, ◌<◌, ◌≤◌, Bool, true, false, List, ◌∷◌, ◌++◌, take, drop, Option, Some, None, option_map, length, get_or, filter, flat_map, map, All, IfSome, sym, refl, ◌∙◌, ap, subst, arith, slice_range, append-nil}
+use Rattle.std.proofs.Common.{rules, ◌≡◌, ℕ, zero, suc, ◌+◌, ◌-◌, ◌<◌, ◌≤◌, Bool, true, List, ◌∷◌, ◌++◌, take, drop, Some, length, get_or, filter, flat_map, map, All, sym, refl, ◌∙◌, ap, subst, arith, slice_range}
 use Rattle.std.proofs.lemmas.Grind.{flat_map-append}
 use Rattle.std.proofs.lemmas.List.{drop-map, length-map, take-map}
-use Rattle.boundaries.proofs.Words.{Arena, header_at, key_at, is_below, KeyBound, KeyBytes, Store, NodeEntry, Node, Item, Describes, item_of, entries_of, IsPartitioned, entries_at, items_in, IsChild, IsSubtree, CanFind, CanStep, IsLowerBound, IsCommonPrefixAt, IsSearchable}
-use Rattle.boundaries.proofs.callers.Partitions.{none_pass, none_fail}
+use Rattle.boundaries.proofs.Words.{Arena, header_at, key_at, is_below, KeyBound, KeyBytes, Store, NodeEntry, Node, Item, Describes, item_of, entries_of, IsPartitioned, entries_at, items_in, IsChild, IsSubtree, CanFind, CanStep, IsCommonPrefixAt, IsSearchable}
 use Rattle.boundaries.proofs.Ways.{around_element, children_partitioned, index_inside}
 use Rattle.boundaries.proofs.Found.{partitioned-entries, entries_read, read_partitioned}
 use Rattle.boundaries.proofs.Headed.{headed_at}

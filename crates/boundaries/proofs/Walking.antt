@@ -1,27 +1,22 @@
 -- A change of one leaf, as the subtree above the leaf sees it.
-use Rattle.std.proofs.Common.{◌≡◌, ◌⊎◌, ◌↔◌, inl, inr, ℕ, zero, suc, ◌+◌, ◌<◌, Bool, true, false, List, [], ◌∷◌, ◌++◌, Option, Some, None, IsTrue, length, get_or, map, take, drop, filter, All, Any, refl, sym, ◌∙◌, ap, ap₂, subst, arith, append_assoc}
+use Rattle.std.proofs.Common.{◌≡◌, ◌⊎◌, inl, inr, ℕ, ◌+◌, Bool, true, false, List, [], ◌∷◌, ◌++◌, Option, Some, None, get_or, map, take, drop, All, Any, refl, sym, ◌∙◌, ap, subst, arith, append_assoc}
 use Rattle.std.specs.Prelude.{ℤ, ◌≤ℤ◌}
-use Rattle.std.proofs.lemmas.Bool.{cases_Bool}
 use Rattle.std.proofs.lemmas.Int.{ints}
-use Rattle.std.proofs.lemmas.List.Elements.{All-head, All-append, All-drop}
+use Rattle.std.proofs.lemmas.List.Elements.{All-append, All-drop}
 use Rattle.std.proofs.lemmas.List.{get_or_default}
 use Rattle.std.proofs.lemmas.Option.{get_or_from_slice_get}
 use Rattle.arena.specs.Arena.{Arena}
-use Rattle.keys.proofs.callers.SomeElement.{Any-first, Any-left, Any-none, Any-parts, Any-right}
+use Rattle.keys.proofs.callers.SomeElement.{Any-left, Any-none, Any-right}
 use Rattle.boundaries.specs.declared.entry.NodeEntry.{NodeEntry}
 use Rattle.boundaries.specs.declared.node.Node.{Node}
 use Rattle.boundaries.specs.Item.{Item, Describes, item_of}
 use Rattle.boundaries.specs.Path.{IsPartitioned, first_key, index_in}
-use Rattle.boundaries.specs.Children.{child_at, items_of, AreChildren, DescribesWritten}
+use Rattle.boundaries.specs.Children.{items_of, DescribesWritten}
 use Rattle.boundaries.specs.Subtree.{entries_at, items_in}
 use Rattle.boundaries.specs.declared.node.TheConstants.{HALF_FULL}
 use Rattle.boundaries.specs.Walk.{IsChangedWithin, IsRaised}
-use Rattle.boundaries.proofs.callers.Partitions.{not_both}
-use Rattle.boundaries.proofs.callers.Times.{none_or_some}
-use Rattle.boundaries.proofs.Frames.{IsRight}
 use Rattle.boundaries.proofs.Keys.{first_key-append, first_key-children}
-use Rattle.boundaries.proofs.Leaves.{index_passes}
-use Rattle.boundaries.proofs.Stepping.{IsAt, child_right, items_split, x_at}
+use Rattle.boundaries.proofs.Stepping.{IsAt, child_right, items_split}
 use Rattle.boundaries.proofs.Ways.{way}
 
 -- Each version of items is that of one of them.

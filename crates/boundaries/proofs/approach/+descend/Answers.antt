@@ -1,10 +1,10 @@
-use Rattle.std.proofs.Common.{rules, ◌≡◌, ◌≤◌, ◌<◌, ◌∙◌, ℕ, drop, ◌+◌, ◌-◌, Bool, true, false, List, length, length-drop, filter, get_or, get_or-drop, slice_get, Option, Some, IsTrue, refl, sym, arith}
+use Rattle.std.proofs.Common.{rules, ◌≡◌, ◌≤◌, ◌<◌, ◌∙◌, ℕ, drop, ◌+◌, ◌-◌, Bool, true, false, List, length, length-drop, filter, get_or, get_or-drop, slice_get, Option, Some, IsTrue, refl, arith}
 use Rattle.std.proofs.lemmas.Option.{get_or_from_slice_get, slice_get_read, slice_get_within}
-use Rattle.boundaries.specs.Question.{IsRestAt, begun, before_end, bound_after, bound_before, is_clear}
+use Rattle.boundaries.specs.Question.{IsRestAt, begun, before_end, bound_after, is_clear}
 use Rattle.boundaries.specs.declared.approach.Rest.{Rest}
 use Rattle.boundaries.specs.declared.approach.Rest.TheVariants as rest
 use Rattle.boundaries.specs.declared.question.Question.{Question}
-use Rattle.boundaries.proofs.Words.{HALF_FULL, Node, NodeEntry, Store, CanStep, HasHead, IsAnswer, IsStep, IsPartitioned, entries_of, index_in, items_in}
+use Rattle.boundaries.proofs.Words.{HALF_FULL, Node, NodeEntry, Store, CanStep, IsAnswer, IsStep, IsPartitioned, entries_of, index_in, items_in}
 use Rattle.boundaries.proofs.Above.{at_most_tested}
 use Rattle.boundaries.proofs.AnsweredKeys.{last_passes, next_fails, some_pass, some_told}
 use Rattle.boundaries.proofs.Approaches.{approach_wider}

@@ -1,4 +1,4 @@
-use Rattle.std.proofs.Common.{rules, ◌≡◌, ℕ, Bool, ◌+◌, ◌-◌, ◌<◌, ◌≤ℤ◌, length, filter, flat_map, get_or, slice_get, Some, map, take, ◌++◌, List, refl, sym, ap, ◌∙◌, arith}
+use Rattle.std.proofs.Common.{rules, ◌≡◌, ℕ, Bool, ◌+◌, ◌-◌, ◌<◌, ◌≤ℤ◌, length, filter, flat_map, slice_get, Some, map, take, ◌++◌, List, refl, sym, ap, ◌∙◌, arith}
 use Rattle.std.proofs.lemmas.List.Elements.{All-take}
 use Rattle.std.proofs.lemmas.Option.{slice_get_read}
 use Rattle.boundaries.specs.Greatest.{IsSought}

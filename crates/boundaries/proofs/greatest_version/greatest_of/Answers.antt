@@ -1,8 +1,7 @@
-use Rattle.std.proofs.Common.{rules, inl, refl, arith, SFits, w64, take_all}
-use Rattle.std.proofs.lemmas.Int.{ints, to_z-of_z}
-use Rattle.std.proofs.lemmas.List.Elements.{All-nil}
+use Rattle.std.proofs.Common.{rules, arith, SFits, w64, take_all}
+use Rattle.std.proofs.lemmas.Int.{to_z-of_z}
 use Rattle.boundaries.proofs.Most.{most_next}
-use Rattle.boundaries.proofs.Words.{NodeEntry, version_of}
+use Rattle.boundaries.proofs.Words.{version_of}
 use Rattle.boundaries.proofs.greatest_version.greatest_of.Goals as goal
 
 pub loop-entry-preserved : goal.loop-entry-preserved

@@ -1,4 +1,4 @@
-use Rattle.std.proofs.Common.{rules, ◌≡◌, Option, Some, refl}
+use Rattle.std.proofs.Common.{rules}
 use Rattle.boundaries.specs.Question.{IsAnswer}
 use Rattle.boundaries.specs.declared.approach.Rest.TheVariants as rest
 use Rattle.boundaries.proofs.Words.{items_in}

@@ -1,6 +1,6 @@
-use Rattle.std.proofs.Common.{rules, ◌≡◌, Bool, ◌∙◌, sym, ap, arith, filter, length}
+use Rattle.std.proofs.Common.{rules, ◌∙◌, sym, arith}
 use Rattle.boundaries.specs.Question.{begun, before_end, bound_after}
-use Rattle.boundaries.proofs.Words.{NodeEntry, entries_of}
+use Rattle.boundaries.proofs.Words.{entries_of}
 use Rattle.boundaries.proofs.NearBounds.{no_more}
 use Rattle.boundaries.proofs.QuestionBounds.{nested, same_below}
 use Rattle.boundaries.proofs.lookup.end_in.Goals as goal

@@ -1,4 +1,4 @@
-use Rattle.std.proofs.Common.{rules, ◌≡◌, Some, refl, w64, arith, ap, length}
+use Rattle.std.proofs.Common.{rules, refl, w64, arith}
 use Rattle.std.proofs.lemmas.Int.{to_z-of_z}
 use Rattle.boundaries.specs.Question.{before_end, begun, bound_after, bound_before, is_clear}
 use Rattle.boundaries.proofs.Words.{CanFind, CanStep, HALF_FULL, entries_of, order}

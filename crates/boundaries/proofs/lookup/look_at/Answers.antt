@@ -1,5 +1,4 @@
 use Rattle.std.proofs.Common.{rules, inl, inr, refl}
-use Rattle.boundaries.specs.Question.{IsLookedAt}
 use Rattle.boundaries.proofs.Headed.{headed_at}
 use Rattle.boundaries.proofs.Placing.{entries_from_header}
 use Rattle.boundaries.proofs.lookup.look_at.Goals as goal

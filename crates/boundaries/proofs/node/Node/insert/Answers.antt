@@ -1,4 +1,4 @@
-use Rattle.std.proofs.Common.{rules, ◌≡◌, ◌∙◌, ℕ, List, Some, slice_get, sym}
+use Rattle.std.proofs.Common.{rules, ◌≡◌, Some, slice_get, sym}
 use Rattle.std.proofs.lemmas.Option.{slice_get_within, get_or_from_slice_get}
 use Rattle.boundaries.proofs.Words.{NodeEntry, entries_of, key_at, key_heads_of, keys_of}
 use Rattle.boundaries.proofs.HeadChanges.{headed_joined, keys_there, known_spliced, map_spliced}

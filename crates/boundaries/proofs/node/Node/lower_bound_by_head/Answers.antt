@@ -1,5 +1,5 @@
-use Rattle.std.proofs.Common.{rules, ◌≢◌, ◌∙◌, sym, get_or, get_or-take, length-take, arith}
-use Rattle.boundaries.proofs.Words.{order, entries_of, key_heads_of}
+use Rattle.std.proofs.Common.{rules, arith}
+use Rattle.boundaries.proofs.Words.{order}
 use Rattle.boundaries.proofs.HeadAt.{filled_within, few_below}
 use Rattle.boundaries.proofs.node.Node.lower_bound_by_head.Goals as goal
 

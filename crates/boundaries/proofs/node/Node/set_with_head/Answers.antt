@@ -1,4 +1,4 @@
-use Rattle.std.proofs.Common.{rules, ◌≡◌, ◌<◌, ◌∙◌, length, slice_set, ap, sym, arith, length-set, length-take-le}
+use Rattle.std.proofs.Common.{rules, ◌≡◌, ◌<◌, ◌∙◌, length, slice_set, ap, arith, length-set, length-take-le}
 use Rattle.std.proofs.Math.Seq.{take-set-lt, map-set}
 use Rattle.boundaries.proofs.Words.{KeyHeads, entries_of, key_at, key_heads_of, keys_of}
 use Rattle.boundaries.proofs.HeadChanges.{headed_set, known_set}

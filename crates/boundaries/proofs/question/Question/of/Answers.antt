@@ -1,4 +1,4 @@
-use Rattle.std.proofs.Common.{◌≡◌, ◌∷◌, ℕ, [], Option, None, Some, true, false, is_some, length, take, refl, sym, ap, ◌∙◌}
+use Rattle.std.proofs.Common.{◌≡◌, ◌∷◌, ℕ, [], Option, None, Some, true, false, is_some, length, take, sym, ap, ◌∙◌}
 use Rattle.std.proofs.Math.Seq.{take-append_seam, take-length}
 use Rattle.keys.specs.Hash.{IsHashOf}
 use Rattle.keys.specs.Range.{IsSingle}

@@ -1,8 +1,8 @@
-use Rattle.std.proofs.Common.{rules, ◌≡◌, ◌<◌, ◌+◌, ◌∷◌, [], ℕ, List, Some, None, IfSome, length, get_or, sym, ap, ◌∙◌, arith}
+use Rattle.std.proofs.Common.{rules, ◌≡◌, ◌<◌, ◌∷◌, [], List, IfSome, length, get_or, sym, ap, ◌∙◌, arith}
 use Rattle.std.proofs.lemmas.List.Elements.{All-cons, All-nil}
 use Rattle.boundaries.specs.Heads.{AreHeadsBeside}
 use Rattle.boundaries.specs.Node.{IsHeaded}
-use Rattle.boundaries.proofs.Words.{IsKnown, NodeEntry, child_at, entries_at, entries_of, key_at, key_heads_of, keys_of}
+use Rattle.boundaries.proofs.Words.{IsKnown, NodeEntry, child_at, entries_at, entries_of, key_at, key_heads_of}
 use Rattle.boundaries.proofs.Headed.{headed_at}
 use Rattle.boundaries.proofs.Placing.{entries_from_header}
 use Rattle.boundaries.proofs.Sharing.{child_is}

@@ -1,4 +1,4 @@
-use Rattle.std.proofs.Common.{◌≡◌, ◌<◌, ℕ, get_or, length, ap, sym, subst, ◌∙◌, arith, take_all}
+use Rattle.std.proofs.Common.{◌≡◌, ◌<◌, get_or, length, ap, subst, arith, take_all}
 use Rattle.arena.specs.Arena.{IsLive}
 use Rattle.boundaries.proofs.callers.Times.{times_unless_contains}
 use Rattle.boundaries.proofs.Releasing.{AreReleased, none_released, next_live, next_released, spare_released}

@@ -1,7 +1,7 @@
-use Rattle.std.proofs.Common.{rules, ◌≡◌, ◌≤◌, ◌<◌, ◌+◌, ◌-◌, ◌∙◌, length, length-append, length-drop, length-take, refl, sym, ap, arith}
+use Rattle.std.proofs.Common.{rules, ◌≡◌, ◌∙◌, length, length-append, length-drop, length-take, refl, sym, ap, arith}
 use Rattle.arena.specs.Arena.{with_header}
 use Rattle.boundaries.specs.Splice.{CanSplice, spliced}
-use Rattle.boundaries.proofs.Words.{Node, entries_at, entries_of, key_at}
+use Rattle.boundaries.proofs.Words.{entries_at, entries_of, key_at}
 use Rattle.boundaries.proofs.ChangedLeaf.{put_stored}
 use Rattle.boundaries.proofs.KnownKeys.{headed_header}
 use Rattle.boundaries.proofs.Neighbours.{left_entries, left_live, both_changes}
