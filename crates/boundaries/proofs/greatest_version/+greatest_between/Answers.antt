@@ -12,7 +12,7 @@ use Rattle.boundaries.proofs.Looks.{IsLook, can_step_at, look_ordered, leaf_from
 use Rattle.boundaries.proofs.Halves.{AreHalves, left_items, right_items, middle_items, left_from_last, right_before, left_is, right_is, middle_describes, left_reached, right_reached, apart, in_one, in_two}
 use Rattle.boundaries.proofs.Most.{most_leaf, most_children, most_of_three, most_passed}
 use Rattle.boundaries.proofs.greatest_version.+greatest_between.Goals as goal
-use Rattle.boundaries.proofs.greatest_version.+greatest_between.Goals.{After-step-2, After-index-entries-right, Joined-left, then-left, else-left}
+use Rattle.boundaries.proofs.greatest_version.+greatest_between.Goals.{After-step-2, After-index-entries-last, Joined-left-most, then-left-most, else-left-most}
 
 pub step-requires : goal.step-requires
 step-requires t c = search (rules, can_step_at c.requires.from.searchable c.header_ref-node.ensures.header c.requires.from.known)
@@ -64,9 +64,9 @@ returns-then-height-eq0 t c =
     record { most = rw (items, ← end_is t s) leaf }
 
 -- the two children that the search goes on in
-module _ (t : ℕ) (c : After-index-entries-right t) where
+module _ (t : ℕ) (c : After-index-entries-last t) where
   abbrev at : After-step-2 t
-  at = (goal.at.After-index-entries-right t c).After-step-2
+  at = (goal.at.After-index-entries-last t c).After-step-2
 
   abbrev halves : AreHalves c.args.store.now.nodes HALF_FULL c.args.height c.args.slot (f t at) (u t at)
   halves = record {
@@ -121,62 +121,62 @@ module _ (t : ℕ) (c : After-index-entries-right t) where
 
 pub greatest_between-requires : goal.greatest_between-requires
 greatest_between-requires t c κs within =
-    let s = (goal.at.greatest_between-requires t c).After-index-entries-right in
+    let s = (goal.at.greatest_between-requires t c).After-index-entries-last in
     rw (c.new-from.ensures.sought, c.new-to.ensures.sought)
     (search (rules, left_from t s, left_to t s c.if-first-last.true, c.requires.nested))
 
 pub slice_bounds-greatest_of-start-2 : goal.slice_bounds-greatest_of-start-2
 slice_bounds-greatest_of-start-2 t c =
-    (apart (halves t (goal.at.slice_bounds-greatest_of-start-2 t c).After-index-entries-right) c.if-first-last.false).0
+    (apart (halves t (goal.at.slice_bounds-greatest_of-start-2 t c).After-index-entries-last) c.if-first-last.false).0
 
 pub greatest_from-most-requires : goal.greatest_from-most-requires
 greatest_from-most-requires t c =
-    let s = (goal.at.greatest_from-most-requires t c).After-index-entries-right in
+    let s = (goal.at.greatest_from-most-requires t c).After-index-entries-last in
     (search rules, rw c.new-from.ensures.sought (left_from t s))
 
 pub greatest_to-most-requires : goal.greatest_to-most-requires
 greatest_to-most-requires t c =
-    let s = (goal.at.greatest_to-most-requires t c).After-index-entries-right in
+    let s = (goal.at.greatest_to-most-requires t c).After-index-entries-last in
     (search rules, rw c.new-to.ensures.sought (right_to t s))
 
 pub returns-then-left-least : goal.returns-then-left-least
 returns-then-left-least t c =
-    let s = (goal.at.returns-then-left-least t c).After-index-entries-right in
+    let s = (goal.at.returns-then-left-least t c).After-index-entries-last in
     let h = halves t s in
     let le = at_most_tested c.index-entries-first.result.version c.args.least (search rules) (search rules) c.if-left-least.true in
     record { most = rw (in_one h c.if-first-last.true) (most_passed c.args.least _ (left_items h) _ _ (left_is h).describes le) }
 
 pub returns-then-first-last : goal.returns-then-first-last
 returns-then-first-last t c =
-    let h = halves t (goal.at.returns-then-first-last t c).After-index-entries-right in
+    let h = halves t (goal.at.returns-then-first-last t c).After-index-entries-last in
     let most = rw (c.new-from.ensures.sought, c.new-to.ensures.sought) at c.greatest_between.ensures.most in
     record { most = rw (in_one h c.if-first-last.true) most }
 
 -- the greatest version once the left child is looked at, too
-sooner : (t : ℕ) (c : Joined-left t) → (let h = halves t (goal.at.Joined-left t c).After-index-entries-right in
-    IsMost item_version c.greatest_of-most.result (left_from_last h) c.if-left.most)
+sooner : (t : ℕ) (c : Joined-left-most t) → (let h = halves t (goal.at.Joined-left-most t c).After-index-entries-last in
+    IsMost item_version c.greatest_of-most.result (left_from_last h) c.if-left-most.most)
 sooner t c =
-    let h = halves t (goal.at.Joined-left t c).After-index-entries-right in
-    elim c.if-left.branch [
-      | then-left w ↦ rw (w.most-is, ← c.new-from.ensures.sought) w.greatest_from-most.ensures.most
-      | else-left w ↦
-          let le : c.index-entries-first.result.version ≤ℤ c.greatest_of-most.result = grind (arith, ints, w.if-left.false) in
+    let h = halves t (goal.at.Joined-left-most t c).After-index-entries-last in
+    elim c.if-left-most.branch [
+      | then-left-most w ↦ rw (w.most-is, ← c.new-from.ensures.sought) w.greatest_from-most.ensures.most
+      | else-left-most w ↦
+          let le : c.index-entries-first.result.version ≤ℤ c.greatest_of-most.result = grind (arith, ints, w.if-left-most.false) in
           rw w.most-is (most_passed _ _ (left_items h) _ (λ (x : Item). true) (left_is h).describes le)
     ]
 
 pub returns : goal.returns
 returns t c =
     let at = goal.at.returns t c in
-    let h = halves t at.After-index-entries-right in
-    let later : IsMost item_version c.if-left.most (right_before h) c.if-right.most =
-    elim c.if-right.branch [
-      | goal.then-right w ↦ rw (w.most-is, ← c.new-to.ensures.sought) w.greatest_to-most.ensures.most
-      | goal.else-right w ↦
-          let le : c.index-entries-last.result.version ≤ℤ c.if-left.most = grind (arith, ints, w.if-right.false) in
+    let h = halves t at.After-index-entries-last in
+    let later : IsMost item_version c.if-left-most.most (right_before h) c.if-right-most.most =
+    elim c.if-right-most.branch [
+      | goal.then-right-most w ↦ rw (w.most-is, ← c.new-to.ensures.sought) w.greatest_to-most.ensures.most
+      | goal.else-right-most w ↦
+          let le : c.index-entries-last.result.version ≤ℤ c.if-left-most.most = grind (arith, ints, w.if-right-most.false) in
           rw w.most-is (most_passed _ _ (right_items h) 0 _ (right_is h).describes le)
     ] in
     let middle = most_children c.args.least _ _ _ (middle_describes h) c.greatest_of-most.ensures.most in
     record {
       most = most_of_three _ _ _ _ _ (left_from_last h) (middle_items h) (right_before h) (in_two h c.if-first-last.false) middle
-          (sooner t at.Joined-left) later;
+          (sooner t at.Joined-left-most) later;
     }

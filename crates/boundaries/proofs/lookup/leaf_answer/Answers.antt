@@ -9,7 +9,7 @@ use Rattle.boundaries.proofs.Placing.{entries_from_header}
 use Rattle.boundaries.proofs.QuestionAnswers.{answered_by_leaf}
 use Rattle.boundaries.proofs.QuestionBounds.{nested}
 use Rattle.boundaries.proofs.lookup.leaf_answer.Goals as goal
-use Rattle.boundaries.proofs.lookup.leaf_answer.Goals.{After-entries-entries, After-end_in-end, else-end-entries-via-then-end-entries+else-hint, else-end-entries-via-else-end-entries}
+use Rattle.boundaries.proofs.lookup.leaf_answer.Goals.{After-entries-entries, After-end_in-end, else-end-entries-via-then-end-entries+else-eq, else-end-entries-via-else-end-entries}
 
 -- what is asked of the search in a leaf
 can_step : (c : After-entries-entries)
@@ -68,7 +68,7 @@ returns c =
       answered = answered_by_leaf _ _ _ _ _ _ _ _ _ k q.version (is_clear c.args.hint.rest) c.any_above.result refl
           (omega (arith, least, k.begin_is))
           (λ all. elim c.else-end-entries.branch [
-            | else-end-entries-via-then-end-entries+else-hint w ↦ ?
+            | else-end-entries-via-then-end-entries+else-eq w ↦ ?
             | else-end-entries-via-else-end-entries w ↦ absurd (w.if-end-entries.false (rw c.entries-entries.ensures.entries all))
           ])
           (rw (kept, c.entries-entries.ensures.entries) at c.any_above.ensures.above);

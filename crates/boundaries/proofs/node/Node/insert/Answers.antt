@@ -11,7 +11,7 @@ compute_heads-requires c =
     (all_known _ (key_heads_of other) both.1) in (
       search rules,
       known (map_spliced (λ (e : NodeEntry). e.key) (entries_of one) (entries_of other) _ at at
-          (rw c.entries-3.ensures.entries at c.replace-2.ensures.entries)),
+          (rw c.entries-2.ensures.entries at c.replace-2.ensures.entries)),
     )
   where
     open c use {args.{self.{now as one}, other.{now as other}, index as at}, requires.{headed as both}}
@@ -22,7 +22,7 @@ lengthen_prefix-requires c =
     let get : slice_get es 0 ≡ Some first = sym {b = slice_get es 0} c.in-Some.ensures.value in
     let there = keys_there es 0 first (slice_get_within es 0 first get) (get_or_from_slice_get es 0 first first get) in
     let keys = map_spliced (λ (e : NodeEntry). e.key) (entries_of one) (entries_of other) _ at at
-    (rw c.entries-2.ensures.entries at c.replace.ensures.entries) in
+    (rw c.entries-then-begins.ensures.entries at c.replace.ensures.entries) in
     let joined = headed_joined bytes (key_heads_of one) (key_heads_of other) c.requires.headed.0 c.requires.headed.1 first.key
     c.if-self-other.true (rw c.entries.ensures.entries at there) (c.if-begins.ensures.has_prefix c.if-begins.true) _ at keys
     heads.prefix_len (rw c.heads.ensures.heads at heads.heads_are) in

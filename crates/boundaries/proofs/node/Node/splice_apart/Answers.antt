@@ -1,4 +1,4 @@
-use Rattle.std.proofs.Common.{rules, ◌≡◌, ◌++◌, ◌∙◌, ℕ, List, Some, take, drop, refl, sym, All}
+use Rattle.std.proofs.Common.{rules, ◌≡◌, ◌++◌, ◌∙◌, ℕ, true, List, Option, None, Some, is_some, take, drop, refl, sym, All}
 use Rattle.std.proofs.lemmas.List.{length-map, map-append}
 use Rattle.boundaries.proofs.Words.{NodeEntry, AreHeads, IsKnown, KeyBytes, KeyHeads, entries_of, key_at, key_heads_of, keys_of}
 use Rattle.boundaries.proofs.HeadChanges.{headed_apart, headed_spliced, known_spliced, map_spliced}
@@ -44,6 +44,23 @@ module _ (c : After-replace_apart-right) where
       let can = c.requires.can_splice in
       let all = known_spliced bytes node can.headed (keys_of c.args.splice.new.now) _ c.args.splice.from c.args.splice.to can.known keys in
       (All-front (IsKnown bytes) left.keys right.keys all, All-back (IsKnown bytes) left.keys right.keys all)
+
+-- there are heads where that is told
+given : (o : Option (List ℕ)) → is_some o ≡ true → (heads : List ℕ) × (o ≡ Some heads)
+given None some = absurd (cc)
+given (Some heads) some = (heads, refl)
+
+pub lengthen_prefix-requires : goal.lengthen_prefix-requires
+lengthen_prefix-requires c =
+    let s = (goal.at.lengthen_prefix-requires c).After-replace_apart-right in
+    let some = given c.args.splice.heads (sym c.is_some.ensures ∙ c.if-is_some.true) in
+    (search rules, (both_headed s some.0 some.1).0)
+
+pub lengthen_prefix-requires-then-is_some : goal.lengthen_prefix-requires-then-is_some
+lengthen_prefix-requires-then-is_some c =
+    let s = (goal.at.lengthen_prefix-requires-then-is_some c).After-replace_apart-right in
+    let some = given c.args.splice.heads (sym c.is_some.ensures ∙ c.if-is_some.true) in
+    (search rules, (both_headed s some.0 some.1).1)
 
 pub compute_heads-requires : goal.compute_heads-requires
 compute_heads-requires c = (search rules, (known (goal.at.compute_heads-requires c).After-replace_apart-right).0)
