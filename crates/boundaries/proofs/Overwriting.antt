@@ -1,5 +1,5 @@
 -- What the first key behind a bound tells of what stands between it and another one.
-use Rattle.std.proofs.Common.{◌≡◌, ◌≢◌, ℕ, inl, inr, Bool, true, false, not, ◌&&◌, List, [], ◌∷◌, None, Some, filter, IsTrue, refl}
+use Rattle.std.proofs.Common.{◌≡◌, ◌≢◌, ℕ, inl, inr, Bool, not, ◌&&◌, List, [], ◌∷◌, None, Some, filter, IsTrue, refl}
 use Rattle.std.proofs.lemmas.Bool.{cases_Bool}
 use Rattle.boundaries.specs.Item.{Item}
 use Rattle.boundaries.specs.Overwrite.{first_is_below}

@@ -1,15 +1,13 @@
 -- A bound in stored boundaries parts them as their keys say.
-use Rattle.std.proofs.Common.{◌≡◌, ℕ, Bool, true, false, not, List, [], ◌∷◌, Option, None, Some, map, filter, refl, sym, ◌∙◌, ap, inl, inr, unwrap_or, Less, Equal, Greater, option_map}
+use Rattle.std.proofs.Common.{◌≡◌, ℕ, Bool, true, false, not, List, [], ◌∷◌, Option, None, Some, map, filter, refl, ◌∙◌, ap, inl, inr, unwrap_or, option_map}
 use Rattle.std.specs.Prelude.{IsSome}
 use Rattle.std.specs.List.{All}
 use Rattle.std.proofs.lemmas.List.Elements.{All-head, All-tail, All-cons, All-nil, All-weaker}
-use Rattle.std.specs.Cmp.Lexicographic.{slice_cmp}
-use Rattle.std.specs.Ordering.{nat_cmp, is_le, is_lt}
-use Rattle.arena.specs.Arena.{Record, IsLive, record_at, key_at}
+use Rattle.arena.specs.Arena.{Record, IsLive, record_at}
 use Rattle.boundaries.specs.Item.{Item}
 use Rattle.boundaries.specs.Path.{IsPartitioned, items_below, following}
 use Rattle.boundaries.proofs.callers.Partitions.{none_pass}
-use Rattle.keys.proofs.callers.KeyOrder.{before_trans, is_le-cmp}
+use Rattle.keys.proofs.callers.KeyOrder.{before_trans}
 use Rattle.keys.proofs.callers.Booleans.{true_or_false, false_unless, not_both_ways}
 use Rattle.boundaries.specs.Boundary.{Boundary, RiseFrom}
 use Rattle.boundaries.specs.Bound.{is_below_at, slot_is_below}
