@@ -1,27 +1,10 @@
--- What is put in place of a run: one entry, and a second one unless the run is ended.
-use Rattle.std.proofs.Common.{◌≡◌, ◌≢◌, ℕ, ◌≤◌, inl, inr, Bool, true, false, not, ◌&&◌, if◌then◌else◌, List}
-use Rattle.std.proofs.Common.{[], ◌∷◌, ◌++◌, None, Some, length, filter, IsTrue}
-use Rattle.std.proofs.Common.{map, refl, ap, arith}
+-- What the first key behind a bound tells of what stands between it and another one.
+use Rattle.std.proofs.Common.{◌≡◌, ◌≢◌, ℕ, inl, inr, Bool, not, ◌&&◌, List, [], ◌∷◌, None, Some, filter, IsTrue, refl}
 use Rattle.std.proofs.lemmas.Bool.{cases_Bool}
-use Rattle.boundaries.specs.declared.entry.NodeEntry.{NodeEntry}
-use Rattle.boundaries.specs.Item.{Item, item_of}
+use Rattle.boundaries.specs.Item.{Item}
 use Rattle.boundaries.specs.Overwrite.{first_is_below}
 use Rattle.boundaries.specs.Path.{IsPartitioned, between, items_below, following, first_key}
-use Rattle.boundaries.specs.Items.{ended_by}
 use Rattle.boundaries.proofs.callers.Partitions.{IsPartitioned-parts, not_both, none_pass, rest_fails}
-
--- the entries that are put in
-abbrev pub entries_put : Bool → NodeEntry → NodeEntry → List NodeEntry
-entries_put ended first second = first ∷ (if ended then [] else second ∷ [])
-
-pub at_most_two : (ended : Bool) (first second : NodeEntry) → length (entries_put ended first second) ≤ 2
-at_most_two true first second = omega arith
-at_most_two false first second = omega arith
-
-pub items_put : (ended : Bool) (first second : NodeEntry) (x : Item) (others : List Item) → item_of second ≡ x
-    → map item_of (entries_put ended first second) ++ others ≡ item_of first ∷ (ended_by ended x ++ others)
-items_put true first second x others is = refl
-items_put false first second x others is = ap (λ y. item_of first ∷ (y ∷ others)) is
 
 -- those that are below the second bound, of those that aren't below the first
 pub between_is : (q r : ℕ → Bool) (items : List Item)

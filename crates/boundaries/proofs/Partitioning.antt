@@ -1,15 +1,13 @@
 -- A bound in stored boundaries parts them as their keys say.
-use Rattle.std.proofs.Common.{◌≡◌, ℕ, Bool, true, false, not, List, [], ◌∷◌, Option, None, Some, map, filter, refl, sym, ◌∙◌, ap, inl, inr, unwrap_or, Less, Equal, Greater, option_map}
+use Rattle.std.proofs.Common.{◌≡◌, ℕ, Bool, true, false, not, List, [], ◌∷◌, Option, None, Some, map, filter, refl, ◌∙◌, ap, inl, inr, unwrap_or, option_map}
 use Rattle.std.specs.Prelude.{IsSome}
 use Rattle.std.specs.List.{All}
 use Rattle.std.proofs.lemmas.List.Elements.{All-head, All-tail, All-cons, All-nil, All-weaker}
-use Rattle.std.specs.Cmp.Lexicographic.{slice_cmp}
-use Rattle.std.specs.Ordering.{nat_cmp, is_le, is_lt}
-use Rattle.arena.specs.Arena.{Record, IsLive, record_at, key_at}
+use Rattle.arena.specs.Arena.{Record, IsLive, record_at}
 use Rattle.boundaries.specs.Item.{Item}
 use Rattle.boundaries.specs.Path.{IsPartitioned, items_below, following}
 use Rattle.boundaries.proofs.callers.Partitions.{none_pass}
-use Rattle.keys.proofs.callers.KeyOrder.{before_trans, is_le-cmp}
+use Rattle.keys.proofs.callers.KeyOrder.{before_trans}
 use Rattle.keys.proofs.callers.Booleans.{true_or_false, false_unless, not_both_ways}
 use Rattle.boundaries.specs.Boundary.{Boundary, RiseFrom}
 use Rattle.boundaries.specs.Bound.{is_below_at, slot_is_below}
@@ -58,29 +56,6 @@ module _ (f : Item → Boundary) (p : Item → Bool) (q : Boundary → Bool) whe
               rw (n', all.0, all.1) refl
         ]
 
--- what a comparison of a key with that of the bound tells
-module _ (up_to : Bool) (key k : List ℕ) where
-  pub less_passes : slice_cmp nat_cmp k key ≡ Less → true ≡ is_below_at up_to key k
-  less_passes e =
-      elim up_to as (λ u. true ≡ is_below_at u key k) [
-        | true ↦ sym (sym (is_le-cmp k key) ∙ ap is_le e)
-        | false ↦ sym (ap is_lt e)
-      ]
-
-  pub equal_passes : slice_cmp nat_cmp k key ≡ Equal → up_to ≡ is_below_at up_to key k
-  equal_passes e =
-      elim up_to as (λ u. u ≡ is_below_at u key k) [
-        | true ↦ sym (sym (is_le-cmp k key) ∙ ap is_le e)
-        | false ↦ sym (ap is_lt e)
-      ]
-
-  pub greater_fails : slice_cmp nat_cmp k key ≡ Greater → false ≡ is_below_at up_to key k
-  greater_fails e =
-      elim up_to as (λ u. false ≡ is_below_at u key k) [
-        | true ↦ sym (sym (is_le-cmp k key) ∙ ap is_le e)
-        | false ↦ sym (ap is_lt e)
-      ]
-
 pub passes_falls : (up_to : Bool) (key : List ℕ) → FallsAlongKeys (λ b. is_below_at up_to key b.key)
 passes_falls true key = up_to_falls key
 passes_falls false key = λ b c l h. before_trans b.key c.key key l h
@@ -95,11 +70,6 @@ module _ (keys : Keys) where
           ≡ is_below_at up_to key (unwrap_or (option_map (λ x. x.key) r) [])
       of_record (Some r) s = refl
       of_record None s = cc
-
-  -- whether a slot passes, by its key
-  pub slot_is_below_key : (up_to : Bool) (key k : List ℕ) (slot : ℕ) → key_at keys slot ≡ Some k
-      → slot_is_below keys up_to key slot ≡ is_below_at up_to key k
-  slot_is_below_key up_to key k slot e = ap (λ o. unwrap_or (option_map (is_below_at up_to key) o) false) e
 
   -- what a bound does to stored boundaries
   pub record ArePartitioned (items : List Item) (up_to : Bool) (key : List ℕ) : Type 0 where
