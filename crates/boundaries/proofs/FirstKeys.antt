@@ -1,5 +1,5 @@
 -- The first key of a child's entries is that of its entry.
-use Rattle.std.proofs.Common.{◌≡◌, ℕ, zero, suc, ◌-◌, ◌≤◌, Bool, List, [], ◌∷◌, Some, length, get_or, slice_get, flat_map, All, refl, sym, ◌∙◌, ap, arith, ◌≤ℤ◌, Option}
+use Rattle.std.proofs.Common.{◌≡◌, ℕ, zero, suc, ◌-◌, ◌≤◌, Bool, List, [], ◌∷◌, Some, length, get_or, slice_get, flat_map, All, refl, sym, ◌∙◌, ap, arith, ◌≤ℤ◌}
 use Rattle.std.proofs.lemmas.Int.{ints}
 use Rattle.std.proofs.lemmas.List.Concat.{flat_map_single}
 use Rattle.std.proofs.lemmas.List.Elements.{All-cons, All-nil, All-head}
@@ -38,7 +38,7 @@ module _ (nodes : Arena Node) (least : ℕ) where
 
   -- What is known of the key of an entry is known of that of its child's first entry, which is the same.
   pub knows_child : (height : ℕ) (e : NodeEntry) (child : ℕ) (bytes : KeyBytes) (is_below : ℕ → Bool) (target : List ℕ)
-      (known : Option ℕ) → IsChild nodes least height (IsSubtree nodes least height) e → child ≡ e.child
+      (known : ℕ) → IsChild nodes least height (IsSubtree nodes least height) e → child ≡ e.child
       → IsCommonPrefix bytes is_below target known e.key → IsCommonPrefixAt bytes is_below target known (entries_at nodes child) 0
   knows_child height e child bytes is_below target known right same knows first at =
       let t = right.describes in
@@ -49,7 +49,7 @@ module _ (nodes : Arena Node) (least : ℕ) where
 -- What a search finds out at an entry holds of the first key of the child at which it goes on.
 module _ (nodes : Arena Node) (least height slot : ℕ) (is_below : ℕ → Bool) (child : ℕ)
     (f : IsFound nodes least height slot is_below child) where
-  pub known_below : (bytes : KeyBytes) (target : List ℕ) (known : Option ℕ) (header : Node) (index : ℕ)
+  pub known_below : (bytes : KeyBytes) (target : List ℕ) (known : ℕ) (header : Node) (index : ℕ)
       → header_at nodes slot ≡ Some header → index ≡ index_in is_below (entries_of header)
       → IsCommonPrefixAt bytes is_below target known (entries_of header) index
       → IsCommonPrefixAt bytes is_below target known (entries_at nodes child) 0

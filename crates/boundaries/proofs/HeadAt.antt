@@ -167,7 +167,7 @@ module _ (bytes : KeyBytes) (node : Node) (h : AreHeads bytes (key_heads_of node
 
   -- Where the first key isn't empty and is below the bound, and differs from the target before all keys' common beginning ends,
   -- all entries are below the bound. That is known of the first one.
-  pub all_known : (common_prefix_len : ℕ) → 0 < length es → IsCommonPrefixAt bytes is_below target (Some common_prefix_len) es 0
+  pub all_known : (common_prefix_len : ℕ) → 0 < length es → IsCommonPrefixAt bytes is_below target common_prefix_len es 0
       → (own_head 0 ≢ 0 → common_prefix_len < node.prefix_len) → own_head 0 ≢ 0 → length (filter passes es) ≡ length es
   all_known common_prefix_len some knows less filled =
       let first = entry_at es 0 some in

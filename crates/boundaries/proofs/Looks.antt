@@ -46,7 +46,7 @@ module _ {store : Store} {bound : KeyBound} {least height slot : ℕ} {node : No
       let some = rw read at can.some in
       search rules
 
-  pub can_step_at : {known : ℕ} → IsCommonPrefixAt (key_at store.keys) (is_below store.keys bound) bound.key.now (Some known)
+  pub can_step_at : {known : ℕ} → IsCommonPrefixAt (key_at store.keys) (is_below store.keys bound) bound.key.now known
       (entries_at store.nodes slot) 0 → CanStep store.keys bound node known
   can_step_at knows = record { can_find = can_find_at; known = rw read at knows }
 

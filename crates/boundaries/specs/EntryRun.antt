@@ -1,5 +1,5 @@
 -- The run of a leaf that is written over. This project's own.
-use Rattle.std.specs.Prelude.{◌≡◌, ◌≢◌, ◌≤◌, ◌<◌, ◌+◌, ◌-◌, ◌⊎◌, ◌++◌, ◌∷◌, ℕ, ℤ, Bool, List, [], length, map, take, drop, slice_get, if◌then◌else◌, true, false, Option, None, Some, unwrap_or, IsTrue}
+use Rattle.std.specs.Prelude.{◌≡◌, ◌≢◌, ◌≤◌, ◌<◌, ◌+◌, ◌-◌, ◌++◌, ◌∷◌, ℕ, ℤ, Bool, [], length, map, take, drop, slice_get, if◌then◌else◌, true, false, Option, None, Some, unwrap_or}
 use Rattle.arena.specs.Arena.{IsLive, header_at, spare_of}
 use Rattle.boundaries.specs.declared.descent.Position.{Position}
 use Rattle.boundaries.specs.declared.entry.NodeEntry.{NodeEntry}
@@ -9,12 +9,12 @@ use Rattle.boundaries.specs.declared.overwrite.Overwrite.{Overwrite}
 use Rattle.boundaries.specs.declared.run.EntryRun.{EntryRun}
 use Rattle.boundaries.specs.declared.store.Store.{Store}
 use Rattle.boundaries.specs.declared.walk.RaisedLeaf.{RaisedLeaf}
-use Rattle.boundaries.specs.Bound.{Keys, is_below}
+use Rattle.boundaries.specs.Bound.{Keys}
 use Rattle.boundaries.specs.Children.{items_with}
 use Rattle.boundaries.specs.Finding.{HasHead, IsLowerBound}
-use Rattle.boundaries.specs.Item.{Item, item_of, version_of}
+use Rattle.boundaries.specs.Item.{item_of, version_of}
 use Rattle.boundaries.specs.Items.{IsLast, ended_by}
-use Rattle.boundaries.specs.Node.{IsHeaded, entries_of, keys_of}
+use Rattle.boundaries.specs.Node.{keys_of}
 use Rattle.boundaries.specs.Overwrite.{before_start, before_end, up_to_end, bound_from, bound_to, first_is_below, GivesEntire, HasKeyRoom}
 use Rattle.boundaries.specs.Path.{IsPartitioned, items_below, following, first_key}
 use Rattle.boundaries.specs.Position.{CanSearch}

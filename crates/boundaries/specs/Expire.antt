@@ -1,5 +1,5 @@
 -- What becomes of a run of items that is swept of expired items. This project's own.
-use Rattle.std.specs.Prelude.{◌≡◌, ◌≢◌, ◌≤◌, ◌++◌, ◌∷◌, ℕ, ℤ, List, [], length, map, Option}
+use Rattle.std.specs.Prelude.{◌≡◌, ◌≤◌, ◌++◌, ◌∷◌, ℕ, ℤ, List, [], length, map, Option}
 use Rattle.std.proofs.Common.{ap, ◌∙◌}
 use Rattle.boundaries.specs.declared.expiry.Removal.{Removal}
 use Rattle.boundaries.specs.declared.key_bound.KeyBound.{KeyBound}

@@ -1,5 +1,5 @@
 -- What a search in a node goes by, and what it finds. This project's own.
-use Rattle.std.specs.Prelude.{◌≡◌, ◌≢◌, ◌≤◌, ◌<◌, ℕ, Bool, List, take, filter, length, get_or, slice_get, Option, None, Some, IfSome, IsTrue}
+use Rattle.std.specs.Prelude.{◌≡◌, ◌≢◌, ◌≤◌, ◌<◌, ℕ, Bool, List, take, filter, length, get_or, slice_get, Option, None, Some, IfSome}
 use Rattle.arena.specs.Arena.{key_at}
 use Rattle.boundaries.specs.declared.entry.NodeEntry.{NodeEntry}
 use Rattle.boundaries.specs.declared.key_bound.KeyBound.{KeyBound}
@@ -36,7 +36,7 @@ pub record CanFind (keys : Keys) (bound : KeyBound) (node : Node) : Type 0 where
 -- The entry at an index is below the bound, and its key and the bound's have a common prefix of this length.
 abbrev pub IsKnownAt : Keys → KeyBound → Node → ℕ → ℕ → Type 0
 IsKnownAt keys bound node index known =
-    IsCommonPrefixAt (key_at keys) (is_below keys bound) bound.key.now (Some known) (entries_of node) index
+    IsCommonPrefixAt (key_at keys) (is_below keys bound) bound.key.now known (entries_of node) index
 
 -- a node that can be searched, and what is known of its first key
 pub record CanStep (keys : Keys) (bound : KeyBound) (node : Node) (common_prefix_len : ℕ) : Type 0 where

@@ -1,5 +1,5 @@
 -- What nodes know of the bytes of keys. This project's own.
-use Rattle.std.specs.Prelude.{◌≡◌, ◌⊎◌, ◌≤◌, ◌↔◌, ◌/◌, ℕ, Bool, true, false, List, [], length, map, take, drop, Option, Some, slice_get, unwrap_or, IfSome, MatchOption}
+use Rattle.std.specs.Prelude.{◌≡◌, ◌⊎◌, ◌≤◌, ◌↔◌, ◌/◌, ℕ, Bool, true, false, List, [], length, map, take, drop, Option, Some, slice_get, unwrap_or, IfSome}
 use Rattle.std.specs.List.{All, AllZip, Contains}
 use Rattle.keys.specs.Key.{IsBytes, IsBefore}
 use Rattle.keys.specs.Head.{head_of}
@@ -60,14 +60,13 @@ HaveCommonPrefix common_prefix_len text target = (count : ℕ) → count ≤ len
 abbrev pub IsCommonPrefixLen : ℕ → List ℕ → List ℕ → Type 0
 IsCommonPrefixLen common_prefix_len text target = (count : ℕ) → count ≤ length text → (count ≤ common_prefix_len) ↔ (take count text ≡ take count target)
 
--- What is known of a key: the length of its common prefix with the target, or that it isn't below the bound.
-abbrev pub IsCommonPrefix : KeyBytes → (ℕ → Bool) → List ℕ → Option ℕ → ℕ → Type 0
+-- The key is below the bound, and its common prefix with the target has this length.
+abbrev pub IsCommonPrefix : KeyBytes → (ℕ → Bool) → List ℕ → ℕ → ℕ → Type 0
 IsCommonPrefix bytes is_below target known key =
-    MatchOption known (is_below key ≡ false)
-    (λ common_prefix_len. (is_below key ≡ true) × ((text : List ℕ) → bytes key ≡ Some text → IsCommonPrefixLen common_prefix_len text target))
+    (is_below key ≡ true) × ((text : List ℕ) → bytes key ≡ Some text → IsCommonPrefixLen known text target)
 
--- what is known of the key of the entry at an index
-abbrev pub IsCommonPrefixAt : KeyBytes → (ℕ → Bool) → List ℕ → Option ℕ → List NodeEntry → ℕ → Type 0
+-- the same of the key of the entry at an index
+abbrev pub IsCommonPrefixAt : KeyBytes → (ℕ → Bool) → List ℕ → ℕ → List NodeEntry → ℕ → Type 0
 IsCommonPrefixAt bytes is_below target known entries index =
     (e : NodeEntry) → slice_get entries index ≡ Some e → IsCommonPrefix bytes is_below target known e.key
 

@@ -1,6 +1,6 @@
 -- Runs of items, and what a sweep leaves of them. This project's own.
-use Rattle.std.specs.Prelude.{◌≡◌, ℤ, int_lt, Bool, ◌&&◌, if◌then◌else◌, List, [], ◌∷◌, ◌++◌, map}
-use Rattle.boundaries.specs.Item.{Item, version_of}
+use Rattle.std.specs.Prelude.{◌≡◌, ℤ, int_lt, Bool, ◌&&◌, if◌then◌else◌, List, [], ◌∷◌, ◌++◌}
+use Rattle.boundaries.specs.Item.{Item}
 
 -- the last of a list
 abbrev pub IsLast : {X : Type 0} → X → List X → Type 0

@@ -1,6 +1,5 @@
 -- What a contract sees of a node. This project's own.
 use Rattle.std.specs.Prelude.{◌≡◌, ◌++◌, ℕ, List, length, map, take, Option, option_map}
-use Rattle.std.specs.FinMap as finite
 use Rattle.arena.specs.Arena.{Arena, header_at, key_at}
 use Rattle.boundaries.specs.declared.entry.NodeEntry.{NodeEntry}
 use Rattle.boundaries.specs.declared.node.Node.{Node}

@@ -1,5 +1,5 @@
 -- What is written over a run of items. This project's own.
-use Rattle.std.specs.Prelude.{◌≡◌, ◌≢◌, ◌⊎◌, ◌<◌, ◌+◌, ◌++◌, ℕ, ℤ, Bool, true, false, List, [], ◌∷◌, length, map, if◌then◌else◌, Option, None, Some, unwrap_or}
+use Rattle.std.specs.Prelude.{◌≡◌, ◌≢◌, ◌⊎◌, ◌++◌, ℕ, ℤ, Bool, true, false, List, [], ◌∷◌, length, map, if◌then◌else◌, Option, None, Some, unwrap_or}
 use Rattle.std.proofs.Common.{ap, sym, subst, ◌∙◌, append_assoc}
 use Rattle.arena.specs.Arena.{HasRoomFor, spare_of}
 use Rattle.boundaries.specs.declared.key_bound.KeyBound.{KeyBound}

@@ -1,5 +1,5 @@
 -- The search for the leaf of a tree where a bound goes through its items. This project's own.
-use Rattle.std.specs.Prelude.{◌≡◌, ◌≤◌, ◌<◌, ◌+◌, ℕ, Bool, true, List, [], drop, length, map, slice_get, Some}
+use Rattle.std.specs.Prelude.{◌≡◌, ◌≤◌, ◌+◌, ℕ, Bool, true, [], drop, length, map, slice_get, Some}
 use Rattle.arena.specs.Arena.{Arena, key_at}
 use Rattle.boundaries.specs.declared.descent.Position.{Position}
 use Rattle.boundaries.specs.declared.entry.NodeEntry.{NodeEntry}
@@ -30,7 +30,7 @@ CanBeSearched store bound height slot =
 -- The first key of a subtree is below the bound, and its common prefix with the bound's key has this length.
 abbrev pub IsFirstKnown : Store → KeyBound → ℕ → ℕ → Type 0
 IsFirstKnown store bound slot known =
-    IsCommonPrefixAt (key_at store.keys) (is_below store.keys bound) bound.key.now (Some known) (entries_at store.nodes slot) 0
+    IsCommonPrefixAt (key_at store.keys) (is_below store.keys bound) bound.key.now known (entries_at store.nodes slot) 0
 
 -- a subtree to which a search has come
 pub record CanSearch (store : Store) (bound : KeyBound) (height slot common_prefix_len : ℕ) : Type 0 where

@@ -1,8 +1,7 @@
 -- What answers a question: the leaf to which it leads, or else the keys. This project's own.
-use Rattle.std.specs.Prelude.{◌≡◌, ◌≢◌, ◌≤◌, ◌<ℤ◌, ◌↔◌, ◌++◌, ℕ, ℤ, Bool, true, false, List, [], ◌∷◌, drop, length, Option, Some, IfSome, IsTrue}
+use Rattle.std.specs.Prelude.{◌≡◌, ◌≢◌, ◌≤◌, ◌<ℤ◌, ◌↔◌, ◌++◌, ℕ, ℤ, Bool, true, false, List, [], drop, length, Option, Some, IfSome, IsTrue}
 use Rattle.std.specs.List.{All, Any}
-use Rattle.arena.specs.Arena.{IsLive, key_at}
-use Rattle.keys.specs.Key.{IsBytes}
+use Rattle.arena.specs.Arena.{IsLive}
 use Rattle.keys.specs.declared.range.Range.{Range}
 use Rattle.boundaries.specs.declared.approach.Approach.{Approach}
 use Rattle.boundaries.specs.declared.approach.Approach.TheVariants.{Leaf, Clear, Open}

@@ -1,14 +1,12 @@
 -- What must hold where nodes are changed, and the ones above them made right. This project's own.
-use Rattle.std.specs.Prelude.{◌≡◌, ◌≢◌, ◌≤◌, ◌<◌, ◌+◌, ◌∷◌, ℕ, suc, List, [], length, nat_eq, Option, Some, IfSome}
-use Rattle.std.specs.List.{All, IsDistinct}
+use Rattle.std.specs.Prelude.{◌≡◌, ◌≢◌, ◌≤◌, ◌<◌, ◌+◌, ◌∷◌, ℕ, [], length, nat_eq, Option, Some, IfSome}
+use Rattle.std.specs.List.{IsDistinct}
 use Rattle.std.specs.FinMap as map_of
-use Rattle.arena.specs.Arena.{Arena, IsLive, header_at, key_at, spare_of}
-use Rattle.boundaries.specs.declared.entry.NodeEntry.{NodeEntry}
+use Rattle.arena.specs.Arena.{Arena, IsLive, header_at, spare_of}
 use Rattle.boundaries.specs.declared.node.Node.{Node}
-use Rattle.boundaries.specs.declared.node.TheConstants.{FAN_OUT, HALF_FULL}
+use Rattle.boundaries.specs.declared.node.TheConstants.{HALF_FULL}
 use Rattle.boundaries.specs.declared.node.splice.Splice.{Splice}
 use Rattle.boundaries.specs.declared.store.Store.{Store}
-use Rattle.boundaries.specs.Bound.{Keys}
 use Rattle.boundaries.specs.Children.{child_at, slot_taken, slots_with, Changes, IsFamilyAt, IsKeyless}
 use Rattle.boundaries.specs.Heads.{AllAreHeads, AreHeads, KeyBytes}
 use Rattle.boundaries.specs.Node.{all_heads_of, entries_of, key_heads_of}

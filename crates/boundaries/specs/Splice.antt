@@ -1,5 +1,5 @@
 -- Entries that replace others of a node, and two nodes that share entries. This project's own.
-use Rattle.std.specs.Prelude.{◌≤◌, ◌++◌, ℕ, List, length, take, drop, IfSome}
+use Rattle.std.specs.Prelude.{◌≤◌, ◌++◌, List, length, take, drop, IfSome}
 use Rattle.std.specs.List.{All}
 use Rattle.arena.specs.Arena.{key_at}
 use Rattle.boundaries.specs.declared.entry.NodeEntry.{NodeEntry}

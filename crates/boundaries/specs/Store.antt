@@ -1,6 +1,6 @@
 -- What boundaries are stored in: keys, and the nodes of a tree over them. This project's own.
-use Rattle.std.specs.Prelude.{◌≡◌, ◌≢◌, ◌≤◌, ◌+◌, ◌-◌, ◌*◌, ℕ, List, [], ◌∷◌, length, map, nat_eq, Option, None, Some}
-use Rattle.std.specs.List.{All, Contains, IsDistinct}
+use Rattle.std.specs.Prelude.{◌≡◌, ◌≢◌, ◌≤◌, ◌+◌, ◌-◌, ◌*◌, ℕ, List, [], ◌∷◌, length, nat_eq, Option, None, Some}
+use Rattle.std.specs.List.{IsDistinct}
 use Rattle.std.specs.FinMap as finite
 use Rattle.arena.specs.Arena.{IsLive, key_at, record_at, spare_of, wanted_of}
 use Rattle.boundaries.specs.declared.boundary_list.TheConstants.{LONGEST_PATH}
