@@ -33,22 +33,26 @@ look_bound nodes least (suc height) slot is_below header es s c h e =
     read_partitioned nodes least (suc height) slot is_below header es (λ z. omega arith) s c h e
 
 -- A node that the code has read can be searched.
-module _ {store : Store} {bound : KeyBound} {least height slot : ℕ} {node : Node}
-    (can : IsSearchable (key_at store.keys) (is_below store.keys bound) store.nodes least height slot)
-    (header : header_at store.nodes slot ≡ Some node) where
-  abbrev read : entries_at store.nodes slot ≡ entries_of node
-  read = entries_from_header store.nodes slot node header
+pub can_find_at : (store : Store) (bound : KeyBound) {least height slot : ℕ} {node : Node}
+    → IsSearchable (key_at store.keys) (is_below store.keys bound) store.nodes least height slot
+    → header_at store.nodes slot ≡ Some node → CanFind store.keys bound node
+can_find_at store bound {least} {height} {slot} {node} can header =
+    let read = entries_from_header store.nodes slot node header in
+    record {
+      headed = headed_at (key_at store.keys) store.nodes slot node can.headed header;
+      partitioned = look_bound store.nodes least height slot (is_below store.keys bound) node _ can.subtree can.partitioned header refl;
+      some = rw read at can.some;
+    }
 
-  pub can_find_at : CanFind store.keys bound node
-  can_find_at =
-      let headed = headed_at (key_at store.keys) store.nodes slot node can.headed header in
-      let partitioned = look_bound store.nodes least height slot (is_below store.keys bound) node _ can.subtree can.partitioned header refl in
-      let some = rw read at can.some in
-      search rules
-
-  pub can_step_at : {known : ℕ} → IsCommonPrefixAt (key_at store.keys) (is_below store.keys bound) bound.key.now known
-      (entries_at store.nodes slot) 0 → CanStep store.keys bound node known
-  can_step_at knows = record { can_find = can_find_at; known = rw read at knows }
+pub can_step_at : (store : Store) (bound : KeyBound) {least height slot known : ℕ} {node : Node}
+    → IsSearchable (key_at store.keys) (is_below store.keys bound) store.nodes least height slot
+    → header_at store.nodes slot ≡ Some node
+    → IsCommonPrefixAt (key_at store.keys) (is_below store.keys bound) bound.key.now known (entries_at store.nodes slot) 0
+    → CanStep store.keys bound node known
+can_step_at store bound {least} {height} {slot} {known} {node} can header knows = record {
+  can_find = can_find_at store bound can header;
+  known = rw (entries_from_header store.nodes slot node header) at knows;
+}
 
 module _ (nodes : Arena Node) (least height slot : ℕ) (f t : ℕ → Bool) (es : List NodeEntry)
     (begin end : ℕ) (k : IsLook nodes least height slot f t es begin end) where

@@ -65,41 +65,35 @@ both_filled n w slot None few half = tt
 both_filled n w slot (Some s) few half = (omega (arith, half.left), omega (arith, half.right))
 
 module _ {old : Store} {height lower slot i x : ℕ} (at : IsAt old.nodes height lower slot i x) where
-  abbrev a : Arena Node
-  a = old.nodes
-
-  abbrev es : List NodeEntry
-  es = entries_at a slot
-
   -- The child was changed, and wasn't split.
   module _ {between : Store} {outcome : LeafOutcome} (put : IsChanged old between lower x outcome)
       (entire : added_by outcome ≡ None) where
     abbrev b : Arena Node
     b = between.nodes
 
-    moves : Moves a b (slots_in a lower x) (slots_in b lower x)
-    moves = moves_if_changes a b _ _ (subst (λ o. Changes a b (slots_in a lower x) (slots_with b lower x o)) entire put.changes)
+    moves : Moves old.nodes b (slots_in old.nodes lower x) (slots_in b lower x)
+    moves = moves_if_changes old.nodes b _ _ (subst (λ o. Changes old.nodes b (slots_in old.nodes lower x) (slots_with b lower x o)) entire put.changes)
 
-    loosened : Loose a b HALF_FULL lower (take i es) (here at ∷ []) (drop (i + 1) es) (here at ∷ [])
+    loosened : Loose old.nodes b HALF_FULL lower (take i (entries_at old.nodes slot)) (here at ∷ []) (drop (i + 1) (entries_at old.nodes slot)) (here at ∷ [])
     loosened = loose_at at (here at ∷ []) (rw (one_slots at b) at moves)
 
-    own : Moves a b (slots_in a (suc lower) slot) (slot ∷ slots_of b lower es)
-    own = moves_own lower slot es at.few at.subtree.0 (rw (split at) loosened.moves)
+    own : Moves old.nodes b (slots_in old.nodes (suc lower) slot) (slot ∷ slots_of b lower (entries_at old.nodes slot))
+    own = moves_own lower slot (entries_at old.nodes slot) at.few at.subtree.0 (rw (split at) loosened.moves)
 
     pub family : IsFamilyAt b HALF_FULL lower slot i (i + 1)
     family =
         let Below = λ (e : NodeEntry). IsSubtree b HALF_FULL lower e.child in
-        let all = All-append Below (take i es) (here at ∷ [] ++ drop (i + 1) es) (below_of b _ lower _ loosened.front)
-        (All-cons Below (here at) (drop (i + 1) es) (rw at.x_is at put.subtree) (below_of b _ lower _ loosened.back)) in
-        let loose : IsFamily b HALF_FULL lower es i (i + 1) = record {
-          distinct = distinct_if_once (slots_of b lower es) (λ s. omega (arith, own.few s));
+        let all = All-append Below (take i (entries_at old.nodes slot)) (here at ∷ [] ++ drop (i + 1) (entries_at old.nodes slot)) (below_of b _ lower _ loosened.front)
+        (All-cons Below (here at) (drop (i + 1) (entries_at old.nodes slot)) (rw at.x_is at put.subtree) (below_of b _ lower _ loosened.back)) in
+        let loose : IsFamily b HALF_FULL lower (entries_at old.nodes slot) i (i + 1) = record {
+          distinct = distinct_if_once (slots_of b lower (entries_at old.nodes slot)) (λ s. omega (arith, own.few s));
           below = rw (split at) all;
           before = loosened.front;
           following = loosened.back;
         } in
         record {
           family = rw (read_beside at moves) loose;
-          apart = rw (read_beside at moves) (λ has. let below = times_if_contains slot (slots_of b lower es) has in
+          apart = rw (read_beside at moves) (λ has. let below = times_if_contains slot (slots_of b lower (entries_at old.nodes slot)) has in
               absurd (omega (arith, own.few slot, once_same slot)));
         }
 
@@ -122,7 +116,7 @@ module _ {old : Store} {height lower slot i x : ℕ} (at : IsAt old.nodes height
         → HALF_FULL ≤ length (entries_at b (child_at (entries_at b slot) i))
     child_filled leaf is =
         let answered = put.raised leaf is in
-        let was : HALF_FULL ≤ length (entries_at a x) = rw at.x_is (child_right at).filled in
+        let was : HALF_FULL ≤ length (entries_at old.nodes x) = rw at.x_is (child_right at).filled in
         let now : HALF_FULL ≤ length (entries_at b x) =
         elim (none_or_some lower) [
           | inl none ↦ answered.filled none
@@ -140,34 +134,34 @@ module _ {old : Store} {height lower slot i x : ℕ} (at : IsAt old.nodes height
         let new = record (here at) { version = leaf.version } in
         let apart : (s : ℕ) → 1 ≤ times s (slots_in b lower x) → s ≢ slot = λ s some own. (
         let none = moves.from slot (rw own at some) (omega (arith, child_once at slot, once_same slot)) in
-        let dead : is_some (record_at a slot) ≡ false = ap is_some none in
+        let dead : is_some (record_at old.nodes slot) ≡ false = ap is_some none in
         cc (dead, at.subtree.0)) in
         let there : IsRaisedIn w leaf lower (here at).child = rw at.x_is at (raised_same b w leaf lower x
         (λ s some. raises.others s (apart s some)) (put.raised leaf is).there) in
-        let now : entries_at w slot ≡ set es i new =
-        rw (read, same) at (raises.entry (here at) (rw read (slice_get-get_or es i at.d at.within))) in
-        let count = length-set es i new in
-        let found = get_or-set_same es i new new at.within in (
+        let now : entries_at w slot ≡ set (entries_at old.nodes slot) i new =
+        rw (read, same) at (raises.entry (here at) (rw read (slice_get-get_or (entries_at old.nodes slot) i at.d at.within))) in
+        let count = length-set (entries_at old.nodes slot) i new in
+        let found = get_or-set_same (entries_at old.nodes slot) i new new at.within in (
           omega (arith, ap length now, ap length read, count),
           rw now (i, new, omega (arith, count, at.within), found, (refl, there)),
         )
 
     -- The node was rebalanced.
-    module _ {later : Store} (rebalanced : IsRebalancedAt b later.nodes HALF_FULL lower slot) where
+    module _ (later : Store) (rebalanced : IsRebalancedAt b later.nodes HALF_FULL lower slot) where
       abbrev w : Arena Node
       w = later.nodes
 
-      pub step_rebalanced : Stored a w HALF_FULL height slot None (around at (items_in b lower x))
+      pub step_rebalanced : Stored old.nodes w HALF_FULL height slot None (around at (items_in b lower x))
       step_rebalanced = rw (← at.next) record {
         items_are = rebalanced.items ∙ ap (items_of b lower) (read_beside at moves ∙ split at)
             ∙ (simp (sym at.x_is, append-nil) at loosened.items);
         subtree = rebalanced.subtree;
         neighbour = tt;
-        changes = changes_if_moves a w _ _ (moves_trans a b w _ (slots_in b (suc lower) slot) _ (rw (read_beside at moves) own)
+        changes = changes_if_moves old.nodes w _ _ (moves_trans old.nodes b w _ (slots_in b (suc lower) slot) _ (rw (read_beside at moves) own)
             (moves_if_changes b w _ _ rebalanced.changes));
       }
 
-      -- Whatever is told of the node, but that it stayed: that an item came into a leaf only where that is told of the child, too.
+      -- Whatever is told of the node, but that it stayed: that an item came into old.nodes leaf only where that is told of the child, too.
       pub changed_above : (answered : LeafOutcome) → added_by answered ≡ None → (answered ≡ Same → ⊥)
           → ((leaf : RaisedLeaf) → answered ≡ Raised leaf → (outcome ≡ Raised leaf)
           × ((length (entries_at b slot) ≤ length (entries_at w slot)) × IsRaisedIn w leaf (suc lower) slot))
@@ -184,7 +178,7 @@ module _ {old : Store} {height lower slot i x : ℕ} (at : IsAt old.nodes height
         neighbour = rw alone tt;
         filled = rw alone tt;
         few_less = λ above none. omega (arith, rest.few_less, ap length (read_beside at moves));
-        changes = subst (λ o. Changes a w (slots_in a height slot) (slots_with w height slot o)) (sym alone)
+        changes = subst (λ o. Changes old.nodes w (slots_in old.nodes height slot) (slots_with w height slot o)) (sym alone)
             step_rebalanced.changes;
         taken = omega (arith, put.taken, rest.spare, at.next);
         headed = rest.headed;
@@ -196,8 +190,8 @@ module _ {old : Store} {height lower slot i x : ℕ} (at : IsAt old.nodes height
     abbrev m : Arena Node
     m = between.nodes
 
-    both_moves : Moves a m (slots_in a lower x) (slots_in m lower x ++ slots_in m lower s)
-    both_moves = moves_if_changes a m _ _ put.changes
+    both_moves : Moves old.nodes m (slots_in old.nodes lower x) (slots_in m lower x ++ slots_in m lower s)
+    both_moves = moves_if_changes old.nodes m _ _ put.changes
 
     -- The node can have one child more.
     pub can_insert : CanInsertChild between slot i s
@@ -221,10 +215,10 @@ module _ {old : Store} {height lower slot i x : ℕ} (at : IsAt old.nodes height
       abbrev z : Arena Node
       z = later.nodes
 
-      linked_here : IsLinked m x s (take i es) (drop (i + 1) es) (entries_at_both z slot (added_by outcome))
+      linked_here : IsLinked m x s (take i (entries_at old.nodes slot)) (drop (i + 1) (entries_at old.nodes slot)) (entries_at_both z slot (added_by outcome))
       linked_here = rw (x_at at) (rw (read_beside at both_moves) at linked)
 
-      pub step_linked : Stored a z HALF_FULL height slot (added_by outcome)
+      pub step_linked : Stored old.nodes z HALF_FULL height slot (added_by outcome)
           (around at (items_in m lower x ++ items_in m lower s))
       step_linked =
           let t = linked_here.first in
@@ -237,10 +231,10 @@ module _ {old : Store} {height lower slot i x : ℕ} (at : IsAt old.nodes height
           let right = both_right m HALF_FULL lower x s t u first second put.subtree put.neighbour put.filled
           linked_here.first_describes linked_here.second_describes in
           let Right = IsRight m HALF_FULL lower in
-          let all = All-append Right (take i es) (t ∷ u ∷ drop (i + 1) es) l.front
-          (All-append Right (t ∷ u ∷ []) (drop (i + 1) es) right l.back) in
+          let all = All-append Right (take i (entries_at old.nodes slot)) (t ∷ u ∷ drop (i + 1) (entries_at old.nodes slot)) l.front
+          (All-append Right (t ∷ u ∷ []) (drop (i + 1) (entries_at old.nodes slot)) right l.back) in
           let some : 1 ≤ length (entries_at_both z slot (added_by outcome)) =
-          omega (arith, ap length linked_here.entries, length-append (take i es) (t ∷ u ∷ drop (i + 1) es)) in
+          omega (arith, ap length linked_here.entries, length-append (take i (entries_at old.nodes slot)) (t ∷ u ∷ drop (i + 1) (entries_at old.nodes slot))) in
           let k = stored HALF_FULL lower slot at.few at.subtree.0 (added_by outcome)
           (rw (split at, linked_here.entries) l.moves) (rw linked_here.entries all) some
           (both_filled 1 z slot _ (omega arith) stored_at.filled) stored_at.live stored_at.live_added
@@ -258,14 +252,14 @@ module _ {old : Store} {height lower slot i x : ℕ} (at : IsAt old.nodes height
         neighbour = step_linked.neighbour;
         filled = both_filled HALF_FULL z slot _ (omega arith) stored_at.filled;
         few_less = λ above none. (
-            let is : entries_at z slot ≡ take i es ++ (linked_here.first ∷ linked_here.second ∷ drop (i + 1) es) =
+            let is : entries_at z slot ≡ take i (entries_at old.nodes slot) ++ (linked_here.first ∷ linked_here.second ∷ drop (i + 1) (entries_at old.nodes slot)) =
             ap (entries_at_both z slot) (sym none) ∙ linked_here.entries in
             omega (
               arith,
               ap length is,
-              length-append (take i es) (linked_here.first ∷ linked_here.second ∷ drop (i + 1) es),
-              length-take-le i es (omega (arith, at.within)),
-              length-drop (i + 1) es,
+              length-append (take i (entries_at old.nodes slot)) (linked_here.first ∷ linked_here.second ∷ drop (i + 1) (entries_at old.nodes slot)),
+              length-take-le i (entries_at old.nodes slot) (omega (arith, at.within)),
+              length-drop (i + 1) (entries_at old.nodes slot),
             )
             );
         changes = step_linked.changes;

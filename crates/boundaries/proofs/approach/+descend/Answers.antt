@@ -61,7 +61,8 @@ module _ (store : Store) (node : Node) (index : ℕ) (q : Question) (was : Rest)
 -- what is asked of the search in a node
 module _ (t : ℕ) (c : After-header_ref-node t) where
   can_step : CanStep c.args.store.now.keys (bound_after c.args.question.now) c.header_ref-node.result.now c.args.hint.common_prefix_len
-  can_step = can_step_at c.requires.asked.searchable c.header_ref-node.ensures.header c.requires.hint.known
+  can_step = can_step_at c.args.store.now (bound_after c.args.question.now) c.requires.asked.searchable
+      c.header_ref-node.ensures.header c.requires.hint.known
 
   ends : IsPartitioned (λ e. before_end c.args.store.now.keys c.args.question.now e.key) (entries_of c.header_ref-node.result.now)
   ends = look_bound c.args.store.now.nodes HALF_FULL c.args.height c.args.hint.slot

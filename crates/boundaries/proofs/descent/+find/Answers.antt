@@ -10,7 +10,7 @@ use Rattle.boundaries.proofs.descent.+find.Goals.{After-child}
 pub step-step-requires : goal.step-step-requires
 step-step-requires t c =
     let can = c.requires.can_search in
-    search (rules, can_step_at can.searchable c.header_ref-node.ensures.header can.known)
+    search (rules, can_step_at c.args.store.now c.args.bound can.searchable c.header_ref-node.ensures.header can.known)
 
 -- the child at which the search goes on
 child_found : (t : ℕ) (c : After-child t)

@@ -15,10 +15,10 @@ use Rattle.boundaries.proofs.greatest_version.+greatest_between.Goals as goal
 use Rattle.boundaries.proofs.greatest_version.+greatest_between.Goals.{After-step-2, After-index-entries-last, Joined-left-most, then-left-most, else-left-most}
 
 pub step-requires : goal.step-requires
-step-requires t c = search (rules, can_step_at c.requires.from.searchable c.header_ref-node.ensures.header c.requires.from.known)
+step-requires t c = search (rules, can_step_at c.args.store.now c.args.from.bound c.requires.from.searchable c.header_ref-node.ensures.header c.requires.from.known)
 
 pub step-requires-2 : goal.step-requires-2
-step-requires-2 t c = search (rules, can_step_at c.requires.to.searchable c.header_ref-node.ensures.header c.requires.to.known)
+step-requires-2 t c = search (rules, can_step_at c.args.store.now c.args.to.bound c.requires.to.searchable c.header_ref-node.ensures.header c.requires.to.known)
 
 -- the two bounds of the node
 module _ (t : ℕ) (c : After-step-2 t) where
@@ -45,7 +45,7 @@ module _ (t : ℕ) (c : After-step-2 t) where
   -- the last entry below the second bound is the last of those that are looked at
   end_is : c.step-2.result.index + 1 ≡ length (filter (λ e. u e.key) (entries_of c.header_ref-node.result.now))
   end_is =
-      let can = can_step_at c.requires.to.searchable c.header_ref-node.ensures.header c.requires.to.known in
+      let can = can_step_at c.args.store.now c.args.to.bound c.requires.to.searchable c.header_ref-node.ensures.header c.requires.to.known in
       let some = some_pass u (entries_of c.header_ref-node.result.now) can.can_find.some (λ e there. (can.known e there).0) in
       omega (arith, some, c.step-2.ensures.step.index_is)
 

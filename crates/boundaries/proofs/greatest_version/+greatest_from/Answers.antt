@@ -17,7 +17,7 @@ use Rattle.boundaries.proofs.greatest_version.+greatest_from.Goals as goal
 use Rattle.boundaries.proofs.greatest_version.+greatest_from.Goals.{After-step-step, After-index-entries-step}
 
 pub step-step-requires : goal.step-step-requires
-step-step-requires t c = search (rules, can_step_at c.requires.from.searchable c.header_ref-node.ensures.header c.requires.from.known)
+step-step-requires t c = search (rules, can_step_at c.args.store.now c.args.from.bound c.requires.from.searchable c.header_ref-node.ensures.header c.requires.from.known)
 
 -- the bound, and one that is after all items
 module _ (t : ℕ) (c : After-step-step t) where

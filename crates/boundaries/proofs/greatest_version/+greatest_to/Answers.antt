@@ -18,7 +18,7 @@ use Rattle.boundaries.proofs.greatest_version.+greatest_to.Goals as goal
 use Rattle.boundaries.proofs.greatest_version.+greatest_to.Goals.{After-step-step, After-index-entries-step}
 
 pub step-step-requires : goal.step-step-requires
-step-step-requires t c = search (rules, can_step_at c.requires.to.searchable c.header_ref-node.ensures.header c.requires.to.known)
+step-step-requires t c = search (rules, can_step_at c.args.store.now c.args.to.bound c.requires.to.searchable c.header_ref-node.ensures.header c.requires.to.known)
 
 -- the bound of the node
 module _ (t : ℕ) (c : After-step-step t) where
@@ -44,7 +44,7 @@ returns-then-height-eq0 t c =
     let es = c.entries-entries.result.now in
     let n = c.step-step.result.index + 1 in
     let below = p t s in
-    let can = can_step_at c.requires.to.searchable c.header_ref-node.ensures.header c.requires.to.known in
+    let can = can_step_at c.args.store.now c.args.to.bound c.requires.to.searchable c.header_ref-node.ensures.header c.requires.to.known in
     let some = some_pass below (entries_of c.header_ref-node.result.now) can.can_find.some (λ e there. (can.known e there).0) in
     let count : n ≡ length (filter (λ e. below e.key) (entries_of c.header_ref-node.result.now)) =
     omega (arith, some, c.step-step.ensures.step.index_is) in

@@ -14,7 +14,8 @@ use Rattle.boundaries.proofs.lookup.leaf_answer.Goals.{After-entries-entries, Af
 -- what is asked of the search in a leaf
 can_step : (c : After-entries-entries)
     → CanStep c.args.store.now.keys (bound_after c.args.question.now) c.header_ref-node.result.now c.args.hint.common_prefix_len
-can_step c = can_step_at c.requires.asked.searchable c.header_ref-node.ensures.header c.requires.hint.known
+can_step c = can_step_at c.args.store.now (bound_after c.args.question.now) c.requires.asked.searchable
+    c.header_ref-node.ensures.header c.requires.hint.known
 
 pub lower_bound_by_head-begin-requires : goal.lower_bound_by_head-begin-requires
 lower_bound_by_head-begin-requires c =

@@ -19,7 +19,7 @@ to_known : (c : After-header_ref-leaf)
     → CanStep c.args.store.now.keys (bound_to c.args.new.now) c.header_ref-leaf.result.now c.args.position.common_prefix_len
 to_known c =
     let search = c.requires.can_find.search in
-    can_step_at search.searchable c.header_ref-leaf.ensures.header search.known
+    can_step_at c.args.store.now (bound_to c.args.new.now) search.searchable c.header_ref-leaf.ensures.header search.known
 
 from_known : (c : After-header_ref-leaf)
     → CanFind c.args.store.now.keys (bound_from c.args.new.now) c.header_ref-leaf.result.now

@@ -211,7 +211,7 @@ returns-in-Raised g t c =
     let answered = c.raise_entry.ensures.outcome in
     let alone : added_by c.raise_entry.result ≡ None =
     elim answered [ inl is ↦ ap added_by is | inr is ↦ ap added_by is.0 ] in
-    let changed = changed_above at put refl made c.raise_entry.result alone
+    let changed = changed_above at put refl c.raise_entry.new.self made c.raise_entry.result alone
     (λ e. elim answered [ inl is ↦ changed_not_same (sym is ∙ e) | inr is ↦ raised_not_same c.in-Raised.leaf (sym is.0 ∙ e) ])
     (λ leaf e. elim answered [
       | inl is ↦ absurd (changed_not_raised leaf (sym is ∙ e))
@@ -219,7 +219,7 @@ returns-in-Raised g t c =
     ]) rest in
     rw alone record {
       changed = changed;
-      items = within g t here.After-change_leaf _ _ _ (step_rebalanced at put refl made).items_are
+      items = within g t here.After-change_leaf _ _ _ (step_rebalanced at put refl c.raise_entry.new.self made).items_are
           (still g t here.After-change_leaf _ rest.keeps _ _ c.in-Raised.ensures.items);
       bound = search rules;
     }
@@ -232,8 +232,8 @@ returns-in-Changed g t c =
     let made = c.rebalance_child.ensures.rebalanced (c.args.height - 1) (family at put refl) in
     let rest = c.rebalance_child.ensures.rest in
     record {
-      changed = changed_above at put refl made Changed refl changed_not_same (λ leaf is. absurd (changed_not_raised leaf is)) rest;
-      items = within g t here.After-change_leaf _ _ _ (step_rebalanced at put refl made).items_are
+      changed = changed_above at put refl c.rebalance_child.new.self made Changed refl changed_not_same (λ leaf is. absurd (changed_not_raised leaf is)) rest;
+      items = within g t here.After-change_leaf _ _ _ (step_rebalanced at put refl c.rebalance_child.new.self made).items_are
           (still g t here.After-change_leaf _ rest.keeps _ _ c.in-Changed.ensures.items);
       bound = search rules;
     }

@@ -7,7 +7,7 @@ pub returns : goal.returns
 returns c = record {
   child = record {
     slot = λ e there.
-        let same = get_or_from_slice_get es i e d (rw (← c.entries-entries.ensures.entries) there) in
+        let same = get_or_from_slice_get es i e d (rw c.entries-entries.ensures.entries there) in
         ap (λ (x : NodeEntry). x.child) same;
     known = refl;
     following = rw c.entries-entries.ensures.entries at c.key_at.ensures.key;

@@ -1,4 +1,4 @@
-use Rattle.std.proofs.Common.{◌≡◌, ◌-◌, List, ℕ, length, Some, slice_get, arith, leb-true}
+use Rattle.std.proofs.Common.{◌≡◌, ◌≤◌, ◌-◌, List, ℕ, length, take, Some, slice_get, arith, leb-true}
 use Rattle.boundaries.proofs.Words.{key_at, entries_of, key_heads_of}
 use Rattle.boundaries.proofs.HeadChanges.{common_agrees, last_there}
 use Rattle.boundaries.proofs.KeyBytes.{known_bytes}
@@ -11,11 +11,13 @@ returns-in-Some c =
     let last = c.in-Some.last.now in
     let common = c.common_prefix_len.ensures in
     let get : slice_get es (length es - 1) ≡ Some last = cc (c.entries.ensures.entries, c.in-Some.ensures.value) in
-    let same = λ (a b : List ℕ) one other.
-    rw (known_bytes keys last.key a one, known_bytes keys c.args.key b other) at
+    let same : (a b : List ℕ) → key_at keys last.key ≡ Some a → key_at keys c.args.key ≡ Some b
+    → take c.common_prefix_len.result a ≡ take c.common_prefix_len.result b =
+    λ a b one other. rw (known_bytes keys last.key a one, known_bytes keys c.args.key b other) at
     rw (c.bytes_of-own.ensures.bytes, c.bytes_of.ensures.bytes) at common.same in
-    let within = λ (a b : List ℕ) one other.
-    rw (known_bytes keys last.key a one, known_bytes keys c.args.key b other) at
+    let within : (a b : List ℕ) → key_at keys last.key ≡ Some a → key_at keys c.args.key ≡ Some b
+    → (c.common_prefix_len.result ≤ length a) × (c.common_prefix_len.result ≤ length b) =
+    λ a b one other. rw (known_bytes keys last.key a one, known_bytes keys c.args.key b other) at
     rw (c.bytes_of-own.ensures.bytes, c.bytes_of.ensures.bytes) at common.within in
     record {
       has_prefix = λ enough.

@@ -7,14 +7,14 @@ use Rattle.boundaries.proofs.node.Node.common_prefix_len_in.Goals as goal
 pub returns-then-index-eq0 : goal.returns-then-index-eq0
 returns-then-index-eq0 c = record { known = λ e there. c.requires.can_step.known e (rw c.if-index-eq0.true at there) }
 
-pub returns-then-not-self-eq0 : goal.returns-then-not-self-eq0
-returns-then-not-self-eq0 c = record {
+pub returns-then-self-ne0 : goal.returns-then-self-ne0
+returns-then-self-ne0 c = record {
   known = λ e there.
       let node = c.args.self.now in
       let es = entries_of node in
       let first = entry_at es 0 (omega (arith, c.requires.within)) in
       let own = get_or-take node.len node.heads 0 0 (omega (arith, c.requires.within, length-take node.len node.entries)) in
-      let filled : get_or (key_heads_of node).heads 0 0 ≢ 0 = λ zero. c.if-not-self-eq0.true (sym own ∙ zero) in
+      let filled : get_or (key_heads_of node).heads 0 0 ≢ 0 = λ zero. c.if-self-ne0.true (sym own ∙ zero) in
       let known = c.requires.can_step.known first.0 first.1 in (
         c.requires.is_below e there,
         differs_too _ _ c.requires.can_step.can_find.headed _ _ (order c.args.keys.now c.args.bound) c.args.common_prefix_len first.0.key

@@ -146,10 +146,15 @@ returns-then-to-half c =
   where
     open c use {args.{self.{now as node}, splice.{from, to, new}}, split_off-right.{ensures as split}}
 
-pub overflow_sub-replace : goal.overflow_sub-replace
-overflow_sub-replace c =
-    let s = (goal.at.overflow_sub-replace c).Joined-splice in
+pub overflow_sub-from : goal.overflow_sub-from
+overflow_sub-from c =
+    let s = (goal.at.overflow_sub-from c).Joined-splice in
     omega (arith, len s, many s, c.if-to-half.false, c.args.splice.few)
+
+pub overflow_sub-to : goal.overflow_sub-to
+overflow_sub-to c =
+    let s = (goal.at.overflow_sub-to c).Joined-splice in
+    omega (arith, len s, many s, c.if-to-half.false, c.args.splice.few, c.requires.ordered)
 
 pub replace-requires-2 : goal.replace-requires-2
 replace-requires-2 c =

@@ -8,5 +8,5 @@ abbrev pub invariant-loop-entry : goal.invariant-loop-entry
 invariant-loop-entry l =
     record {
       most : l.count ≤ 65535;
-      common : All (BeginsAsFirst (key_at l.keys) l.key l.count) (take l.entry-index (keys_of l.entries));
+      common : All (BeginsAsFirst (key_at l.keys) l.fn.key l.count) (take l.entry-index (keys_of l.entries));
     }
