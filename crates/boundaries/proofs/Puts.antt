@@ -1,11 +1,11 @@
 -- Keys that are placed in slots that were spare: what was known of keys stays known.
-use Rattle.std.proofs.Common.{◌≡◌, ◌≢◌, ℕ, ◌+◌, ◌≤◌, ◌==◌, if◌then◌else◌, cond, List, [], ◌∷◌, length, Option, None, Some, is_some, false, option_map, unwrap_or, refl, sym, ◌∙◌, ap, subst, arith}
+use Rattle.std.proofs.Common.{◌≡◌, ◌≢◌, ℕ, ◌+◌, ◌≤◌, ◌==◌, if◌then◌else◌, cond, List, [], ◌∷◌, length, Option, None, Some, is_some, false, option_map, refl, sym, ◌∙◌, ap, subst, arith}
 use Rattle.std.specs.Prelude.{IsSome, Ok}
 use Rattle.std.specs.FinMap as finite
 use Rattle.std.specs.Cmp.{nat_cmp_total}
 use Rattle.arena.specs.Arena.{Record, IsLive, record_at, key_at, spare_of, size_of, slots_of as slots_for, wanted_of}
 use Rattle.arena.specs.declared.error.ArenaError.{ArenaError}
-use Rattle.boundaries.specs.Bound.{Keys, bytes_at}
+use Rattle.boundaries.specs.Bound.{Keys}
 use Rattle.boundaries.specs.Heads.{KeyBytes, KeyHeads, HasPrefix, IsHeadBeside, IsTargetHead}
 use Rattle.boundaries.specs.Store.{KeysStay, PutsKeys}
 use Rattle.boundaries.proofs.HeadChanges.{target_beside}
@@ -86,12 +86,10 @@ puts_stay {old} {new} {start} {end} {first} {second} p slot live =
     p.others slot (λ same. none_is_not_live (record_at old slot) (ap (record_at old) same ∙ p.free) live)
     (λ is. none_is_not_live (record_at old slot) (p.free_end slot is).0 live)
 
-module _ {old new : Keys} (stay : KeysStay old new) where
-  pub stays_known : (slot : ℕ) (text : List ℕ) → key_at old slot ≡ Some text → key_at new slot ≡ Some text
-  stays_known slot text is = ap (option_map (λ r. r.key)) (stay slot (live_by_key old slot text is)) ∙ is
-
-  pub bytes_stay : (slot : ℕ) → IsLive old slot → bytes_at new slot ≡ bytes_at old slot
-  bytes_stay slot live = ap (λ o. unwrap_or (option_map (λ r. r.key) o) []) (stay slot live)
+-- What is known of a key stays known.
+pub stays_known : (old new : Keys) → KeysStay old new → (slot : ℕ) (text : List ℕ) → key_at old slot ≡ Some text
+    → key_at new slot ≡ Some text
+stays_known old new stay slot text is = ap (option_map (λ r. r.key)) (stay slot (live_by_key old slot text is)) ∙ is
 
 -- what is known of the head of a key stays known, where keys do
 module _ (a b : KeyBytes) (same : (key : ℕ) (text : List ℕ) → a key ≡ Some text → b key ≡ Some text) (key_heads : KeyHeads) where

@@ -32,23 +32,23 @@ stored_of {mid} {old} {new} {slot} {added} same s = record {
 }
 
 -- what nodes know of keys stays right where keys stay
-pub headed_stays : {old new : Store} → new.nodes ≡ old.nodes → KeysStay old.keys new.keys → AreHeaded old → AreHeaded new
-headed_stays {old} {new} same stay headed =
-    headed_kept (key_at old.keys) (key_at new.keys) (stays_known stay) (all_heads_of new.nodes)
+headed_stays : (old new : Store) → new.nodes ≡ old.nodes → KeysStay old.keys new.keys → AreHeaded old → AreHeaded new
+headed_stays old new same stay headed =
+    headed_kept (key_at old.keys) (key_at new.keys) (stays_known old.keys new.keys stay) (all_heads_of new.nodes)
     (subst (λ n. AllAreHeads (key_at old.keys) (all_heads_of n)) (sym same) headed)
 
-module _ {old mid : Store} {slot : ℕ} {o : Overwrite} {run : EntryRun} (can : CanWriteRun old slot o run) (nodes : mid.nodes ≡ old.nodes)
-    (stay : KeysStay old.keys mid.keys) (splice : Splice) (new : List NodeEntry) (from : splice.from ≡ run.begin)
-    (to : splice.to ≡ run.end) (new_is : splice.new.now ≡ new) where
+module _ {old : Store} {slot : ℕ} {o : Overwrite} {run : EntryRun} (can : CanWriteRun old slot o run) (splice : Splice)
+    (new : List NodeEntry) (from : splice.from ≡ run.begin) (to : splice.to ≡ run.end) (new_is : splice.new.now ≡ new) where
   abbrev leaf : Node
   leaf = can.run_is.leaf
 
   -- The run can be replaced by these entries.
-  pub can_splice_run : (heads : Option (List ℕ)) → splice.heads ≡ heads → All (IsKnown (key_at mid.keys)) (keys_of new)
+  pub can_splice_run : (mid : Store) → mid.nodes ≡ old.nodes → KeysStay old.keys mid.keys
+      → (heads : Option (List ℕ)) → splice.heads ≡ heads → All (IsKnown (key_at mid.keys)) (keys_of new)
       → IfSome heads (λ heads. AreHeadsBeside (key_at mid.keys) (key_heads_of leaf) (keys_of new) (take (length new) heads))
       → CanSpliceAt mid slot splice
-  can_splice_run heads heads_are known beside =
-      let headed = headed_stays nodes stay can.sound.headed in
+  can_splice_run mid nodes stay heads heads_are known beside =
+      let headed = headed_stays old mid nodes stay can.sound.headed in
       let there : header_at mid.nodes slot ≡ Some leaf = ap (λ n. header_at n slot) nodes ∙ can.run_is.there in
       let splices : CanSplice mid.keys leaf splice = record {
         ordered = rw (from, to) can.run_is.run_is.ordered;

@@ -94,7 +94,7 @@ module _ (c : Joined-run) where
       (c.of-first.result.key ∷ []) (take 1 heads))
   beside = elim c.match-run.branch [
     | in-Some-Some w ↦ rw w.heads-is (
-      target_is_beside (key_at store.keys) (key_at c.place.new.self) (stays_known (puts_stay puts)) (key_heads_of can_write.run_is.leaf)
+      target_is_beside (key_at store.keys) (key_at c.place.new.self) (stays_known store.keys c.place.new.self (puts_stay puts)) (key_heads_of can_write.run_is.leaf)
       new.start.now _ c.of-first.result.key (rw w.in-Some-Some.is-0 at can_write.run_is.run_is.begin_head) there,
       tt,
     )
@@ -123,8 +123,8 @@ pub splice-requires-then-run : goal.splice-requires-then-run
 splice-requires-then-run c =
     let j = (goal.at.splice-requires-then-run c).Joined-run in (
       search rules,
-      can_splice_run c.requires.can_write refl (puts_stay (puts j)) c.new.result (c.of-first.result ∷ []) c.new.ensures.run.0
-      c.new.ensures.run.1 c.new.ensures.new c.match-run.heads c.new.ensures.heads (All-cons _ _ [] (known j) (All-nil _)) (beside j),
+      can_splice_run c.requires.can_write c.new.result (c.of-first.result ∷ []) c.new.ensures.run.0 c.new.ensures.run.1
+      c.new.ensures.new _ refl (puts_stay (puts j)) c.match-run.heads c.new.ensures.heads (All-cons _ _ [] (known j) (All-nil _)) (beside j),
     )
 
 pub returns-then-run : goal.returns-then-run
@@ -137,8 +137,8 @@ returns-then-run c =
     let now = here at in
     let keeps = c.splice.ensures.keeps in
     let entries = c.splice.ensures.entries
-        ∙ spliced_is can refl stay c.new.result new c.new.ensures.run.0 c.new.ensures.run.1 c.new.ensures.new _ now in
-    let few = spliced_few can refl stay c.new.result new c.new.ensures.run.0 c.new.ensures.run.1 c.new.ensures.new _ now in
+        ∙ spliced_is can c.new.result new c.new.ensures.run.0 c.new.ensures.run.1 c.new.ensures.new _ now in
+    let few = spliced_few can c.new.result new c.new.ensures.run.0 c.new.ensures.run.1 c.new.ensures.new _ now in
     record {
       written = record {
         first = c.unwrap-start.result;
@@ -182,7 +182,7 @@ module _ (c : After-of-second) where
   both_beside : IfSome c.match-run.heads (λ heads. AreHeadsBeside (key_at c.place-2.new.self) (key_heads_of can_write.run_is.leaf)
       (c.of-first.result.key ∷ c.of-second.result.key ∷ []) (take 2 heads))
   both_beside =
-      let stay = stays_known (puts_stay puts_too) in
+      let stay = stays_known store.keys c.place-2.new.self (puts_stay puts_too) in
       let key_heads = key_heads_of can_write.run_is.leaf in
       elim c.match-run.branch [
         | in-Some-Some w ↦ rw w.heads-is (
@@ -214,8 +214,8 @@ pub splice-requires : goal.splice-requires
 splice-requires c =
     let s = (goal.at.splice-requires c).After-of-second in (
       search rules,
-      can_splice_run c.requires.can_write refl (puts_stay (puts_too s)) c.new.result (c.of-first.result ∷ c.of-second.result ∷ [])
-      c.new.ensures.run.0 c.new.ensures.run.1 c.new.ensures.new c.match-run.heads c.new.ensures.heads (both_known s) (both_beside s),
+      can_splice_run c.requires.can_write c.new.result (c.of-first.result ∷ c.of-second.result ∷ []) c.new.ensures.run.0
+      c.new.ensures.run.1 c.new.ensures.new _ refl (puts_stay (puts_too s)) c.match-run.heads c.new.ensures.heads (both_known s) (both_beside s),
     )
 
 pub returns : goal.returns
@@ -228,8 +228,8 @@ returns c =
     let now = here at in
     let keeps = c.splice.ensures.keeps in
     let entries = c.splice.ensures.entries
-        ∙ spliced_is can refl stay c.new.result new c.new.ensures.run.0 c.new.ensures.run.1 c.new.ensures.new _ now in
-    let few = spliced_few can refl stay c.new.result new c.new.ensures.run.0 c.new.ensures.run.1 c.new.ensures.new _ now in
+        ∙ spliced_is can c.new.result new c.new.ensures.run.0 c.new.ensures.run.1 c.new.ensures.new _ now in
+    let few = spliced_few can c.new.result new c.new.ensures.run.0 c.new.ensures.run.1 c.new.ensures.new _ now in
     record {
       written = record {
         first = c.unwrap-start.result;
