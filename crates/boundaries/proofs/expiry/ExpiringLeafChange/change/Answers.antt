@@ -10,19 +10,19 @@ use Rattle.boundaries.proofs.Placing.{entries_from_header, put_entries}
 use Rattle.boundaries.proofs.Removing.{run}
 use Rattle.boundaries.specs.declared.walk.LeafOutcome.TheVariants.{Changed}
 use Rattle.boundaries.proofs.expiry.ExpiringLeafChange.change.Goals as goal
-use Rattle.boundaries.proofs.expiry.ExpiringLeafChange.change.Goals.{After-lower_bound, After-has_expired}
+use Rattle.boundaries.proofs.expiry.ExpiringLeafChange.change.Goals.{After-lower_bound-begin, After-has_expired}
 
-pub lower_bound-requires : goal.lower_bound-requires
-lower_bound-requires c = search (rules, leaf_can_step c.requires.can_change c.header_ref-leaf.ensures.header)
+pub lower_bound-begin-requires : goal.lower_bound-begin-requires
+lower_bound-begin-requires c = search (rules, leaf_can_step c.requires.can_change c.header_ref-leaf.ensures.header)
 
 -- some entry is below the bound
-some_below : (c : After-lower_bound) → 1 ≤ c.lower_bound.result
+some_below : (c : After-lower_bound-begin) → 1 ≤ c.lower_bound-begin.result
 some_below c =
     let some = first_below (leaf_can_step c.requires.can_change c.header_ref-leaf.ensures.header) in
-    omega (arith, some, c.lower_bound.ensures.count.count_is)
+    omega (arith, some, c.lower_bound-begin.ensures.count.count_is)
 
-pub sub-begin-result : goal.sub-begin-result
-sub-begin-result c = omega (arith, some_below (goal.at.sub-begin-result c).After-lower_bound)
+pub overflow_sub-begin : goal.overflow_sub-begin
+overflow_sub-begin c = omega (arith, some_below (goal.at.overflow_sub-begin c).After-lower_bound-begin)
 
 -- Where it isn't told that some item goes, none does.
 none_goes : (out : List Item) (answered : Bool) → (out ≢ [] → IsTrue answered) → answered ≡ false → out ≡ []
@@ -31,9 +31,9 @@ none_goes (x ∷ out) answered some said = absurd (let t = some (λ e. absurd (c
 
 -- where the run stands that is looked at
 module _ (c : After-has_expired) where
-  open c use {args.{self.{now.{bound, count, edge, before}}, store.{now as store}, position}, min}
+  open c use {args.{self.{now.{bound, count, edge, before}}, store.{now as store}, position}, min-end}
   open c use {header_ref-leaf.{result.{now as leaf}, ensures.{header}}}
-  open c use {lower_bound.{result as below, ensures.{count as counts}}}
+  open c use {lower_bound-begin.{result as below, ensures.{count as counts}}}
 
   abbrev es : List NodeEntry
   es = entries_of leaf
@@ -42,7 +42,7 @@ module _ (c : After-has_expired) where
   begin = below - 1
 
   abbrev end : ℕ
-  end = begin + c.min.result
+  end = begin + c.min-end.result
 
   abbrev looked : List Item
   looked = map item_of (run es begin end)
@@ -51,13 +51,13 @@ module _ (c : After-has_expired) where
   read = entries_from_header store.nodes position.slot leaf header
 
   some : 1 ≤ below
-  some = some_below (goal.at.After-has_expired c).After-lower_bound
+  some = some_below (goal.at.After-has_expired c).After-lower_bound-begin
 
   some_looked : begin < end
-  some_looked = omega (arith, min.ensures, c.args.self.now.some, c.len.ensures.len, counts.within, some)
+  some_looked = omega (arith, min-end.ensures, c.args.self.now.some, c.len.ensures.len, counts.within, some)
 
   within : end ≤ length es
-  within = omega (arith, min.ensures, c.len.ensures.len, counts.within)
+  within = omega (arith, min-end.ensures, c.len.ensures.len, counts.within)
 
   -- what becomes of the items of the leaf
   swept : (new : Store) (now : List Item)
@@ -71,7 +71,7 @@ module _ (c : After-has_expired) where
       let first_is : begin + 1 ≡ length (filter (λ (e : NodeEntry). is_below store.keys bound e.key) es) =
       omega (arith, counts, some) in
       rw read (leaf_unexpired es begin end some_looked within bound store new partitioned first_is count edge before
-      c.look_at-self.result position.following now (omega (arith, min.ensures)) answered.looked_at
+      c.look_at-self.result position.following now (omega (arith, min-end.ensures)) answered.looked_at
       (rw c.entries.ensures.entries at answered.last) (rw c.entries.ensures.entries at answered.next) now_is out_is keys)
 
 pub returns-then-not-has_expired-clause-changed : goal.returns-then-not-has_expired-clause-changed
