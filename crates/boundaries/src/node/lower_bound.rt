@@ -201,7 +201,7 @@ impl Node {
         requires within { to ≤ length (entries_of self.now) }
         requires most { length (filter (λ e. is_below keys.now bound e.key) (entries_of self.now))
             ≤ to }
-        ensures count { IsLowerBound (is_below keys.now bound) self.now result }
+        ensures count { IsLowerBound (is_below keys.now bound.entry) self.now result }
     {
         let mut count = to;
         while count > 0 && !self.is_below_at(keys, count - 1, bound, head) {
