@@ -98,6 +98,18 @@ apart_after xs new from to at after ordered =
     let rest = drop-drop (to - at) at xs in
     cc (front, back, before, rest, append_assoc (take at xs) (take (from - at) part) (new ++ drop (to - at) part))
 
+-- how many values there are once some are replaced
+pub length-spliced : {X : Type 0} (xs new : List X) (from to : ℕ) → from ≤ to → to ≤ length xs
+    → length (take from xs ++ (new ++ drop to xs)) ≡ from + length new + (length xs - to)
+length-spliced xs new from to ordered within =
+    omega (
+      arith,
+      length-append (take from xs) (new ++ drop to xs),
+      length-append new (drop to xs),
+      length-take-le from xs (omega (arith, ordered, within)),
+      length-drop to xs,
+    )
+
 -- Where as many are put in place of as many in two lists of one length, these are of one length again.
 pub length-replaced : {X Y : Type 0} (xs new : List X) (ys others : List Y) (from to : ℕ) → length xs ≡ length ys
     → length new ≡ length others → length (take from xs ++ (new ++ drop to xs)) ≡ length (take from ys ++ (others ++ drop to ys))

@@ -57,7 +57,7 @@ impl Node {
             self.replace(from, to, new, None);
             return self.compute_heads(keys);
         };
-        self.replace(from, to, new, Some(&heads[..new.len()]));
+        self.replace(from, to, new, Some(front(&heads, new.len())));
     }
 
     /// Replaces entries where there is no room for all. The entries of the second half are
@@ -96,7 +96,7 @@ impl Node {
     {
         let Splice { from, to, new, .. } = splice;
         let heads = match &splice.heads {
-            Some(heads) => Some(&heads[..new.len()]),
+            Some(heads) => Some(front(heads, new.len())),
             None => None,
         };
         let half = self.len - HALF_FULL;
@@ -109,4 +109,15 @@ impl Node {
         right.replace(from - HALF_FULL, to - HALF_FULL, new, heads);
         right
     }
+}
+
+ghost use Rattle.std.specs.Prelude.{take};
+
+// Returns the first of two heads, or both.
+fn front(heads: &[u32; 2], count: usize) -> &[u32]
+    requires few { count ≤ 2 }
+    ensures front { result.now ≡ take count heads.now }
+    ensures len { length result.now ≡ count }
+{
+    &heads[..count]
 }

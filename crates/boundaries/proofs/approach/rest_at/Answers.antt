@@ -1,4 +1,4 @@
-use Rattle.std.proofs.Common.{rules, ◌≡◌, ◌≤◌, ◌+◌, ◌-◌, ◌∙◌, false, length, filter, drop, drop-drop, sym, arith}
+use Rattle.std.proofs.Common.{◌≡◌, ◌≤◌, ◌+◌, ◌-◌, ◌∙◌, false, length, filter, drop, drop-drop, sym, arith}
 use Rattle.std.proofs.lemmas.List.Elements.{All-drop}
 use Rattle.boundaries.specs.Question.{before_end}
 use Rattle.boundaries.proofs.Words.{NodeEntry, entries_of}
@@ -8,8 +8,11 @@ use Rattle.boundaries.proofs.HeadCounts.{passing_before}
 use Rattle.boundaries.proofs.approach.rest_at.Goals as goal
 
 pub is_below_at-requires : goal.is_below_at-requires
-is_below_at-requires c =
-    (search rules, rw c.to.ensures.bound (c.requires.headed, (c.requires.within, c.requires.head)))
+is_below_at-requires c = record {
+  headed = c.requires.headed;
+  within = c.requires.within;
+  head = rw c.to.ensures.bound c.requires.head;
+}
 
 pub returns-then-is_below_at : goal.returns-then-is_below_at
 returns-then-is_below_at c = record { rest = λ clear. absurd (cc) }

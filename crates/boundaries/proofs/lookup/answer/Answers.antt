@@ -11,7 +11,11 @@ use Rattle.boundaries.proofs.lookup.answer.Goals.{Joined-approach, in-Leaf, in-C
 pub leaf_answer-requires : goal.leaf_answer-requires
 leaf_answer-requires c =
     let is = rw c.in-Leaf.is at c.requires.approach in
-    (search rules, (is.asked, (is.hint_is, rw c.in-Leaf.is at c.requires.looked)))
+    record {
+      asked = is.asked;
+      hint = is.hint_is;
+      head = rw c.in-Leaf.is at c.requires.looked;
+    }
 
 -- what is answered of the whole tree, if anything
 told : (c : Joined-approach) → IsAnswer c.args.store.now.keys c.args.question.now rest.Clear
@@ -35,11 +39,12 @@ returns-in-Some c =
 
 pub greatest-most-requires : goal.greatest-most-requires
 greatest-most-requires c =
-    let asked = c.requires.asked in (
-      search rules,
-      rw (c.from.ensures.bound, c.to.ensures.bound)
-          (asked.from, (asked.to, nested c.args.store.now.keys c.args.question.now)),
-    )
+    let asked = c.requires.asked in
+    record {
+      from = rw c.from.ensures.bound asked.from;
+      to = rw c.to.ensures.bound asked.to;
+      nested = rw (c.from.ensures.bound, c.to.ensures.bound) (nested c.args.store.now.keys c.args.question.now);
+    }
 
 pub returns-in-None : goal.returns-in-None
 returns-in-None c =

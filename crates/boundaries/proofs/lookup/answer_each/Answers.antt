@@ -1,4 +1,3 @@
-use Rattle.std.proofs.Common.{rules}
 use Rattle.std.proofs.lemmas.List.{map-id}
 use Rattle.boundaries.specs.declared.approach.Rest.TheVariants as rest
 use Rattle.boundaries.specs.declared.lookup.Look.{Look}
@@ -11,11 +10,19 @@ look_each-looks-requires c =
     let approaches = rw (← map-id c.approach_each-approaches.result.items) at c.approach_each-approaches.ensures.approaches in
     let leading = AllZip-through _ _ (λ approach. approach)
     (λ q approach. leading_of c.args.store.now q c.args.root.now.height c.args.root.now.slot rest.Clear approach) _ _ approaches in
-    (search rules, (c.requires.few, rw c.as_slice.ensures.value leading))
+    record {
+      few = c.requires.few;
+      leading = rw c.as_slice.ensures.value leading;
+    }
 
 pub answer_looks-requires : goal.answer_looks-requires
 answer_looks-requires c =
     let looks = c.look_each-looks.ensures in
     let all = rw (← c.as_slice.ensures.value, ← looks.approaches) at c.approach_each-approaches.ensures.approaches in
     let approaches = AllZip-through _ _ (λ (l : Look). l.approach) (λ q l approach. approach) _ _ all in
-    (search rules, (c.requires.few, (c.requires.asked, rw c.as_slice-2.ensures.value (approaches, looks.looked))))
+    record {
+      few = c.requires.few;
+      asked = c.requires.asked;
+      approaches = rw c.as_slice-2.ensures.value approaches;
+      looked = rw c.as_slice-2.ensures.value looks.looked;
+    }

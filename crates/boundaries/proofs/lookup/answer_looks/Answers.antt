@@ -11,7 +11,11 @@ answer-requires c =
     let is = t.2 c.in-Some.question.now in
     let approach = AllZip-at _ _ _ _ _ _ t.0 is (t.3 _) c.requires.approaches in
     let looked = AllZip-at _ _ _ _ _ _ t.0 is (t.3 _) c.requires.looked in
-    (search rules, (rw is (c.requires.asked _ _ t.0), (approach, looked)))
+    record {
+      asked = rw is (c.requires.asked _ _ t.0);
+      approach = approach;
+      looked = looked;
+    }
 
 pub loop-question-preserved : goal.loop-question-preserved
 loop-question-preserved c =

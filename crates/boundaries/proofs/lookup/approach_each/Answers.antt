@@ -5,7 +5,7 @@ use Rattle.boundaries.proofs.lookup.approach_each.Goals as goal
 
 pub approach-requires : goal.approach-requires
 approach-requires c =
-    (search rules, rw c.question-item.is (c.requires.asked _ _ c.loop-question-test.true))
+    record { asked = rw c.question-item.is (c.requires.asked _ _ c.loop-question-test.true) }
 
 pub loop-question-preserved : goal.loop-question-preserved
 loop-question-preserved c =

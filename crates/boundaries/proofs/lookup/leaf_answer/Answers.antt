@@ -24,7 +24,11 @@ lower_bound_by_head-begin-requires c =
     let bound = bound_after c.args.question.now in
     let known = all_known _ c.header_ref-node.result.now a.can_find.headed bound.key.now _ (order c.args.store.now.keys bound)
     c.args.hint.common_prefix_len a.can_find.some a.known in
-    (search rules, rw c.from.ensures.bound (a.can_find, (head.head, (λ none. known (head.none none)))))
+    record {
+      can_find = rw c.from.ensures.bound a.can_find;
+      head = rw c.from.ensures.bound head.head;
+      none = rw c.from.ensures.bound (λ none. known (head.none none));
+    }
 
 pub end_in-end-requires : goal.end_in-end-requires
 end_in-end-requires c =
@@ -35,7 +39,11 @@ end_in-end-requires c =
     let can_find : CanFind c.args.store.now.keys (bound_before c.args.question.now) c.header_ref-node.result.now =
     record { headed = a.can_find.headed; partitioned = to; some = a.can_find.some } in
     let begin = rw c.from.ensures.bound at c.lower_bound_by_head-begin.ensures.count in
-    (search rules, (record { can_step = a; head = head.head }, (can_find, begin)))
+    record {
+      searched = record { can_step = a; head = head.head };
+      to = can_find;
+      begin = begin;
+    }
 
 -- the two bounds of a leaf
 leaf : (c : After-end_in-end)

@@ -1,4 +1,4 @@
-use Rattle.std.proofs.Common.{rules, inl, inr, refl}
+use Rattle.std.proofs.Common.{inl, inr, refl}
 use Rattle.boundaries.proofs.Headed.{headed_at}
 use Rattle.boundaries.proofs.Placing.{entries_from_header}
 use Rattle.boundaries.proofs.lookup.look_at.Goals as goal
@@ -10,11 +10,12 @@ head_for-requires c =
     let read = entries_from_header c.args.store.now.nodes c.in-Leaf.hint.slot c.header_ref-leaf.result.now header in
     let headed = headed_at _ c.args.store.now.nodes c.in-Leaf.hint.slot _ at.headed header in
     let some = rw read at at.some in
-    let known = rw read at at.known in (
-      search rules,
-      rw c.from.ensures.bound
-          (headed, (some, (λ e text there is count inside le. ((known e there).1 text is count inside).0 le))),
-    )
+    let known = rw read at at.known in
+    record {
+      headed = headed;
+      common_prefix_len = rw c.from.ensures.bound
+          (some, (λ e text there is count inside le. ((known e there).1 text is count inside).0 le));
+    }
 
 pub returns : goal.returns
 returns c = record {

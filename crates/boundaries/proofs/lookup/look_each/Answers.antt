@@ -20,7 +20,7 @@ look_at-requires c =
     let t = zip_turn c.args.questions.now c.args.approaches.now _ _ _ c.next.new.self _ (search rules) (search rules)
     c.loop-question.yielded_by (c.in-Some.question, c.in-Some.approach) refl c.in-Some.ensures.steps in
     let is = t.2 c.in-Some.question.now in
-    (search rules, AllZip-at _ _ _ _ _ _ t.0 is (t.3 _) c.requires.leading)
+    record { leading = AllZip-at _ _ _ _ _ _ t.0 is (t.3 _) c.requires.leading }
 
 pub loop-question-preserved : goal.loop-question-preserved
 loop-question-preserved c =

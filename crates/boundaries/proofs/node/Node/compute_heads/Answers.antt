@@ -1,5 +1,5 @@
 use Rattle.std.proofs.Common.{◌<◌, ◌≤◌, ◌∙◌, length, refl, ap, sym, arith, length-set, take_all, ◌≡◌}
-use Rattle.boundaries.proofs.Words.{key_at, head_at, entries_of, keys_of}
+use Rattle.boundaries.proofs.Words.{NodeEntry, key_at, head_at, entries_of, keys_of}
 use Rattle.boundaries.proofs.HeadChanges.{head_next, keys_count}
 use Rattle.boundaries.proofs.node.Node.compute_heads.Goals as goal
 
@@ -11,7 +11,8 @@ loop-index-preserved c =
     let bytes = key_at c.args.keys.now in
     let inside : i < node.len = omega (arith, inv.len) in
     let most : node.len ≤ length node.entries = omega (arith, inv.len, ap length inv.entries) in
-    let right : c.head_in.result ≡ head_at bytes node.prefix_len e.key = c.head_in.ensures.head in
+    let right : c.head_in.result ≡ head_at bytes node.prefix_len e.key =
+    c.head_in.ensures.head ∙ ap (λ (x : NodeEntry). head_at bytes node.prefix_len x.key) (sym is) in
     record {
       len = inv.len;
       entries = inv.entries;

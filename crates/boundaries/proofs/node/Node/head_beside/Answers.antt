@@ -1,4 +1,4 @@
-use Rattle.std.proofs.Common.{rules, sym, ◌∙◌, arith}
+use Rattle.std.proofs.Common.{sym, ◌∙◌, arith}
 use Rattle.boundaries.proofs.Words.{key_at, key_heads_of}
 use Rattle.boundaries.proofs.KeyBytes.{common_beside, prefix_beside}
 use Rattle.boundaries.proofs.node.Node.head_beside.Goals as goal
@@ -17,4 +17,7 @@ head_for-requires c =
     let s = c.requires.searched in
     let common = common_beside c.args.keys.now s.other c.args.bound c.args.self.now c.args.common_prefix_len c.args.common
     c.min.result s.can_step s.common (omega (arith, c.min.ensures)) (omega (arith, c.min.ensures)) in
-    (search rules, (s.can_step.can_find.headed, common))
+    record {
+      headed = s.can_step.can_find.headed;
+      common_prefix_len = common;
+    }

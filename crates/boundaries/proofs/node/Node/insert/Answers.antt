@@ -1,4 +1,4 @@
-use Rattle.std.proofs.Common.{rules, ◌≡◌, Some, slice_get, sym}
+use Rattle.std.proofs.Common.{◌≡◌, Some, slice_get, refl, sym}
 use Rattle.std.proofs.lemmas.Option.{slice_get_within, get_or_from_slice_get}
 use Rattle.boundaries.proofs.Words.{NodeEntry, entries_of, key_at, key_heads_of, keys_of}
 use Rattle.boundaries.proofs.HeadChanges.{headed_joined, keys_there, known_spliced, map_spliced}
@@ -8,11 +8,10 @@ use Rattle.boundaries.proofs.node.Node.insert.Goals as goal
 pub compute_heads-requires : goal.compute_heads-requires
 compute_heads-requires c =
     let known = known_spliced _ (key_heads_of one) both.0 (keys_of (entries_of other)) _ at at
-    (all_known _ (key_heads_of other) both.1) in (
-      search rules,
-      known (map_spliced (λ (e : NodeEntry). e.key) (entries_of one) (entries_of other) _ at at
-          (rw c.entries-2.ensures.entries at c.replace-2.ensures.entries)),
-    )
+    (all_known _ (key_heads_of other) both.1) in record {
+      known = known (map_spliced (λ (e : NodeEntry). e.key) (entries_of one) (entries_of other) _ at at
+          (rw c.entries-2.ensures.entries at c.replace-2.ensures.entries));
+    }
   where
     open c use {args.{self.{now as one}, other.{now as other}, index as at}, requires.{headed as both}}
 
@@ -24,9 +23,9 @@ lengthen_prefix-requires c =
     let keys = map_spliced (λ (e : NodeEntry). e.key) (entries_of one) (entries_of other) _ at at
     (rw c.entries-then-begins.ensures.entries at c.replace.ensures.entries) in
     let joined = headed_joined bytes (key_heads_of one) (key_heads_of other) c.requires.headed.0 c.requires.headed.1 first.key
-    c.if-self-other.true (rw c.entries.ensures.entries at there) (c.if-begins.ensures.has_prefix c.if-begins.true) _ at keys
+    c.if-self-other.true (rw c.entries.ensures.entries at there) (c.if-begins.ensures.has_prefix refl) _ at keys
     heads.prefix_len (rw c.heads.ensures.heads at heads.heads_are) in
-    (search rules, joined)
+    record { headed = joined }
   where
     open c use {args.{self.{now as one}, other.{now as other}, index as at}, entries.{result.{now as es}}, in-Some.{first.{now as first}}}
     open c use {replace.{ensures.{heads}}}

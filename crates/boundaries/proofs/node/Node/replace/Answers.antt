@@ -32,7 +32,7 @@ returns-in-Some c =
     let entries = spliced s in
     let before = take-spliced_before node.heads now.heads heads node.len from to (omega arith) c.requires.ordered (within s)
     (omega (arith, c.requires.room, len, same_len)) (omega (arith, c.move_tail.ensures.size, now.within, count s))
-    (rw sum at c.move_tail.ensures.heads) in
+    (cc (same_len, count s, c.move_tail.ensures.heads)) in
     rw c.in-Some.is record {
       entries = cc (c.copy_few.ensures.copied, entries);
       heads = record {

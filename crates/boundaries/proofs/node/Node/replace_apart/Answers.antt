@@ -1,9 +1,9 @@
-use Rattle.std.proofs.Common.{rules, ◌≡◌, ◌≤◌, ◌<◌, ◌+◌, ◌-◌, ◌++◌, ◌∙◌, ℕ, List, Option, Some, None, IfSome, take, drop, length, length-append, length-drop, length-take, length-take-le, sym, ap, arith}
+use Rattle.std.proofs.Common.{◌≡◌, ◌≤◌, ◌<◌, ◌+◌, ◌-◌, ◌++◌, ◌∙◌, ℕ, List, Option, Some, None, IfSome, take, drop, length, length-append, length-drop, length-take, length-take-le, sym, ap, arith}
 use Rattle.boundaries.specs.Node.{HasHeads, ShareHeads}
 use Rattle.boundaries.specs.Splice.{spliced}
 use Rattle.boundaries.specs.declared.node.splice.Splice.{Splice}
 use Rattle.boundaries.proofs.Words.{FAN_OUT, HALF_FULL, Node, NodeEntry, entries_of, key_heads_of}
-use Rattle.boundaries.proofs.Splicing.{apart_before, apart_after, length-replaced}
+use Rattle.boundaries.proofs.Splicing.{apart_before, apart_after, length-replaced, length-spliced}
 use Rattle.boundaries.proofs.node.Node.replace_apart.Goals as goal
 use Rattle.boundaries.proofs.node.Node.replace_apart.Goals.{Joined-splice, in-Some, in-None}
 
@@ -85,7 +85,7 @@ module _ (c : Joined-splice) where
   -- there are as many heads as new entries
   as_many : IfSome c.match-splice.heads (λ heads. length heads.now ≡ length c.args.splice.new.now)
   as_many = elim c.match-splice.branch [
-    | in-Some w ↦ rw w.heads-is (length-take-le (length c.args.splice.new.now) w.in-Some.heads (omega (arith, c.args.splice.few)))
+    | in-Some w ↦ rw w.heads-is w.front.ensures.len
     | in-None w ↦ rw w.heads-is tt
   ]
 
@@ -93,7 +93,7 @@ module _ (c : Joined-splice) where
   told : (Told : List ℕ → Type 0) → IfSome c.match-splice.heads (λ heads. Told heads.now)
       → IfSome c.args.splice.heads (λ heads. Told (take (length c.args.splice.new.now) heads))
   told Told so = elim c.match-splice.branch [
-    | in-Some w ↦ rw w.in-Some.is (rw w.heads-is at so)
+    | in-Some w ↦ rw w.in-Some.is (rw (w.heads-is, w.front.ensures.front) at so)
     | in-None w ↦ rw w.in-None.is tt
   ]
 
@@ -103,25 +103,19 @@ overflow_sub-half c =
     omega (arith, len s, many s, c.requires.ordered, c.requires.within, c.args.splice.few)
 
 pub split_off-right-requires : goal.split_off-right-requires
-split_off-right-requires c = (search rules, omega (arith, len (goal.at.split_off-right-requires c).Joined-splice))
+split_off-right-requires c = record { within = omega (arith, len (goal.at.split_off-right-requires c).Joined-splice) }
 
 pub replace-requires : goal.replace-requires
 replace-requires c =
     let s = (goal.at.replace-requires c).Joined-splice in
     let left = ap length c.split_off-right.ensures.left in
-    let part = length-take (c.args.self.now.len - HALF_FULL) (was s) in (
-      search rules,
-      (
-        c.requires.ordered,
-        (
-          omega (arith, len s, left, part, c.if-to-half.true),
-          (
-            as_many s,
-            omega (arith, len s, left, part, c.if-to-half.true, c.requires.ordered, c.args.splice.few),
-          ),
-        ),
-      ),
-    )
+    let part = length-take (c.args.self.now.len - HALF_FULL) (was s) in
+    record {
+      ordered = c.requires.ordered;
+      within = omega (arith, len s, left, part, c.if-to-half.true);
+      same_len = as_many s;
+      room = omega (arith, len s, left, part, c.if-to-half.true, c.requires.ordered, c.args.splice.few);
+    }
 
 pub returns-then-to-half : goal.returns-then-to-half
 returns-then-to-half c =
@@ -130,12 +124,14 @@ returns-then-to-half c =
     let within : half ≤ length (was s) = omega (arith, len s) in
     let put = rw split.left at c.replace.ensures.entries in
     let entries = apart_before (was s) new.now from to half c.requires.ordered c.if-to-half.true within in
-    let left = simp (length-append, length-take, length-drop) at (ap length put) in
-    let right = simp length-drop at (ap length split.right) in
+    let left = ap length put ∙ length-spliced (take half (was s)) new.now from to c.requires.ordered
+        (omega (arith, length-take half (was s), within, c.if-to-half.true)) in
+    let right = ap length split.right ∙ length-drop half (was s) in
+    let part = length-take half (was s) in
     record {
       entries = cc (put, split.right, entries);
       filled = record {
-        left = omega (arith, left, len s, many s, c.requires.ordered, c.requires.within, c.if-to-half.true);
+        left = omega (arith, left, part, len s, many s, c.requires.ordered, c.requires.within, c.if-to-half.true);
         right = omega (arith, right, len s, many s, c.requires.ordered, c.requires.within, c.args.splice.few);
       };
       heads = told s _ (both _ _ _ c.match-splice.heads (λ heads same_len h.
@@ -159,19 +155,13 @@ overflow_sub-to c =
 pub replace-requires-2 : goal.replace-requires-2
 replace-requires-2 c =
     let s = (goal.at.replace-requires-2 c).Joined-splice in
-    let right = simp length-drop at (ap length c.split_off-right-2.ensures.right) in (
-      search rules,
-      (
-        omega (arith, c.requires.ordered),
-        (
-          omega (arith, right, c.requires.within),
-          (
-            as_many s,
-            omega (arith, right, len s, many s, c.if-to-half.false, c.requires.ordered, c.requires.within, c.args.splice.few),
-          ),
-        ),
-      ),
-    )
+    let right = ap length c.split_off-right-2.ensures.right ∙ length-drop HALF_FULL (was s) in
+    record {
+      ordered = omega (arith, c.requires.ordered);
+      within = omega (arith, right, c.requires.within);
+      same_len = as_many s;
+      room = omega (arith, right, len s, many s, c.if-to-half.false, c.requires.ordered, c.requires.within, c.args.splice.few);
+    }
 
 pub returns : goal.returns
 returns c =
@@ -179,13 +169,15 @@ returns c =
     let after : HALF_FULL ≤ from = omega (arith, len s, many s, c.if-to-half.false, c.args.splice.few) in
     let put = rw split.right at c.replace-2.ensures.entries in
     let entries = apart_after (was s) new.now from to HALF_FULL after c.requires.ordered in
-    let left = simp length-take at (ap length split.left) in
-    let right = simp (length-append, length-take, length-drop) at (ap length put) in
+    let left = ap length split.left ∙ length-take HALF_FULL (was s) in
+    let part = length-drop HALF_FULL (was s) in
+    let right = ap length put ∙ length-spliced (drop HALF_FULL (was s)) new.now (from - HALF_FULL) (to - HALF_FULL)
+        (omega (arith, c.requires.ordered)) (omega (arith, part, c.requires.within)) in
     record {
       entries = cc (put, split.left, entries);
       filled = record {
         left = omega (arith, left, len s, many s, c.requires.ordered, c.requires.within, c.args.splice.few);
-        right = omega (arith, right, len s, many s, after, c.requires.ordered, c.requires.within);
+        right = omega (arith, right, part, len s, many s, after, c.requires.ordered, c.requires.within);
       };
       heads = told s _ (both _ _ _ c.match-splice.heads (λ heads same_len h.
           share_after node from to HALF_FULL new.now heads.now c.requires.ordered same_len (sizes s) c.split_off-right-2.new.self

@@ -1,4 +1,4 @@
-use Rattle.std.proofs.Common.{rules, ◌≡◌, ◌<◌, ◌∙◌, length, slice_set, ap, arith, length-set, length-take-le}
+use Rattle.std.proofs.Common.{◌≡◌, ◌<◌, ◌∙◌, length, slice_set, ap, arith, length-set, length-take-le}
 use Rattle.std.proofs.Math.Seq.{take-set-lt, map-set}
 use Rattle.boundaries.proofs.Words.{KeyHeads, entries_of, key_at, key_heads_of, keys_of}
 use Rattle.boundaries.proofs.HeadChanges.{headed_set, known_set}
@@ -8,7 +8,7 @@ pub compute_heads-requires : goal.compute_heads-requires
 compute_heads-requires c =
     let old = c.args.self.now in
     let keys = simp map-set at (ap keys_of c.set.ensures.entries) in
-    (search rules, known_set _ (key_heads_of old) c.requires.headed c.args.index c.args.entry.key c.requires.known _ keys)
+    record { known = known_set _ (key_heads_of old) c.requires.headed c.args.index c.args.entry.key c.requires.known _ keys }
 
 pub returns-clause-headed : goal.returns-clause-headed
 returns-clause-headed c =

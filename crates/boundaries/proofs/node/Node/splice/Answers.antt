@@ -1,4 +1,3 @@
-use Rattle.std.proofs.Common.{rules}
 use Rattle.boundaries.proofs.Words.{NodeEntry, entries_of, key_heads_of, keys_of}
 use Rattle.boundaries.proofs.HeadChanges.{headed_spliced, known_spliced, map_spliced}
 use Rattle.boundaries.proofs.node.Node.splice.Goals as goal
@@ -9,7 +8,9 @@ compute_heads-requires c =
     let old = c.args.self.now in
     let splice = c.args.splice in
     let keys = map_spliced (λ (e : NodeEntry). e.key) (entries_of old) _ _ splice.from splice.to c.replace.ensures.entries in
-    (search rules, known_spliced _ (key_heads_of old) can.headed (keys_of splice.new.now) _ splice.from splice.to can.known keys)
+    record {
+      known = known_spliced _ (key_heads_of old) can.headed (keys_of splice.new.now) _ splice.from splice.to can.known keys;
+    }
 
 pub returns-clause-headed : goal.returns-clause-headed
 returns-clause-headed c =
@@ -17,5 +18,5 @@ returns-clause-headed c =
     let old = c.args.self.now in
     let splice = c.args.splice in
     let keys = map_spliced (λ (e : NodeEntry). e.key) (entries_of old) _ _ splice.from splice.to c.replace-2.ensures.entries in
-    headed_spliced _ (key_heads_of old) can.headed _ _ _ splice.from splice.to can.known
-    (rw c.in-Some.is at can.beside) keys c.replace-2.ensures.heads.prefix_len c.replace-2.ensures.heads.heads_are
+    headed_spliced _ (key_heads_of old) can.headed _ _ _ splice.from splice.to can.known (rw c.in-Some.is at can.beside) keys
+    c.replace-2.ensures.heads.prefix_len (rw c.front.ensures.front at c.replace-2.ensures.heads.heads_are)

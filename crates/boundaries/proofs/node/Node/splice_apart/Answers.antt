@@ -1,4 +1,4 @@
-use Rattle.std.proofs.Common.{rules, ◌≡◌, ◌++◌, ◌∙◌, ℕ, true, List, Option, None, Some, is_some, take, drop, refl, sym, All}
+use Rattle.std.proofs.Common.{◌≡◌, ◌++◌, ◌∙◌, ℕ, true, List, Option, None, Some, is_some, take, drop, refl, sym, All}
 use Rattle.std.proofs.lemmas.List.{length-map, map-append}
 use Rattle.boundaries.proofs.Words.{NodeEntry, AreHeads, IsKnown, KeyBytes, KeyHeads, entries_of, key_at, key_heads_of, keys_of}
 use Rattle.boundaries.proofs.HeadChanges.{headed_apart, headed_spliced, known_spliced, map_spliced}
@@ -54,17 +54,17 @@ pub lengthen_prefix-requires : goal.lengthen_prefix-requires
 lengthen_prefix-requires c =
     let s = (goal.at.lengthen_prefix-requires c).After-replace_apart-right in
     let some = given c.args.splice.heads (sym c.is_some.ensures ∙ c.if-is_some.true) in
-    (search rules, (both_headed s some.0 some.1).0)
+    record { headed = (both_headed s some.0 some.1).0 }
 
 pub lengthen_prefix-requires-then-is_some : goal.lengthen_prefix-requires-then-is_some
 lengthen_prefix-requires-then-is_some c =
     let s = (goal.at.lengthen_prefix-requires-then-is_some c).After-replace_apart-right in
     let some = given c.args.splice.heads (sym c.is_some.ensures ∙ c.if-is_some.true) in
-    (search rules, (both_headed s some.0 some.1).1)
+    record { headed = (both_headed s some.0 some.1).1 }
 
 pub compute_heads-requires : goal.compute_heads-requires
-compute_heads-requires c = (search rules, (known (goal.at.compute_heads-requires c).After-replace_apart-right).0)
+compute_heads-requires c = record { known = (known (goal.at.compute_heads-requires c).After-replace_apart-right).0 }
 
 pub compute_heads-requires-else-is_some : goal.compute_heads-requires-else-is_some
 compute_heads-requires-else-is_some c =
-    (search rules, (known (goal.at.compute_heads-requires-else-is_some c).After-replace_apart-right).1)
+    record { known = (known (goal.at.compute_heads-requires-else-is_some c).After-replace_apart-right).1 }

@@ -1,4 +1,4 @@
-use Rattle.std.proofs.Common.{rules, ◌<◌, ◌-◌, filter, length, arith}
+use Rattle.std.proofs.Common.{◌<◌, ◌-◌, filter, length, arith}
 use Rattle.boundaries.proofs.Words.{NodeEntry, entries_of, is_below, order}
 use Rattle.boundaries.proofs.HeadAt.{entry_at, all_known}
 use Rattle.boundaries.proofs.HeadCounts.{passing_at, passing_inside}
@@ -11,7 +11,11 @@ lower_bound_by_head-index-requires c =
     let head = c.requires.head in
     let all = all_known _ c.args.self.now can.can_find.headed _ _ (order c.args.keys.now c.args.bound) c.args.common_prefix_len
     can.can_find.some can.known in
-    (search rules, (can.can_find, (head.head, (λ none. all (head.none none)))))
+    record {
+      can_find = can.can_find;
+      head = head.head;
+      none = (λ none. all (head.none none));
+    }
 
 -- the first entry is below the bound
 some_below : (c : After-lower_bound_by_head-index) → 0 < c.lower_bound_by_head-index.result
@@ -37,4 +41,9 @@ common_prefix_len_in-known-requires c =
     let less : i < length (filter passes es) = omega (arith, some, count.count_is) in
     let inside : i < length es = omega (arith, less, count.count_is, count.within) in
     let below = λ (e : NodeEntry). passing_at passes es i e can.can_find.partitioned in
-    (search rules, (can, (inside, ((λ e there. below e there less), c.requires.head))))
+    record {
+      can_step = can;
+      within = inside;
+      is_below = (λ e there. below e there less);
+      head = c.requires.head;
+    }

@@ -1,4 +1,4 @@
-use Rattle.std.proofs.Common.{rules, ◌+◌, get_or, lt-ltb, refl, arith}
+use Rattle.std.proofs.Common.{◌+◌, get_or, lt-ltb, refl, arith}
 use Rattle.boundaries.proofs.Words.{entries_of, key_heads_of, order}
 use Rattle.boundaries.proofs.HeadAt.{entry_at, few_pass, key_there, less_passes}
 use Rattle.boundaries.proofs.HeadCounts.{passing_inside}
@@ -8,14 +8,23 @@ use Rattle.boundaries.proofs.node.Node.step_by_guess.Goals as goal
 pub head_for-head-requires : goal.head_for-head-requires
 head_for-head-requires c =
     let can = c.requires.can_step in
-    (search rules, (can.can_find.headed, first_common c.args.keys.now c.args.bound c.args.self.now c.args.common_prefix_len can))
+    record {
+      headed = can.can_find.headed;
+      common_prefix_len = first_common c.args.keys.now c.args.bound c.args.self.now c.args.common_prefix_len can;
+    }
 
 pub step_by-requires : goal.step_by-requires
-step_by-requires c = (search rules, (c.requires.can_step, rw c.in_default.is at c.head_for-head.ensures.head))
+step_by-requires c = record {
+      can_step = c.requires.can_step;
+      head = rw c.in_default.is at c.head_for-head.ensures.head;
+    }
 
 pub step_by-requires-then-not-falls_after : goal.step_by-requires-then-not-falls_after
 step_by-requires-then-not-falls_after c =
-    (search rules, (c.requires.can_step, rw c.in-Some.is at c.head_for-head.ensures.head))
+    record {
+      can_step = c.requires.can_step;
+      head = rw c.in-Some.is at c.head_for-head.ensures.head;
+    }
 
 pub common_prefix_len_in-known-requires : goal.common_prefix_len_in-known-requires
 common_prefix_len_in-known-requires c =
@@ -24,7 +33,12 @@ common_prefix_len_in-known-requires c =
     let below = less_passes _ _ can.can_find.headed _ _ (order c.args.keys.now c.args.bound) c.args.guess in
     let less = lt-ltb (get_or (key_heads_of c.args.self.now).heads c.args.guess 0) c.in-Some.own (describes.following refl) in
     let key = key_there (entries_of c.args.self.now) c.args.guess in
-    (search rules, (can, (describes.within refl, ((λ e at. below e.key c.in-Some.own (key e at) head.head less), head))))
+    record {
+      can_step = can;
+      within = describes.within refl;
+      is_below = (λ e at. below e.key c.in-Some.own (key e at) head.head less);
+      head = head;
+    }
   where
     open c use {if-not-falls_after.{ensures as describes}}
 

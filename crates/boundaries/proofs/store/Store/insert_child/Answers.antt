@@ -1,4 +1,4 @@
-use Rattle.std.proofs.Common.{rules, ◌≡◌, ◌<◌, ◌∷◌, [], List, IfSome, length, get_or, sym, ap, ◌∙◌, arith}
+use Rattle.std.proofs.Common.{◌≡◌, ◌<◌, ◌∷◌, [], List, IfSome, length, get_or, sym, ap, ◌∙◌, arith}
 use Rattle.std.proofs.lemmas.List.Elements.{All-cons, All-nil}
 use Rattle.boundaries.specs.Heads.{AreHeadsBeside}
 use Rattle.boundaries.specs.Node.{IsHeaded}
@@ -36,12 +36,20 @@ module _ (c : After-entry_for-2) where
 pub head_of-requires : goal.head_of-requires
 head_of-requires c =
     let s = (goal.at.head_of-requires c).After-entry_for-2 in
-    (search rules, (headed s, (within s, first_known s)))
+    record {
+      headed = headed s;
+      within = within s;
+      known = first_known s;
+    }
 
 pub head_of-requires-2 : goal.head_of-requires-2
 head_of-requires-2 c =
     let s = (goal.at.head_of-requires-2 c).After-entry_for-2 in
-    (search rules, (headed s, (within s, second_known s)))
+    record {
+      headed = headed s;
+      within = within s;
+      known = second_known s;
+    }
 
 -- the heads of both keys, where both begin as all others do
 beside : (c : Joined-head_of) → IfSome c.match-head_of.heads
@@ -60,9 +68,8 @@ splice-requires c =
     let t = c.entry_for.result in
     let u = c.entry_for-2.result in
     let Known = IsKnown (key_at c.args.self.now.keys) in
-    let known = All-cons Known t.key (u.key ∷ []) (first_known s) (All-cons Known u.key [] (second_known s) (All-nil Known)) in (
-      search rules,
-      record {
+    let known = All-cons Known t.key (u.key ∷ []) (first_known s) (All-cons Known u.key [] (second_known s) (All-nil Known)) in record {
+      can_splice = record {
         sound = can.sound;
         live = can.live;
         room = can.room;
@@ -73,8 +80,8 @@ splice-requires c =
           known = rw c.new.ensures.new known;
           beside = rw (c.new.ensures.new, c.new.ensures.heads) (beside (goal.at.splice-requires c).Joined-head_of);
         };
-      },
-    )
+      };
+    }
 
 pub returns : goal.returns
 returns c =

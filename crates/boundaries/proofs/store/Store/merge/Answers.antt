@@ -1,4 +1,4 @@
-use Rattle.std.proofs.Common.{[], append-nil, refl, sym, ◌∙◌, take_all, arith, rules}
+use Rattle.std.proofs.Common.{[], append-nil, refl, sym, ◌∙◌, take_all, arith}
 use Rattle.std.proofs.lemmas.List.{drop_all}
 use Rattle.boundaries.proofs.Words.{entries_of}
 use Rattle.arena.specs.Arena.{with_header}
@@ -26,7 +26,11 @@ insert-requires c =
     let first = headed_at _ a c.args.first _ two.sound.headed c.header_mut-left.ensures.header in
     let second = headed_at _ a c.args.second _ two.sound.headed c.header-right.ensures.header in
     let room = rw (first_was, second_was) at c.requires.room in
-    (search rules, (omega (arith, c.len.ensures.len), (room, (first, second))))
+    record {
+      within = omega (arith, c.len.ensures.len);
+      room = room;
+      headed = (first, second);
+    }
 
 pub returns : goal.returns
 returns c =

@@ -1,4 +1,4 @@
-use Rattle.std.proofs.Common.{◌≡◌, [], ◌∷◌, append-nil, length, length-append, length-set, ap, ◌∙◌, sym, arith, rules}
+use Rattle.std.proofs.Common.{◌≡◌, [], ◌∷◌, append-nil, length, length-append, length-set, ap, ◌∙◌, sym, arith}
 use Rattle.std.proofs.lemmas.List.Elements.{All-nil, All-cons}
 use Rattle.boundaries.proofs.Words.{HALF_FULL, entries_at}
 use Rattle.boundaries.proofs.Headed.{headed_at}
@@ -27,20 +27,29 @@ merge-requires c =
     let first_was = entries_from_header c.args.self.now.nodes _ _ c.header_ref-2.ensures.header in
     let second_was = entries_from_header c.args.self.now.nodes _ _ c.header_ref-3.ensures.header in
     let two = both _ _ c.requires.can_merge (read (goal.at.merge-requires c).After-index-entries-index-2) in
-    (search rules, (two, rw (first_was, second_was) (omega arith)))
+    record {
+      two = two;
+      room = rw (first_was, second_was) (omega arith);
+    }
 
 pub redistribute-requires : goal.redistribute-requires
 redistribute-requires c =
     let first_was = entries_from_header c.args.self.now.nodes _ _ c.header_ref-2.ensures.header in
     let second_was = entries_from_header c.args.self.now.nodes _ _ c.header_ref-3.ensures.header in
     let two = both _ _ c.requires.can_merge (read (goal.at.redistribute-requires c).After-index-entries-index-2) in
-    (search rules, (two, rw (first_was, second_was) (omega arith)))
+    record {
+      two = two;
+      many = rw (first_was, second_was) (omega arith);
+    }
 
 pub entry_for-entry-requires : goal.entry_for-entry-requires
 entry_for-entry-requires c =
     let filled = enough d e c.requires.can_merge (read (goal.at.entry_for-entry-requires c).After-index-entries-index-2) in
     let all = simp length-append at (ap length c.merge.ensures.entries) in
-    (search rules, (live_if_some c.merge.new.self.nodes _ (omega (arith, filled, all)), omega (arith, filled, all)))
+    record {
+      live = live_if_some c.merge.new.self.nodes _ (omega (arith, filled, all));
+      some = omega (arith, filled, all);
+    }
   where
     open c use {index-entries-index.{result as d}, index-entries-index-2.{result as e}}
 
@@ -59,7 +68,11 @@ set_with_head-requires c =
     let s = (goal.at.set_with_head-requires c).After-index-entries-index-2 in
     let count = ap length (read_again _ _ can (read s) merge.changes header) in
     let headed = headed_at _ c.merge.new.self.nodes c.args.slot _ merge.headed header in
-    (search rules, (omega (arith, count, can.within), (headed, c.entry_for-entry.ensures.known _ merge.headed)))
+    record {
+      within = omega (arith, count, can.within);
+      headed = headed;
+      known = c.entry_for-entry.ensures.known _ merge.headed;
+    }
   where
     open c use {requires.{can_merge as can}, merge.{ensures as merge}, header_mut-node.{ensures.{header}}}
 
@@ -68,7 +81,11 @@ set_with_head-requires-2 c =
     let s = (goal.at.set_with_head-requires-2 c).After-index-entries-index-2 in
     let count = ap length (read_again _ _ can (read s) shared.changes header) in
     let headed = headed_at _ c.redistribute.new.self.nodes c.args.slot _ shared.headed header in
-    (search rules, (omega (arith, count, can.within), (headed, c.entry_for.ensures.known _ shared.headed)))
+    record {
+      within = omega (arith, count, can.within);
+      headed = headed;
+      known = c.entry_for.ensures.known _ shared.headed;
+    }
   where
     open c use {requires.{can_merge as can}, redistribute.{ensures as shared}, header_mut-node-2.{ensures.{header}}}
 
@@ -78,7 +95,11 @@ set_with_head-requires-3 c =
     let count = ap length (read_again _ _ can (read s) shared.changes c.header_mut-node-2.ensures.header) in
     let set = simp length-set at (ap length c.set_with_head-2.ensures.entries) in
     let known = c.entry_for-2.ensures.known _ shared.headed in
-    (search rules, (omega (arith, count, set, can.within), (c.set_with_head-2.ensures.headed, known)))
+    record {
+      within = omega (arith, count, set, can.within);
+      headed = c.set_with_head-2.ensures.headed;
+      known = known;
+    }
   where
     open c use {requires.{can_merge as can}, redistribute.{ensures as shared}}
 
@@ -88,7 +109,10 @@ remove-requires c =
     let seen = read (goal.at.remove-requires c).After-index-entries-index-2 in
     let count = ap length (read_again _ _ can seen c.merge.ensures.changes c.header_mut-node.ensures.header) in
     let set = simp length-set at (ap length c.set_with_head.ensures.entries) in
-    (search rules, (omega arith, omega (arith, count, set, can.within)))
+    record {
+      ordered = omega arith;
+      within = omega (arith, count, set, can.within);
+    }
 
 pub returns-then-count : goal.returns-then-count
 returns-then-count c =

@@ -28,16 +28,15 @@ header_ref-requires-2 c = record {
 pub merge_or_redistribute-requires : goal.merge_or_redistribute-requires
 merge_or_redistribute-requires c =
     let L = HALF_FULL in
-    let j_is : j ≡ i - 1 = c.saturating_sub.ensures in (
-      search rules,
-      record {
+    let j_is : j ≡ i - 1 = c.saturating_sub.ensures in record {
+      can_merge = record {
         sound = can.sound;
         live = can.live;
         within = omega (arith, can.within, can.several, j_is);
         filled = filled_pair a L can.family.0 slot i j can.family.1 j_is c.index-entries-index.result can.within can.several;
         family = (can.family.0, widened a L can.family.0 slot i j can.family.1 j_is);
-      },
-    )
+      };
+    }
   where
     open c use {args.{self.{now.{nodes as a}}, slot, index as i}, requires.{can_rebalance as can}, saturating_sub.{result as j}}
 

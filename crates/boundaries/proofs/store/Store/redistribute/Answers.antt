@@ -1,4 +1,4 @@
-use Rattle.std.proofs.Common.{◌≡◌, ℕ, ◌+◌, ◌-◌, ◌/◌, ◌<◌, ◌≤◌, List, [], ◌∷◌, ◌++◌, Some, append-nil, append_assoc, length, length-append, length-drop, length-take, take, drop, take-append-drop, take_all, refl, sym, ap, ◌∙◌, arith, rules}
+use Rattle.std.proofs.Common.{◌≡◌, ℕ, ◌+◌, ◌-◌, ◌/◌, ◌<◌, ◌≤◌, List, [], ◌∷◌, ◌++◌, Some, append-nil, append_assoc, length, length-append, length-drop, length-take, take, drop, take-append-drop, take_all, refl, sym, ap, ◌∙◌, arith}
 use Rattle.std.proofs.lemmas.List.{drop_all}
 use Rattle.boundaries.specs.Splice.{AreHalfFull}
 use Rattle.boundaries.specs.Rebalancing.{AreTwo}
@@ -98,17 +98,12 @@ header_mut-requires-3 c = record { live = live (swapped c.requires.two) c.take_o
 pub insert-requires : goal.insert-requires
 insert-requires c =
     let s = (goal.at.insert-requires c).After-len in
-    let own = headed_still c.requires.two _ header given.headed.0 in (
-      search rules,
-      (
-        omega arith,
-        (
-          rw (read c.requires.two _ header, given.taken) (simp (length-drop, length-take)
-              (omega (arith, right_is s, left.len, left.most, right.len, right.most))),
-          (own, given.headed.1),
-        ),
-      ),
-    )
+    let own = headed_still c.requires.two _ header given.headed.0 in record {
+      within = omega arith;
+      room = rw (read c.requires.two _ header, given.taken) (simp (length-drop, length-take)
+              (omega (arith, right_is s, left.len, left.most, right.len, right.most)));
+      headed = (own, given.headed.1);
+    }
   where
     open c use {len-left.{ensures as left}, len.{ensures as right}, take_out-moved.{ensures as given}}
     open c use {header_mut-then-left-half.{ensures.{header}}}
@@ -118,17 +113,12 @@ insert-requires-2 c =
     let two = swapped c.requires.two in
     let seen = read two _ header in
     let left_is = left_is (goal.at.insert-requires-2 c).After-len in
-    let own = headed_still two _ header given.headed.0 in (
-      search rules,
-      (
-        omega (arith, ap length seen, left_is),
-        (
-          rw (seen, given.taken) (simp (length-drop, length-take)
-              (omega (arith, left_is, left.len, left.most, right.len, right.most))),
-          (own, given.headed.1),
-        ),
-      ),
-    )
+    let own = headed_still two _ header given.headed.0 in record {
+      within = omega (arith, ap length seen, left_is);
+      room = rw (seen, given.taken) (simp (length-drop, length-take)
+              (omega (arith, left_is, left.len, left.most, right.len, right.most)));
+      headed = (own, given.headed.1);
+    }
   where
     open c use {len-left.{ensures as left}, len.{ensures as right}, take_out-moved-2.{ensures as given}, header_mut-3.{ensures.{header}}}
 

@@ -1,4 +1,4 @@
-use Rattle.std.proofs.Common.{rules, ◌≡◌, ◌∙◌, length, length-append, length-drop, length-take, refl, sym, ap, arith}
+use Rattle.std.proofs.Common.{◌≡◌, ◌∙◌, length, length-append, length-drop, length-take, refl, sym, ap, arith}
 use Rattle.arena.specs.Arena.{with_header}
 use Rattle.boundaries.specs.Splice.{CanSplice, spliced}
 use Rattle.boundaries.proofs.Words.{entries_at, entries_of, key_at}
@@ -24,26 +24,20 @@ overflow_sub-len c =
 pub splice-requires : goal.splice-requires
 splice-requires c =
     let s = (goal.at.splice-requires c).After-header_mut-node in
-    let can = splices s in (
-      search rules,
-      (
-        can,
-        simp (length-append, length-take, length-drop)
-            (omega (arith, c.len.ensures.len, c.len.ensures.most, can.within, can.ordered, c.if-splice-FAN_OUT.true)),
-      ),
-    )
+    let can = splices s in record {
+      can_splice = can;
+      room = simp (length-append, length-take, length-drop)
+          (omega (arith, c.len.ensures.len, c.len.ensures.most, can.within, can.ordered, c.if-splice-FAN_OUT.true));
+    }
 
 pub splice_apart-right-requires : goal.splice_apart-right-requires
 splice_apart-right-requires c =
     let s = (goal.at.splice_apart-right-requires c).After-header_mut-node in
-    let can = splices s in (
-      search rules,
-      (
-        can,
-        simp (length-append, length-take, length-drop)
-            (omega (arith, c.len.ensures.len, can.within, can.ordered, c.if-splice-FAN_OUT.false)),
-      ),
-    )
+    let can = splices s in record {
+      can_splice = can;
+      many = simp (length-append, length-take, length-drop)
+            (omega (arith, c.len.ensures.len, can.within, can.ordered, c.if-splice-FAN_OUT.false));
+    }
 
 pub place-requires : goal.place-requires
 place-requires c =
@@ -51,7 +45,10 @@ place-requires c =
     let now = c.splice_apart-right.new.self in
     let put = put_moves a (with_header a c.args.slot now) c.args.slot now refl c.requires.can_splice.live
     c.requires.can_splice.sound.keyless in
-    (search rules, (put.keyless, omega (arith, c.requires.can_splice.room, put.live, put.spare)))
+    record {
+      keyless = put.keyless;
+      room = omega (arith, c.requires.can_splice.room, put.live, put.spare);
+    }
 
 pub returns-then-splice-FAN_OUT : goal.returns-then-splice-FAN_OUT
 returns-then-splice-FAN_OUT c =
