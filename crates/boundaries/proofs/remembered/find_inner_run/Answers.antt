@@ -75,7 +75,11 @@ module _ (c : After-head) where
 pub lower_bound_by_head-end-requires : goal.lower_bound_by_head-end-requires
 lower_bound_by_head-end-requires c =
     let at = goal.at.lower_bound_by_head-end-requires c in
-    rw c.to-3.ensures.bound (search rules, (to_find at.After-header_ref-node, (end_head at.After-head, (λ none. absurd (cc)))))
+    rw c.to-3.ensures.bound record {
+      can_find = to_find at.After-header_ref-node;
+      head = end_head at.After-head;
+      none = (λ none. absurd (cc));
+    }
 
 pub lower_bound_back-begin-requires : goal.lower_bound_back-begin-requires
 lower_bound_back-begin-requires c =
@@ -83,7 +87,12 @@ lower_bound_back-begin-requires c =
     let more = no_more _ _ (start_before_end c.args.store.now.keys c.args.new.now) (entries_of c.header_ref-node.result.now) in
     let count = rw c.to-3.ensures.bound at c.lower_bound_by_head-end.ensures.count in
     rw c.from-2.ensures.bound
-    (search rules, (from_find at.After-header_ref-node, (start_head at.After-head, (count.within, omega (arith, more, count.count_is)))))
+    record {
+      can_find = from_find at.After-header_ref-node;
+      head = start_head at.After-head;
+      within = count.within;
+      most = omega (arith, more, count.count_is);
+    }
 
 pub overflow_sub-end : goal.overflow_sub-end
 overflow_sub-end c =
@@ -97,7 +106,11 @@ is_below_at-ended-requires c =
     let at = goal.at.is_below_at-ended-requires c in
     let within = c.lower_bound_by_head-end.ensures.count.within in
     rw c.past.ensures.bound
-    (search rules, ((to_find at.After-header_ref-node).headed, (omega (arith, within, c.len-len.ensures.len, c.if-end-len.false), end_head at.After-head)))
+    record {
+      headed = (to_find at.After-header_ref-node).headed;
+      within = omega (arith, within, c.len-len.ensures.len, c.if-end-len.false);
+      head = end_head at.After-head;
+    }
 
 pub returns : goal.returns
 returns c =

@@ -35,16 +35,15 @@ module _ (c : In-Some) where
 
 pub write_run-requires : goal.write_run-requires
 write_run-requires c =
-    let can = c.requires.can_write in (
-      search rules,
-      record {
+    let can = c.requires.can_write in record {
+      can_write = record {
         sound = can.sound;
         room = can.room;
         key_room = can.key_room;
         run_is = c.in-Some.ensures.run.run_is;
         none_removed = can.none_removed;
-      },
-    )
+      };
+    }
 
 -- There is room for what is put in.
 fits : (c : After-write_run) → c.write_run.result ≡ None

@@ -51,20 +51,23 @@ lower_bound_by_head-end-requires c =
     let bound = bound_to c.args.new.now in
     let all = all_known _ c.header_ref-leaf.result.now can.can_find.headed _ _ (order keys bound) c.args.position.common_prefix_len
     can.can_find.some can.known in
-    rw c.to-2.ensures.bound (search rules, (can.can_find, (head.head, (λ none. all (head.none none)))))
+    rw c.to-2.ensures.bound record {
+      can_find = can.can_find;
+      head = head.head;
+      none = (λ none. all (head.none none));
+    }
 
 pub head_beside-begin_head-requires : goal.head_beside-begin_head-requires
 head_beside-begin_head-requires c =
     let at = goal.at.head_beside-begin_head-requires c in
-    rw c.from.ensures.bound (
-      search rules,
-      record {
+    rw c.from.ensures.bound record {
+      searched = record {
         other = bound_to c.args.new.now;
         can_step = to_known at.After-header_ref-leaf;
         head = (end_head at.After-head_for-end_head).head;
         common = sym c.args.new.now.common;
-      },
-    )
+      };
+    }
 
 pub lower_bound_back-begin-requires : goal.lower_bound_back-begin-requires
 lower_bound_back-begin-requires c =
@@ -74,14 +77,23 @@ lower_bound_back-begin-requires c =
     let more = no_more _ _ (start_before_end keys new) (entries_of c.header_ref-leaf.result.now) in
     let count = rw c.to-2.ensures.bound at c.lower_bound_by_head-end.ensures.count in
     let head = rw c.from.ensures.bound at c.head_beside-begin_head.ensures.head in
-    rw c.from-2.ensures.bound (search rules, (from, (head, (count.within, omega (arith, more, count.count_is)))))
+    rw c.from-2.ensures.bound record {
+      can_find = from;
+      head = head;
+      within = count.within;
+      most = omega (arith, more, count.count_is);
+    }
 
 pub is_below_at-ended-requires : goal.is_below_at-ended-requires
 is_below_at-ended-requires c =
     let at = goal.at.is_below_at-ended-requires c in
     let headed = (to_known at.After-header_ref-leaf).can_find.headed in
     let head = (end_head at.After-head_for-end_head).head in
-    rw c.past.ensures.bound (search rules, (headed, (search rules, head)))
+    rw c.past.ensures.bound record {
+      headed = headed;
+      within = search rules;
+      head = head;
+    }
 
 -- the run, where this tells whether an item of the leaf, or behind it, has the key of the end
 found : (c : After-lower_bound_back-begin) (ended : Bool) → ended

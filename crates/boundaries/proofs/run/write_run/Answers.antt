@@ -121,11 +121,12 @@ written c now added new spliced =
 
 pub splice-requires-then-run : goal.splice-requires-then-run
 splice-requires-then-run c =
-    let j = (goal.at.splice-requires-then-run c).Joined-run in (
-      search rules,
-      can_splice_run c.requires.can_write c.new.result (c.of-first.result ∷ []) c.new.ensures.run.0 c.new.ensures.run.1
-      c.new.ensures.new _ refl (puts_stay (puts j)) c.match-run.heads c.new.ensures.heads (All-cons _ _ [] (known j) (All-nil _)) (beside j),
-    )
+    let j = (goal.at.splice-requires-then-run c).Joined-run in
+    record {
+      can_splice = can_splice_run c.requires.can_write c.new.result (c.of-first.result ∷ []) c.new.ensures.run.0 c.new.ensures.run.1
+          c.new.ensures.new _ refl (puts_stay (puts j)) c.match-run.heads c.new.ensures.heads (All-cons _ _ [] (known j) (All-nil _))
+          (beside j);
+    }
 
 pub returns-then-run : goal.returns-then-run
 returns-then-run c =
@@ -212,11 +213,12 @@ module _ (c : After-of-second) where
 
 pub splice-requires : goal.splice-requires
 splice-requires c =
-    let s = (goal.at.splice-requires c).After-of-second in (
-      search rules,
-      can_splice_run c.requires.can_write c.new.result (c.of-first.result ∷ c.of-second.result ∷ []) c.new.ensures.run.0
-      c.new.ensures.run.1 c.new.ensures.new _ refl (puts_stay (puts_too s)) c.match-run.heads c.new.ensures.heads (both_known s) (both_beside s),
-    )
+    let s = (goal.at.splice-requires c).After-of-second in
+    record {
+      can_splice = can_splice_run c.requires.can_write c.new.result (c.of-first.result ∷ c.of-second.result ∷ []) c.new.ensures.run.0
+          c.new.ensures.run.1 c.new.ensures.new _ refl (puts_stay (puts_too s)) c.match-run.heads c.new.ensures.heads (both_known s)
+          (both_beside s);
+    }
 
 pub returns : goal.returns
 returns c =

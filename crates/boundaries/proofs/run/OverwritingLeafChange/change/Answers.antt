@@ -24,9 +24,8 @@ use Rattle.boundaries.proofs.run.OverwritingLeafChange.change.Goals as goal
 
 pub find_run-run-requires : goal.find_run-run-requires
 find_run-run-requires c =
-    let can = c.requires.can_change in (
-      search rules,
-      record {
+    let can = c.requires.can_change in record {
+      can_find = record {
         search = record {
           searchable = record {
             subtree = can.changeable.subtree;
@@ -37,8 +36,8 @@ find_run-run-requires c =
           known = can.known;
         };
         from = part_partitioned (before_start c.args.store.now.keys c.args.self.now.new.now) _ can.wanted.1.part;
-      },
-    )
+      };
+    }
 
 -- the run, and the leaf in which it is
 module _ (c : After-find_run-run) where
@@ -66,21 +65,23 @@ module _ (c : After-find_run-run) where
 
 pub has_first-requires : goal.has_first-requires
 has_first-requires c =
-    let can = c.requires.can_change.changeable in (search rules, (can.subtree, can.some))
+    let can = c.requires.can_change.changeable in record {
+      live = can.subtree;
+      some = can.some;
+    }
 
 pub clear_run-last-requires : goal.clear_run-last-requires
 clear_run-last-requires c =
     let h = (goal.at.clear_run-last-requires c).After-find_run-run in
-    let can = c.requires.can_change in (
-      search rules,
-      record {
+    let can = c.requires.can_change in record {
+      can_clear = record {
         sound = record { keyless = can.changeable.keyless; headed = can.headed };
         live = can.changeable.subtree;
         some = c.find_run-run.ensures.run.run_is.run_is.some;
         within = rw (read h) c.find_run-run.ensures.run.run_is.run_is.end.within;
         none_removed = can.none_removed;
-      },
-    )
+      };
+    }
 
 -- Where the run begins the leaf, and that isn't the first of all, what the leaf has of it is removed.
 pub returns-then-not-has_first-clause-changed : goal.returns-then-not-has_first-clause-changed
@@ -106,16 +107,15 @@ returns-then-not-has_first-clause-items c =
 
 pub write_run-requires : goal.write_run-requires
 write_run-requires c =
-    let can = c.requires.can_change in (
-      search rules,
-      record {
+    let can = c.requires.can_change in record {
+      can_write = record {
         sound = record { keyless = can.changeable.keyless; headed = can.headed };
         room = can.changeable.room;
         key_room = can.wanted.1.room;
         run_is = c.find_run-run.ensures.run.run_is;
         none_removed = can.none_removed;
-      },
-    )
+      };
+    }
 
 -- An item before the run is in the leaf, or that is the first of all.
 entered : (c : Joined-run-eq0) → (let h = (goal.at.Joined-run-eq0 c).After-find_run-run in

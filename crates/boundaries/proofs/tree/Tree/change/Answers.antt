@@ -47,9 +47,8 @@ within g c new keeps =
 pub grow-requires : goal.grow-requires
 grow-requires g c =
     let can = c.requires.can_change in
-    let put = rw c.in-Split.is at (put g (goal.at.grow-requires g c).After-change_leaf-outcome) in (
-      search rules,
-      record {
+    let put = rw c.in-Split.is at (put g (goal.at.grow-requires g c).After-change_leaf-outcome) in record {
+      can_grow = record {
         sound = record { keyless = put.changes.keyless; headed = put.headed };
         low = can.low;
         first = put.subtree;
@@ -58,20 +57,19 @@ grow-requires g c =
         distinct = put.changes.distinct;
         linked = omega (arith, put.changes.live, can.rooted.linked);
         room = omega (arith, put.taken, can.room);
-      },
-    )
+      };
+    }
 
 pub shrink-requires : goal.shrink-requires
 shrink-requires g c =
-    let put = rw c.in-Changed.is at (put g (goal.at.shrink-requires g c).After-change_leaf-outcome) in (
-      search rules,
-      record {
+    let put = rw c.in-Changed.is at (put g (goal.at.shrink-requires g c).After-change_leaf-outcome) in record {
+      can_shrink = record {
         sound = record { keyless = put.changes.keyless; headed = put.headed };
         subtree = put.subtree;
         distinct = put.changes.distinct;
         linked = omega (arith, put.changes.live, c.requires.can_change.rooted.linked);
-      },
-    )
+      };
+    }
 
 pub returns-in-Split : goal.returns-in-Split
 returns-in-Split g c =

@@ -32,9 +32,8 @@ write_in_leaf-requires c =
     let h = (goal.at.write_in_leaf-requires c).In-Some in
     let first = first_part h in
     let second = second_part h in
-    let can = c.requires.can_overwrite.can_change in (
-      search rules,
-      record {
+    let can = c.requires.can_overwrite.can_change in record {
+      can_write = record {
         sound = record { keyless = first.0.keyless; headed = can.reach.searchable.headed };
         live = first.0.subtree;
         some = first.0.some;
@@ -43,8 +42,8 @@ write_in_leaf-requires c =
         from = part_partitioned _ _ first.1;
         to = part_partitioned _ _ second.1;
         none_removed = can.none_removed;
-      },
-    )
+      };
+    }
 
 -- the leaf once the run was written over
 done : (c : Then-write_in_leaf) → IsWrittenInLeaf c.args.self.now.store c.write_in_leaf.new.store c.in-Some.leaf c.args.new.now
