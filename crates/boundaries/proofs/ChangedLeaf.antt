@@ -1,12 +1,12 @@
 -- A subtree that stays as it is, and a leaf that is changed where it lies.
-use Rattle.std.proofs.Common.{◌≡◌, ℕ, ◌≤◌, ◌∙◌, List, [], ◌∷◌, Option, None, Some, filter, length, refl, sym, subst, arith}
+use Rattle.std.proofs.Common.{◌≡◌, ℕ, ◌≤◌, List, [], ◌∷◌, None, Some, filter, length, refl, sym, subst, arith}
 use Rattle.std.proofs.lemmas.Option.{IfSome_then}
 use Rattle.arena.specs.Arena.{Arena, IsLive, header_at, key_at, with_header}
 use Rattle.boundaries.specs.declared.entry.NodeEntry.{NodeEntry}
 use Rattle.boundaries.specs.declared.node.Node.{Node}
 use Rattle.boundaries.specs.declared.walk.LeafOutcome.{LeafOutcome}
 use Rattle.boundaries.specs.declared.walk.RaisedLeaf.{RaisedLeaf}
-use Rattle.boundaries.specs.declared.walk.LeafOutcome.TheVariants.{Same, Raised, Changed}
+use Rattle.boundaries.specs.declared.walk.LeafOutcome.TheVariants.{Same, Raised}
 use Rattle.boundaries.specs.Finding.{CanFind, CanStep}
 use Rattle.boundaries.specs.Bound.{Keys, is_below}
 use Rattle.boundaries.specs.Heads.{AllAreHeads}

@@ -1,5 +1,5 @@
 -- Boundaries are copied one by one: what is known of the copy, and what a write adds to it.
-use Rattle.std.proofs.Common.{◌≡◌, ◌≢◌, ℕ, zero, suc, ◌+◌, ◌<◌, ◌≤◌, true, false, not, List, [], ◌∷◌, ◌++◌, length, replicate, filter, refl, sym, ◌∙◌, ap, subst, inl, inr, arith, append_assoc, append-nil, length-append}
+use Rattle.std.proofs.Common.{◌≡◌, ℕ, zero, suc, ◌+◌, ◌<◌, ◌≤◌, true, false, not, List, [], ◌∷◌, ◌++◌, length, replicate, filter, refl, sym, ◌∙◌, ap, subst, inl, inr, arith, append_assoc, append-nil, length-append}
 use Rattle.std.specs.Prelude.{ℤ, negsuc, ◌≤ℤ◌, All}
 use Rattle.std.proofs.lemmas.Bool.{cases_lt}
 use Rattle.std.proofs.lemmas.List.Elements.{All-head, All-tail, All-cons, All-nil, All-append, All-weaker, filter-append, filter_agree}
@@ -22,7 +22,7 @@ use Rattle.boundaries.specs.Boundary.{first_key}
 use Rattle.boundaries.specs.Written.{closed_at, written}
 use Rattle.boundaries.proofs.callers.LeftFrom.{below_middle, filter_yes, filter_no, not_not}
 use Rattle.boundaries.proofs.Partitioning.{stored_partitioned}
-use Rattle.boundaries.proofs.callers.Order.{Rising, rising_in_order, rise_middle, rise_above, rise_lower}
+use Rattle.boundaries.proofs.callers.Order.{Rising, rising_in_order, rise_middle, rise_above}
 use Rattle.boundaries.proofs.callers.Values.{value_back, last_has}
 use Rattle.boundaries.proofs.callers.WritingOrder.{written_boundaries}
 

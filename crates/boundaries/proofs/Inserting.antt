@@ -4,7 +4,6 @@ use Rattle.std.specs.FinMap as finite
 use Rattle.std.proofs.lemmas.List.Filters.{length-filter_both}
 use Rattle.arena.specs.Arena.{Arena, spare_of}
 use Rattle.boundaries.specs.declared.node.Node.{Node}
-use Rattle.boundaries.specs.declared.entry.NodeEntry.{NodeEntry}
 use Rattle.boundaries.specs.Item.{Item}
 use Rattle.boundaries.specs.Path.{items_below, following}
 use Rattle.boundaries.specs.Subtree.{items_in}

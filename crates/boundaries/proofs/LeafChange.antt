@@ -12,7 +12,7 @@ use Rattle.boundaries.specs.Heads.{KeyBytes, Begins, AreHeads, AllAreHeads}
 use Rattle.boundaries.specs.Item.{item_of}
 use Rattle.boundaries.specs.Node.{entries_of, key_heads_of, all_heads_of, keys_of}
 use Rattle.boundaries.specs.Path.{IsPartitioned}
-use Rattle.boundaries.specs.Subtree.{entries_at, items_in}
+use Rattle.boundaries.specs.Subtree.{entries_at}
 use Rattle.boundaries.specs.Store.{IsTree}
 use Rattle.boundaries.proofs.HeadOrder.{empty_head}
 use Rattle.boundaries.proofs.Headed.{headed_put}

@@ -1,6 +1,6 @@
 -- A range of stored boundaries is written over, or some of those at its end are removed.
-use Rattle.std.proofs.Common.{◌≡◌, ◌≢◌, ℕ, ◌+◌, ◌<◌, ◌≤◌, if◌then◌else◌, arith, Bool, true, false, List, [], ◌∷◌, ◌++◌, length, None, Some, map, unwrap_or, refl, sym, ◌∙◌, ap, ap₂, subst, append_assoc, inl, inr}
-use Rattle.std.specs.Prelude.{ℤ, ◌↔◌, Any, IsTrue}
+use Rattle.std.proofs.Common.{◌≡◌, ◌≢◌, ℕ, ◌+◌, ◌<◌, ◌≤◌, if◌then◌else◌, arith, Bool, true, false, List, [], ◌∷◌, ◌++◌, length, None, Some, unwrap_or, refl, sym, ◌∙◌, ap, ap₂, subst, append_assoc, inl, inr}
+use Rattle.std.specs.Prelude.{ℤ, Any, IsTrue}
 use Rattle.std.specs.List.{All, Contains}
 use Rattle.std.specs.FinMap as finite
 use Rattle.std.proofs.lemmas.List.{length-append, map-append}

@@ -1,5 +1,5 @@
 -- Items of which a run is swept of expired items: what is said of a leaf's is said of all of them.
-use Rattle.std.proofs.Common.{◌≡◌, ℕ, ℤ, List, [], ◌∷◌, ◌++◌, None, sym, ◌∙◌, ap, append_assoc}
+use Rattle.std.proofs.Common.{ℕ, ℤ, List, [], ◌∷◌, ◌++◌, None, sym, ◌∙◌, ap, append_assoc}
 use Rattle.boundaries.proofs.Words.{KeyBound, Removal, Item, Store, GivesUnexpired, is_below, IsChangedWithin}
 use Rattle.boundaries.proofs.callers.Partitions.{filter_around}
 use Rattle.boundaries.proofs.Keys.{following-parts, first_key-append}

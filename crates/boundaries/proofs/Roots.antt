@@ -1,5 +1,5 @@
 -- The root of a tree, from which a search begins: the first key is empty.
-use Rattle.std.proofs.Common.{◌≡◌, ℕ, List, [], None, sym, subst, ◌∙◌, arith}
+use Rattle.std.proofs.Common.{ℕ, List, [], None, sym, subst, ◌∙◌, arith}
 use Rattle.boundaries.specs.Heads.{IsCommonPrefixLen}
 use Rattle.boundaries.specs.Position.{CanReach, CanSearch, IsFirstKnown}
 use Rattle.boundaries.specs.Walk.{CanChange, CanChangeLeaf, CanChangeTree}

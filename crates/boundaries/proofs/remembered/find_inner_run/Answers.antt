@@ -1,6 +1,6 @@
-use Rattle.std.proofs.Common.{rules, ◌≡◌, ◌≤◌, ◌∙◌, sym, refl, Some, arith}
+use Rattle.std.proofs.Common.{rules, ◌≡◌, ◌≤◌, ◌∙◌, sym, arith}
 use Rattle.std.proofs.lemmas.Bool.{leb-true}
-use Rattle.boundaries.specs.Overwrite.{before_end, before_start, bound_from, bound_past, bound_to}
+use Rattle.boundaries.specs.Overwrite.{before_end, before_start, bound_from, bound_to}
 use Rattle.boundaries.proofs.Words.{CanFind, HasPrefix, IsTargetHead, entries_at, entries_of, key_at, key_heads_of}
 use Rattle.boundaries.proofs.Headed.{headed_at}
 use Rattle.boundaries.proofs.Leaves.{entries_of_partitioned}

@@ -1,15 +1,14 @@
-use Rattle.std.proofs.Common.{rules, ℕ, ◌-◌, ◌+◌, ◌≤◌, ◌≡◌, ◌∙◌, inl, ap, sym, List, [], None, ◌++◌, ◌∷◌, length, length-append, Option, take, drop, map, arith, unwrap_or}
+use Rattle.std.proofs.Common.{◌≡◌, ◌∙◌, inl, ap, sym, [], None, ◌++◌, ◌∷◌, length, length-append, take, drop, map, arith, unwrap_or}
 use Rattle.std.proofs.lemmas.Int.{ints}
 use Rattle.std.proofs.lemmas.List.{length-drop, length-map, length-take-le}
 use Rattle.boundaries.specs.declared.node.Node.{Node}
 use Rattle.boundaries.specs.EntryRun.{IsRunWritten}
-use Rattle.boundaries.specs.Finding.{CanFind}
 use Rattle.boundaries.specs.Item.{item_of}
 use Rattle.boundaries.specs.Items.{ended_by}
 use Rattle.boundaries.specs.Node.{entries_of}
-use Rattle.boundaries.specs.Overwrite.{GivesEntire, before_end, before_start}
+use Rattle.boundaries.specs.Overwrite.{before_end, before_start}
 use Rattle.boundaries.specs.Path.{IsPartitioned}
-use Rattle.boundaries.specs.Subtree.{entries_at, items_in}
+use Rattle.boundaries.specs.Subtree.{entries_at}
 use Rattle.boundaries.proofs.Leaves.{entries_of_partitioned}
 use Rattle.boundaries.proofs.Placing.{entries_from_header}
 use Rattle.boundaries.proofs.RunWritten.{entire_run, last_entry}

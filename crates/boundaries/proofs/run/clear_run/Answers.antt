@@ -1,7 +1,6 @@
-use Rattle.std.proofs.Common.{rules, ◌≡◌, ◌<◌, ◌≤◌, ◌-◌, ◌∙◌, ap, refl, sym, length, length-take, take, drop, w64, arith}
+use Rattle.std.proofs.Common.{rules, ◌≡◌, ◌∙◌, ap, refl, sym, length, length-take, w64, arith}
 use Rattle.std.proofs.lemmas.Int.{to_z-of_z}
 use Rattle.arena.specs.Arena.{with_header}
-use Rattle.boundaries.specs.Node.{entries_of}
 use Rattle.boundaries.specs.Subtree.{entries_at}
 use Rattle.boundaries.proofs.ChangedLeaf.{put_stored_in}
 use Rattle.boundaries.proofs.Headed.{headed_at}

@@ -1,7 +1,7 @@
-use Rattle.std.proofs.Common.{rules, ◌≡◌, ◌<◌, ◌≤◌, Bool, false, sym, length, drop, map, arith}
+use Rattle.std.proofs.Common.{rules, ◌≡◌, Bool, false, sym, drop, map, arith}
 use Rattle.boundaries.specs.EntryRun.{IsRunBefore}
-use Rattle.boundaries.specs.Overwrite.{before_end, before_start, bound_from, bound_past, bound_to, first_is_below, up_to_end}
-use Rattle.boundaries.proofs.Words.{CanFind, CanStep, IsHeadFor, entries_at, entries_of, first_key, item_of, order}
+use Rattle.boundaries.specs.Overwrite.{before_start, bound_from, bound_to, first_is_below, up_to_end}
+use Rattle.boundaries.proofs.Words.{CanFind, CanStep, IsHeadFor, entries_of, first_key, item_of, order}
 use Rattle.boundaries.proofs.ChangedLeaf.{first_below}
 use Rattle.boundaries.proofs.HeadAt.{all_known}
 use Rattle.boundaries.proofs.KeyBytes.{first_common}

@@ -1,6 +1,6 @@
-use Rattle.std.proofs.Common.{rules, ◌≡◌, ◌+◌, ◌<◌, ◌≤◌, ◌^◌, [], drop, length, ap, arith, w64}
+use Rattle.std.proofs.Common.{rules, ◌+◌, ◌<◌, ◌≤◌, ◌^◌, [], length, ap, arith, w64}
 use Rattle.std.proofs.lemmas.Int.{to_z-of_z}
-use Rattle.boundaries.proofs.Words.{entries_at, items_from, items_in, unexpired}
+use Rattle.boundaries.proofs.Words.{entries_at, items_from, unexpired}
 use Rattle.boundaries.proofs.StillCounted.{items_of_root}
 use Rattle.boundaries.proofs.unexpired.count_unexpired.Goals as goal
 

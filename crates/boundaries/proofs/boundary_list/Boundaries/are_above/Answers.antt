@@ -1,7 +1,7 @@
-use Rattle.std.proofs.Common.{rules, arith, ◌≤◌, ℕ, Bool, List, length, get_or, ap}
+use Rattle.std.proofs.Common.{rules, arith, ◌≤◌, ℕ, Bool, length, get_or, ap}
 use Rattle.std.specs.Prelude.{◌↔◌, IsTrue, IsSomeAnd, slice_get}
 use Rattle.std.specs.List.{All, AllZip}
-use Rattle.boundaries.specs.Boundary.{Boundary, AreBoundaries, Exceeds}
+use Rattle.boundaries.specs.Boundary.{AreBoundaries, Exceeds}
 use Rattle.boundaries.specs.Question.{AsksFor, CanAsk, Exceeds as ExceedsItems}
 use Rattle.boundaries.specs.Stored.{boundaries_of}
 use Rattle.boundaries.specs.Walk.{items_of_tree}

@@ -1,7 +1,7 @@
 use Rattle.std.proofs.Common.{rules, ◌≡◌, [], ◌∷◌, ap, ◌∙◌, w64}
 use Rattle.std.specs.Prelude.{ℤ, negsuc, FitsSigned}
 use Rattle.std.proofs.lemmas.Int.{to_z-of_z}
-use Rattle.boundaries.specs.Boundary.{Boundary, last_version}
+use Rattle.boundaries.specs.Boundary.{last_version}
 use Rattle.boundaries.proofs.CopiedOn.{copied_first, first_boundaries}
 use Rattle.boundaries.proofs.boundary_list.Boundaries.copied_first.Goals as goal
 use Rattle.boundaries.proofs.boundary_list.Boundaries.copied_first.Goals.{In-Ok}

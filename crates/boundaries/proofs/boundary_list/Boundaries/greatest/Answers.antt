@@ -1,4 +1,4 @@
-use Rattle.std.proofs.Common.{arith, true, false, refl, rules, w64}
+use Rattle.std.proofs.Common.{arith, true, refl, rules, w64}
 use Rattle.std.specs.Prelude.{FitsSigned}
 use Rattle.std.proofs.lemmas.Int.{to_z-of_z}
 use Rattle.keys.specs.Key.{IsBefore}

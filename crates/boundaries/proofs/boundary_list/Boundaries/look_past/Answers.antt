@@ -1,4 +1,4 @@
-use Rattle.std.proofs.Common.{arith, rules, ◌≡◌, ◌≤◌, ℕ, true, [], length, not, refl, All, IfSome, unwrap_or, option_map, ◌∙◌, ap, sym, subst, w64, vec_capacity}
+use Rattle.std.proofs.Common.{arith, rules, ◌≤◌, ℕ, true, [], length, not, refl, All, IfSome, unwrap_or, option_map, ◌∙◌, ap, sym, subst, w64, vec_capacity}
 use Rattle.std.specs.Prelude.{FitsSigned}
 use Rattle.std.proofs.lemmas.Int.{to_z-of_z}
 use Rattle.std.proofs.lemmas.List.Elements.{All-filter, All-weaker}

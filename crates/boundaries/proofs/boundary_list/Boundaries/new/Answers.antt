@@ -1,9 +1,8 @@
-use Rattle.std.proofs.Common.{arith, ◌≡◌, ◌+◌, ◌≤◌, [], ◌∷◌, cond, refl, ap, sym, ◌∙◌, is_some, option_map, rules, w64}
+use Rattle.std.proofs.Common.{arith, ◌≡◌, ◌+◌, [], ◌∷◌, cond, refl, ap, ◌∙◌, is_some, option_map, w64}
 use Rattle.std.specs.FinMap as finite
-use Rattle.std.specs.Ordering.{nat_cmp}
 use Rattle.std.specs.Cmp.{nat_cmp_total}
 use Rattle.std.proofs.lemmas.Int.{to_z-of_z}
-use Rattle.arena.specs.Arena.{Record, key_at}
+use Rattle.arena.specs.Arena.{key_at}
 use Rattle.boundaries.specs.Item.{item_of}
 use Rattle.boundaries.proofs.LeafChange.{headed_alone}
 use Rattle.boundaries.proofs.Placing.{entries_from_header, placed_spare}

@@ -1,12 +1,12 @@
-use Rattle.std.proofs.Common.{rules, ◌≡◌, ◌<◌, ◌≤◌, ◌+◌, ◌^◌, None, Option, Some, length, ap, arith, w64, Fits}
+use Rattle.std.proofs.Common.{rules, ◌<◌, ◌≤◌, ◌+◌, ◌^◌, None, Option, Some, length, arith, w64, Fits}
 use Rattle.std.specs.Prelude.{ℤ, IfSome}
 use Rattle.std.proofs.lemmas.List.{length-map}
 use Rattle.boundaries.specs.Boundary.{AreBoundaries}
 use Rattle.boundaries.specs.Overwrite.{GivesWritten, HasKeyRoom, bound_to}
-use Rattle.boundaries.specs.Stored.{IsCleared, IsWrittenOver, Stored, boundaries_of, boundary_of}
+use Rattle.boundaries.specs.Stored.{IsCleared, boundaries_of, boundary_of}
 use Rattle.boundaries.specs.Walk.{IsChangedTree, items_of_tree}
 use Rattle.boundaries.proofs.StoredTrees.{IsReleased, can_overwrite, entire_are, entire_used, part_are, part_less, part_same, part_unused, removed_live, stored_after}
-use Rattle.boundaries.proofs.boundary_list.Boundaries.overwrite.Goals.{After-overwrite-at_end, After-release_removed}
+use Rattle.boundaries.proofs.boundary_list.Boundaries.overwrite.Goals.{After-release_removed}
 use Rattle.boundaries.proofs.boundary_list.Boundaries.overwrite.Goals as goal
 
 pub overwrite-at_end-requires : goal.overwrite-at_end-requires

@@ -1,4 +1,4 @@
-use Rattle.std.proofs.Common.{◌≡◌, true, ◌∙◌, sym}
+use Rattle.std.proofs.Common.{true, ◌∙◌, sym}
 use Rattle.boundaries.proofs.SingleRange.{single_of, single_equal}
 use Rattle.boundaries.proofs.callers.WritingValues.{begins_before_end}
 use Rattle.boundaries.proofs.overwrite.Overwrite.of.Goals as goal

@@ -1,4 +1,4 @@
-use Rattle.std.proofs.Common.{rules, ◌≡◌, None, refl, ◌∙◌, arith}
+use Rattle.std.proofs.Common.{rules, None, refl, ◌∙◌, arith}
 use Rattle.boundaries.specs.Bound.{is_below}
 use Rattle.boundaries.specs.Children.{items_with}
 use Rattle.boundaries.specs.Rebalancing.{KeepsKeys}

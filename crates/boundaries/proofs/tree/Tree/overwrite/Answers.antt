@@ -1,4 +1,4 @@
-use Rattle.std.proofs.Common.{rules, ℕ, Bool, true, ◌≡◌, ◌∙◌, [], None, Some, refl, ap, subst, append-nil, arith}
+use Rattle.std.proofs.Common.{true, ◌≡◌, [], None, refl, subst, append-nil, arith}
 use Rattle.boundaries.specs.declared.walk.LeafOutcome.TheVariants.{Raised}
 use Rattle.boundaries.specs.EntryRun.{IsWrittenInLeaf}
 use Rattle.boundaries.specs.Overwrite.{GivesEntire, IsPartOfPartitioned, before_end, before_start}

@@ -1,10 +1,10 @@
-use Rattle.std.proofs.Common.{rules, ◌≡◌, ◌<◌, ◌≤◌, ◌∙◌, length, filter, take, drop, map, [], ◌∷◌, ◌++◌, None, sym, ap, refl, append_assoc, arith, w64}
+use Rattle.std.proofs.Common.{rules, ◌≡◌, ◌<◌, ◌∙◌, take, drop, map, [], ◌∷◌, ◌++◌, None, sym, ap, refl, append_assoc, arith, w64}
 use Rattle.std.proofs.lemmas.Int.{to_z-of_z}
 use Rattle.std.proofs.lemmas.List.{map-append}
 use mathlib.Core.List.{map-map}
 use Rattle.boundaries.specs.Item.{item_version}
 use Rattle.boundaries.specs.Position.{IsFoundLeaf as IsFoundAt}
-use Rattle.boundaries.proofs.Words.{CanStep, HALF_FULL, Item, NodeEntry, after_leaf, before_leaf, entries_at, entries_of, first_key, following, is_below, item_of, items_below, items_in, version_of}
+use Rattle.boundaries.proofs.Words.{CanStep, HALF_FULL, Item, after_leaf, before_leaf, entries_at, entries_of, first_key, following, is_below, item_of, items_below, items_in}
 use Rattle.boundaries.proofs.ChangedLeaf.{first_below}
 use Rattle.boundaries.proofs.Found.{entries_read}
 use Rattle.boundaries.proofs.Headed.{headed_at}
