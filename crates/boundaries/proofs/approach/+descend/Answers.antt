@@ -16,7 +16,16 @@ use Rattle.boundaries.proofs.Placing.{entries_from_header, live_if_some}
 use Rattle.boundaries.proofs.QuestionAnswers.{clears_after, answered_by_child, answered_by_entry}
 use Rattle.boundaries.proofs.QuestionBounds.{nested, same_below}
 use Rattle.boundaries.proofs.approach.+descend.Goals as goal
-use Rattle.boundaries.proofs.approach.+descend.Goals.{After-header_ref-node, After-step_by-step, Joined-question}
+use Rattle.boundaries.proofs.approach.+descend.Goals.{
+  After-header_ref-node,
+  After-step_by-step,
+  Joined-question,
+  then-question,
+  then-question-via-then-question,
+  then-question-via-else-question+then-step-len,
+  else-question+then-decides,
+  else-question+else-decides,
+}
 
 -- What is known of the items after a child: none of the next entry's is before the end, and where there is none, none of those
 -- after the node's items is.
@@ -74,12 +83,15 @@ head_for-head-requires t c =
     let can = can_step t (goal.at.head_for-head-requires t c).After-header_ref-node in
     let common = first_common c.args.store.now.keys (bound_after c.args.question.now) c.header_ref-node.result.now
     c.args.hint.common_prefix_len can in
-    (search rules, rw c.from.ensures.bound (can.can_find.headed, common))
+    record { headed = can.can_find.headed; common_prefix_len = rw c.from.ensures.bound common }
 
 pub step_by-step-requires : goal.step_by-step-requires
 step_by-step-requires t c =
     let can = can_step t (goal.at.step_by-step-requires t c).After-header_ref-node in
-    (search rules, rw c.from-2.ensures.bound (can, rw c.from.ensures.bound at c.head_for-head.ensures.head))
+    record {
+      can_step = rw c.from-2.ensures.bound can;
+      head = rw c.from-2.ensures.bound (rw c.from.ensures.bound at c.head_for-head.ensures.head);
+    }
 
 -- the entry at which the search goes on
 module _ (t : ℕ) (c : After-step_by-step t) where
@@ -88,15 +100,14 @@ module _ (t : ℕ) (c : After-step_by-step t) where
 
 pub head_beside-to_head-requires : goal.head_beside-to_head-requires
 head_beside-to_head-requires t c =
-    let can = can_step t (goal.at.head_beside-to_head-requires t c).After-header_ref-node in (
-      search rules,
-      rw c.to.ensures.bound record {
+    let can = can_step t (goal.at.head_beside-to_head-requires t c).After-header_ref-node in record {
+      searched = rw c.to.ensures.bound record {
         other = bound_after c.args.question.now;
         can_step = can;
         head = (rw c.from.ensures.bound at c.head_for-head.ensures.head).head;
         common = c.args.question.now.common;
-      },
-    )
+      };
+    }
 
 pub rest_at-rest-requires : goal.rest_at-rest-requires
 rest_at-rest-requires t c =
@@ -104,7 +115,12 @@ rest_at-rest-requires t c =
     let can = can_step t at.After-header_ref-node in
     let step = is_step t at.After-step_by-step in
     let head = rw c.to.ensures.bound at c.head_beside-to_head.ensures.head in
-    (search rules, (can.can_find.headed, (ends t at.After-header_ref-node, (omega (arith, step.within, c.len.ensures.len), head))))
+    record {
+      headed = can.can_find.headed;
+      to = ends t at.After-header_ref-node;
+      within = omega (arith, step.within, c.len.ensures.len);
+      head = head;
+    }
 
 -- the child at which the search goes on, and what is known of the items after its own
 module _ (t : ℕ) (c : Joined-question t) where
@@ -149,7 +165,18 @@ module _ (t : ℕ) (c : Joined-question t) where
   there = slice_get_read es _ _ c.index-entries-step.result refl step.within is
 
   is_rest : IsRest c.args.store.now node c.step_by-step.result.index q c.args.hint.rest c.if-question.rest
-  is_rest = ?
+  is_rest = elim c.if-question.branch [
+    | then-question w ↦ rw w.rest-is (elim w.then-question.branch [
+      | then-question-via-then-question v ↦
+          rest_single c.args.store.now node c.step_by-step.result.index q c.args.hint.rest v.if-question.true
+          (can_step t at_node).can_find.partitioned step.index_is
+      | then-question-via-else-question+then-step-len v ↦
+          rest_last c.args.store.now node c.step_by-step.result.index q c.args.hint.rest (v.if-step-len.true ∙ v.len.ensures.len)
+    ])
+    | else-question+then-decides w ↦ rw w.rest-is (rest_next c.args.store.now node c.step_by-step.result.index q c.args.hint.rest _
+        (omega (arith, step.within, w.if-step-len.false, w.len.ensures.len)) w.rest_at-rest.ensures.rest)
+    | else-question+else-decides w ↦ rw w.rest-is (rest_open c.args.store.now node c.step_by-step.result.index q c.args.hint.rest)
+  ]
 
   -- What is told of its items is told of those of the node.
   answered : (result : Option Bool)

@@ -1,5 +1,9 @@
-use Rattle.std.proofs.Common.{rules, refl, w64, arith}
+use Rattle.std.proofs.Common.{rules, ◌≡◌, ◌∙◌, true, false, refl, sym, w64, arith}
 use Rattle.std.proofs.lemmas.Int.{to_z-of_z}
+use denote.Enum.Bare.{sameb}
+use Rattle.boundaries.specs.contracts.approach.Rest.{the_type}
+use Rattle.boundaries.specs.declared.approach.Rest.{Rest}
+use Rattle.boundaries.specs.declared.approach.Rest.TheVariants as rest
 use Rattle.boundaries.specs.Question.{before_end, begun, bound_after, bound_before, is_clear}
 use Rattle.boundaries.proofs.Words.{CanFind, CanStep, HALF_FULL, entries_of, order}
 use Rattle.boundaries.proofs.AnsweredKeys.{some_pass}
@@ -10,6 +14,11 @@ use Rattle.boundaries.proofs.QuestionAnswers.{answered_by_leaf}
 use Rattle.boundaries.proofs.QuestionBounds.{nested}
 use Rattle.boundaries.proofs.lookup.leaf_answer.Goals as goal
 use Rattle.boundaries.proofs.lookup.leaf_answer.Goals.{After-entries-entries, After-end_in-end, else-end-entries-via-then-end-entries+else-eq, else-end-entries-via-else-end-entries}
+
+-- what isn't open is clear
+closed : (r : Rest) → sameb the_type r rest.Open ≡ false → is_clear r ≡ true
+closed rest.Clear is = refl
+closed rest.Open is = absurd (cc)
 
 -- what is asked of the search in a leaf
 can_step : (c : After-entries-entries)
@@ -77,7 +86,8 @@ returns c =
       answered = answered_by_leaf _ _ _ _ _ _ _ _ _ k q.version (is_clear c.args.hint.rest) c.any_above.result refl
           (omega (arith, least, k.begin_is))
           (λ all. elim c.else-end-entries.branch [
-            | else-end-entries-via-then-end-entries+else-eq w ↦ ?
+            | else-end-entries-via-then-end-entries+else-eq w ↦
+                closed c.args.hint.rest (sym w.eq.ensures ∙ w.if-eq.false)
             | else-end-entries-via-else-end-entries w ↦ absurd (w.if-end-entries.false (rw c.entries-entries.ensures.entries all))
           ])
           (rw (kept, c.entries-entries.ensures.entries) at c.any_above.ensures.above);
