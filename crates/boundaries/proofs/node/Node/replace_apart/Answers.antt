@@ -109,7 +109,7 @@ pub replace-requires : goal.replace-requires
 replace-requires c =
     let s = (goal.at.replace-requires c).Joined-splice in
     let left = ap length c.split_off-right.ensures.left in
-    let part = length-take (c.args.self.now.len - HALF_FULL) (was s) in
+    let part = length-take-le (c.args.self.now.len - HALF_FULL) (was s) (omega (arith, len s)) in
     record {
       ordered = c.requires.ordered;
       within = omega (arith, len s, left, part, c.if-to-half.true);
@@ -124,10 +124,10 @@ returns-then-to-half c =
     let within : half ≤ length (was s) = omega (arith, len s) in
     let put = rw split.left at c.replace.ensures.entries in
     let entries = apart_before (was s) new.now from to half c.requires.ordered c.if-to-half.true within in
+    let part = length-take-le half (was s) within in
     let left = ap length put ∙ length-spliced (take half (was s)) new.now from to c.requires.ordered
-        (omega (arith, length-take half (was s), within, c.if-to-half.true)) in
+        (omega (arith, part, c.if-to-half.true)) in
     let right = ap length split.right ∙ length-drop half (was s) in
-    let part = length-take half (was s) in
     record {
       entries = cc (put, split.right, entries);
       filled = record {
@@ -169,7 +169,7 @@ returns c =
     let after : HALF_FULL ≤ from = omega (arith, len s, many s, c.if-to-half.false, c.args.splice.few) in
     let put = rw split.right at c.replace-2.ensures.entries in
     let entries = apart_after (was s) new.now from to HALF_FULL after c.requires.ordered in
-    let left = ap length split.left ∙ length-take HALF_FULL (was s) in
+    let left = ap length split.left ∙ length-take-le HALF_FULL (was s) (omega (arith, after, c.requires.ordered, c.requires.within)) in
     let part = length-drop HALF_FULL (was s) in
     let right = ap length put ∙ length-spliced (drop HALF_FULL (was s)) new.now (from - HALF_FULL) (to - HALF_FULL)
         (omega (arith, c.requires.ordered)) (omega (arith, part, c.requires.within)) in

@@ -1,4 +1,4 @@
-use Rattle.std.proofs.Common.{◌≡◌, ◌<◌, ◌==◌, ℕ, List, Some, length, get_or, eqb-true, sym, ap, ◌∙◌, arith}
+use Rattle.std.proofs.Common.{◌≡◌, ◌<◌, ◌==◌, ℕ, List, [], Some, length, get_or, eqb-true, sym, ap, ◌∙◌, arith}
 use Rattle.std.proofs.Math.Nat.{min-le_left}
 use Rattle.std.proofs.lemmas.List.{get_or-map, length-map, nil_from_length, take_all}
 use Rattle.boundaries.proofs.Words.{NodeEntry, key_at, keys_of}
@@ -22,14 +22,14 @@ loop-entry-preserved c =
           let n = w.common_prefix_len.result in
           let is : (a b : List ℕ) → bytes c.args.key ≡ Some a → bytes e.key ≡ Some b
               → (c.bytes_of-last.result.now ≡ a) × (c.bytes_of-own.result.now ≡ b) = λ a b one other.
-          (c.bytes_of-last.ensures.bytes ∙ known_bytes _ _ a one, c.bytes_of-own.ensures.bytes ∙ known_bytes _ _ b other) in
+          (c.bytes_of-last.ensures.bytes ∙ known_bytes c.args.keys.now c.args.key a one, c.bytes_of-own.ensures.bytes ∙ known_bytes c.args.keys.now e.key b other) in
           let more = first_more bytes c.args.key count n i keys e.key inside here
           (λ a b one other. rw ((is a b one other).0, (is a b one other).1) at same.same)
           (λ a b one other. rw ((is a b one other).0, (is a b one other).1) at same.within) inv.common in
           rw (w.count-is, w.min-count.ensures) record { most = omega (arith, inv.most, min-le_left count n); common = more }
       | goal.else-not-is_empty w ↦
           let empty : (b : List ℕ) → bytes e.key ≡ Some b → b ≡ [] = λ b other.
-          let own : c.bytes_of-own.result.now ≡ b = c.bytes_of-own.ensures.bytes ∙ known_bytes _ _ b other in
+          let own : c.bytes_of-own.result.now ≡ b = c.bytes_of-own.ensures.bytes ∙ known_bytes c.args.keys.now e.key b other in
           let answered = c.is_empty.ensures ∙ ap (λ (t : List ℕ). length t == 0) own in
           nil_from_length b (eqb-true (length b) 0 (sym answered ∙ w.if-not-is_empty.false)) in
           let more = first_empty bytes c.args.key count i keys e.key inside here empty inv.common in
