@@ -75,7 +75,7 @@ rust-plant: quick
 # The proved edition: everything below needs the Rattle toolchain with its command `rt`.
 
 # Proves and builds the program, and runs it once. `make test` builds it, too: it proves crates side
-# by side, and this one after the other.
+# by side, and this in sequence.
 replay:
 	cd crates/replay && rt run -- ../../examples/first_run
 	@echo 'The proved program: crates/replay/out/replay'
