@@ -50,7 +50,7 @@ pub fn print_stats<R: Files<File = File> + Input + AllocGlobal, O: Sink, E: Sink
     print(rt, text, out, error)
 }
 
-/// Prints the lines of split points that spread the batches of the files evenly over so many
+/// Prints the lines of split points that spread the batches of the files evenly over this many
 /// resolvers. Prints nothing if a file has a fault.
 pub fn print_points<R: Files<File = File> + Input + AllocGlobal, O: Sink, E: Sink>(
     rt: &R,
@@ -122,7 +122,7 @@ pub fn fail_between<E: Sink>(
     }
 }
 
-/// Prints a text, or tells why there is none.
+/// Prints a text, or says why there is none.
 pub fn print<R: AllocGlobal, O: Sink, E: Sink>(
     rt: &R,
     text: Result<Vec<u8>, Failure>,
