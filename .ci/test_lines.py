@@ -14,8 +14,6 @@ KEPT = re.compile(r"\s*(#\[tactic\(|ghost use )")
 # One line each, to be broken with the next change of its crate: until then, no crate above it
 # needs to be proved anew.
 LATER = {
-    "crates/keyspace/src/tables.rt",
-    "crates/serial/src/lib.rt",
     "crates/tree/src/questions.rt",
 }
 

@@ -190,7 +190,7 @@ class Table(unittest.TestCase):
 class Comparison(unittest.TestCase):
     """A measurement beside the table."""
 
-    before = {"tree": Cost(60, 60, 60), "lane": Cost(120), "flow": Cost(30), "keys": Cost(90)}
+    before = {"tree": Cost(60, 60, 60), "lane": Cost(120), "chain": Cost(30), "keys": Cost(90)}
 
     def test_add_up(self) -> None:
         jobs = [("a", "proof", 1.0), ("a", "edits", 2.0), ("b", "tests", 4.0), ("a", "proof", 8.0)]
@@ -198,9 +198,9 @@ class Comparison(unittest.TestCase):
         self.assertEqual(found, {"a": Cost(9, 0, 2), "b": Cost(0, 4, 0)})
 
     def test_greatest_growth_first(self) -> None:
-        now = {"flow": Cost(20), "tree": Cost(100, 60, 80), "lane": Cost(121), "new": Cost(5)}
+        now = {"chain": Cost(20), "tree": Cost(100, 60, 80), "lane": Cost(121), "new": Cost(5)}
         found = gate_costs.changes(now, self.before)
-        self.assertEqual([change.crate for change in found], ["tree", "new", "lane", "flow"])
+        self.assertEqual([change.crate for change in found], ["tree", "new", "lane", "chain"])
         self.assertEqual(found[0], Change("tree", 180, 240))
         self.assertEqual(found[0].growth, 60)
 
@@ -373,13 +373,13 @@ class MoreEdits(unittest.TestCase):
 class CrateList(unittest.TestCase):
     """What is read of crates.txt."""
 
-    text = "# all: these\nkeys: thiserror\nflow:\nwire: keys hex\nreplay may=1: wire # x: y\n"
+    text = "# all: these\nkeys: thiserror\nchain:\nwire: keys hex\nreplay may=1: wire # x: y\n"
 
     def test_crates(self) -> None:
-        listed = crate_list.parse_crates(self.text + "c_library staticlib: flow\n")
-        self.assertEqual(list(listed), ["keys", "flow", "wire", "replay", "c_library"])
+        listed = crate_list.parse_crates(self.text + "c_library staticlib: chain\n")
+        self.assertEqual(list(listed), ["keys", "chain", "wire", "replay", "c_library"])
         self.assertEqual(listed["replay"], Crate("replay", False, ("wire",)))
-        self.assertEqual(listed["flow"].uses, ())
+        self.assertEqual(listed["chain"].uses, ())
         self.assertTrue(listed["c_library"].is_static)
 
     def test_crates_below(self) -> None:

@@ -1,10 +1,10 @@
 //! Gatekeepers that watch a run: a file that stalls while another goes on, and when a batch is
 //! admitted.
 
-use flow::{ReportedState, Stand, WaitingRoom};
 use rattle_std::alloc::Global;
 use rattle_std::sync::Arc;
 use replay_program::{Gatekeeper, ShareKeeper};
+use replay_workers::{ReportedState, Stand, WaitingRoom};
 use std::io::{Cursor, Read, Result};
 use std::sync::atomic::{AtomicBool, AtomicU64, Ordering};
 use std::{sync, thread};

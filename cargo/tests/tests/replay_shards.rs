@@ -10,7 +10,6 @@ use replay_shards::{
     first_stop, points_of_sample, read_points,
 };
 use replay_summary::Outcome;
-use replay_workers::Batches;
 use resolver::Stop;
 use shards::{ReadIndices, SplitPoints, number_all};
 use std::io::Cursor;
@@ -20,7 +19,7 @@ use tests::plain::{PlainAnswer, PlainBatch, PlainEntry, PlainRange, PlainReply, 
 use tests::playing::{Reader, reader};
 use tests::random::Random;
 use tests::spelling::batch_frame;
-use wire::{StdSource, WireError, read_frames};
+use wire::{Batches, StdSource, WireError, read_frames};
 
 type Reads = Vec<Vec<u16>>;
 

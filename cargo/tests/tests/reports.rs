@@ -6,7 +6,7 @@ use rattle_std::vec::Vec as KitVec;
 use replay_program::{
     Ending, Line, ProxyFailure, Report, StartError, Status, fail_to_start, print_report,
 };
-use resolver::{OpenError, Stop};
+use resolver::Stop;
 use std::io::Write;
 use tests::failing::Failing;
 use tests::printing::{ended, received};
@@ -91,7 +91,6 @@ fn names_as_displayed() {
 fn one_line_a_cause() {
     for (cause, expected) in [
         (StartError::Memory, "failed: replay: start 1 Memory\n"),
-        (StartError::from(OpenError::Memory), "failed: replay: start 1 Memory\n"),
         (StartError::Thread, "failed: replay: start 2 Thread\n"),
     ] {
         let mut error = StdSink::new(Vec::new());

@@ -2,11 +2,10 @@
 //! them does.
 
 use arena::{Arena, MAX_LENGTH};
-use checking::sort_by_version;
 use conflict::ConflictSet;
 use json_lines::{Scratch, read_batch, write_batch};
 use keys::{HashedRange, RangeRef};
-use keyspace::Verdict;
+use keyspace::{Verdict, sort_by_version};
 use rattle_std::alloc::Global;
 use resolver::Core;
 use shards::{ShardReply, SplitPoints, clip_all, combine};

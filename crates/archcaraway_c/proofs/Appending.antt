@@ -2,9 +2,9 @@
 use Rattle.std.proofs.Common.{◌≡◌, ◌+◌, ℕ, List, [], ◌∷◌, ◌++◌, length, map, refl, sym, ap₂, All, arith, length-append, append-nil}
 use Rattle.std.proofs.lemmas.List.Elements.{All-map, All-weaker}
 use Rattle.keyspace.specs.declared.span.Span.{Span}
-use Rattle.keyspace.specs.Fields.{RangeHolds}
-use Rattle.keyspace.specs.Tables.{range_of_span, LiesWithin}
-use Rattle.keyspace.specs.Putting.{ArePut}
+use Rattle.keyspace.specs.storage.Fields.{RangeHolds}
+use Rattle.keyspace.specs.storage.Tables.{range_of_span, LiesWithin}
+use Rattle.keyspace.specs.storage.Putting.{ArePut}
 use Rattle.archcaraway_c.specs.declared.key_span.KeySpan.{KeySpan}
 use Rattle.archcaraway_c.proofs.Joining.{part_after}
 use Rattle.archcaraway_c.specs.BatchObject.{range_given, span_after, IsRangeOf}

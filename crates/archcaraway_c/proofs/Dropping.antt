@@ -1,23 +1,13 @@
 -- Tables without their last rows.
-use Rattle.std.proofs.Common.{◌≡◌, ◌<◌, ◌≤◌, ◌+◌, ◌-◌, ℕ, zero, suc, List, [], ◌∷◌, length, map, refl, sym, ap, ap₂, ◌∙◌, subst, All, slice_range, take, drop, get_or, arith}
+use Rattle.std.proofs.Common.{◌≡◌, ◌≤◌, ◌-◌, ℕ, zero, suc, List, [], ◌∷◌, length, map, refl, sym, ap, ap₂, ◌∙◌, subst, All, slice_range, take, drop, arith}
 use Rattle.std.proofs.lemmas.List.{take-take, length-take-le}
 use Rattle.std.proofs.lemmas.List.Elements.{All-take}
 use Rattle.std.proofs.lemmas.Slice.{between_is}
 use Rattle.keyspace.specs.declared.span.Span.{Span}
 use Rattle.keyspace.specs.declared.row.Row.{Row}
-use Rattle.keyspace.specs.Fields.{TxnFields, TxnLimits}
-use Rattle.keyspace.specs.Tables.{range_of_span, txn_of_row, txns_from, txns_of_tables, LiesWithin, AreRows, AreTables}
+use Rattle.keyspace.specs.storage.Fields.{TxnFields, TxnLimits}
+use Rattle.keyspace.specs.storage.Tables.{range_of_span, txn_of_row, txns_from, txns_of_tables, LiesWithin, AreRows, AreTables}
 use Rattle.keyspace.proofs.callers.Rows.{rows_rise}
-
--- the rows before an index lie one after the other too, and end where the last of them ends
-pub rows_up_to : (from : ℕ) (rows : List Row) (to index : ℕ) (none : Row) → AreRows from rows to → index < length rows
-    → AreRows from (take (index + 1) rows) (get_or rows index none).end
-rows_up_to from [] to index none are within = absurd (omega (arith, within))
-rows_up_to from (first ∷ rows) to zero none are within = (are.0, refl)
-rows_up_to from (first ∷ rows) to (suc index) none are within =
-    let more : suc (index + 1) ≡ suc index + 1 = omega arith in
-    subst (λ (n : ℕ). AreRows from (take n (first ∷ rows)) (get_or rows index none).end) more
-    (are.0, rows_up_to first.end rows to index none are.1 (omega (arith, within)))
 
 front_within : (from : ℕ) (rows : List Row) (count middle to : ℕ) → AreRows from (take count rows) middle
     → AreRows from rows to → middle ≤ to

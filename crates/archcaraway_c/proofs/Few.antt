@@ -1,5 +1,5 @@
 -- The reply to a batch is no longer than the batch tells.
-use Rattle.std.proofs.Common.{ℕ, ◌+◌, ◌*◌, ◌≤◌, ℤ, Bool, true, false, cond, List, [], ◌∷◌, ◌++◌, length, take, subst, sym, arith}
+use Rattle.std.proofs.Common.{ℕ, ◌+◌, ◌*◌, ◌≤◌, ℤ, true, false, cond, List, [], ◌∷◌, ◌++◌, length, subst, sym, arith}
 use Rattle.std.specs.List.{sum_by}
 use Rattle.std.proofs.lemmas.List.Sums.{sum_by-cons}
 use Rattle.keys.specs.declared.range.Range.{Range}
@@ -12,28 +12,12 @@ use Rattle.keyspace.specs.Writes.{Write, counted}
 use Rattle.keyspace.specs.Judged.{Judged, edge}
 use Rattle.keyspace.specs.Judge.{is_too_old, is_in_conflict, is_hit, meets_earlier, places_from, hits_or_first, report, without_places, in_conflict_at, judge_txn, judge_txns}
 use Rattle.keyspace.proofs.callers.Judging.{only_judge}
+use Rattle.wire.proofs.callers.ReplyLengths.{hits_or_first_few, places_few}
 use Rattle.archcaraway_c.specs.Bound.{most_entry_length}
 
 -- the length of an entry
 abbrev entry_length : Entry → ℕ
 entry_length e = 3 + 2 * length e.places
-
-places_few : (i : ℕ) (test : Range → Bool) (ranges : List Range)
-    → length (places_from i test ranges) ≤ length ranges
-places_few i test [] = omega arith
-places_few i test (r ∷ rs) =
-    let more = places_few (i + 1) test rs in
-    elim (test r) as (λ b. length (cond b (i ∷ places_from (i + 1) test rs) (places_from (i + 1) test rs))
-    ≤ length (r ∷ rs)) [ true ↦ omega (arith, more) | false ↦ omega (arith, more) ]
-
-take_one_few : (xs : List ℕ) → length (take 1 xs) ≤ length xs
-take_one_few [] = omega arith
-take_one_few (x ∷ xs) = omega arith
-
-hits_or_first_few : (hits met : List ℕ) (n : ℕ) → length hits ≤ n → length met ≤ n
-    → length (hits_or_first hits met) ≤ n
-hits_or_first_few [] met n h m = omega (arith, take_one_few met)
-hits_or_first_few (x ∷ xs) met n h m = h
 
 -- no more places than read ranges, and none unless they are asked for
 report_few : (ws : List Write) (earlier : List Range) (t : Txn)

@@ -1,13 +1,13 @@
 -- What tables tell to which those of other transactions are appended.
 use Rattle.std.proofs.Common.{◌≡◌, ◌≤◌, ◌+◌, ◌-◌, ℕ, List, [], ◌∷◌, ◌++◌, length, map, refl, sym, ap, ap₂, ◌∙◌, subst, All, slice_range, take, drop, arith, length-append, drop-drop, drop_at}
-use Rattle.std.proofs.lemmas.List.{length-map, take-map, drop-map}
+use Rattle.std.proofs.lemmas.List.{length-map}
 use Rattle.std.proofs.lemmas.List.Elements.{All-nil, All-cons, All-map, All-weaker, All-append, All-take, All-drop}
 use Rattle.keyspace.specs.declared.span.Span.{Span}
 use Rattle.keyspace.specs.declared.row.Row.{Row}
-use Rattle.keyspace.specs.Fields.{TxnFields, TxnLimits}
-use Rattle.keyspace.specs.Tables.{range_of_span, txn_of_row, txns_from, txns_of_tables, LiesWithin, AreRows, AreTables}
+use Rattle.keyspace.specs.storage.Fields.{TxnFields, TxnLimits}
+use Rattle.keyspace.specs.storage.Tables.{range_of_span, txn_of_row, txns_from, txns_of_tables, LiesWithin, AreRows, AreTables}
 use Rattle.keyspace.proofs.callers.Rows.{rows_rise}
-use Rattle.keyspace.proofs.callers.Putting.{ranges_kept, slice_range-append}
+use Rattle.keyspace.proofs.callers.Putting.{ranges_kept, slice_range-append, slice_range-map}
 use Rattle.archcaraway_c.specs.Moving.{span_moved, row_moved}
 
 -- a part of what is appended
@@ -16,10 +16,6 @@ pub part_after : {X : Type 0} (xs ys : List X) (from to end : ℕ) → end ≡ l
 part_after xs ys from to end is =
     let long : end - (length xs + from) ≡ to - from = omega (arith, is) in
     ap₂ take long (sym (drop-drop from (length xs) (xs ++ ys)) ∙ ap (drop from) (drop_at xs ys (length xs) refl))
-
-part_of_map : {X Y : Type 0} (f : X → Y) (xs : List X) (from to : ℕ)
-    → slice_range (map f xs) from to ≡ map f (slice_range xs from to)
-part_of_map f xs from to = ap (take (to - from)) (drop-map f from xs) ∙ take-map f (to - from) (drop from xs)
 
 -- rows after others
 rows_then : (from : ℕ) (rows : List Row) (middle : ℕ) (others : List Row) (to : ℕ) → AreRows from rows middle
@@ -89,7 +85,7 @@ module _ (buffer : List ℕ) (spans : List Span) (bytes : List ℕ) (others : Li
   part_moved from to end is =
       ap (map (range_of_span (buffer ++ bytes)))
       (part_after spans (map (span_moved (length buffer)) others) from to end is
-      ∙ part_of_map (span_moved (length buffer)) others from to)
+      ∙ slice_range-map (span_moved (length buffer)) others from to)
       ∙ ranges_moved (slice_range others from to)
 
   -- what the others tell stays

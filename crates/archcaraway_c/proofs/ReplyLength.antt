@@ -6,44 +6,16 @@ use Rattle.std.proofs.lemmas.List.{length-append}
 use Rattle.std.proofs.lemmas.List.Sums.{sum_by-cons}
 use Rattle.byteorder.specs.Endian.{big_bytes}
 use Rattle.byteorder.specs.Numbers.{length-bytes_high_first}
-use Rattle.keyspace.specs.declared.reply.Verdict.{Verdict}
-use Rattle.keyspace.specs.declared.reply.Verdict.TheVariants.{Conflict, TooOld, Committed}
 use Rattle.keyspace.specs.declared.batch.Batch.{Batch}
 use Rattle.keyspace.specs.declared.reply.Entry.{Entry}
 use Rattle.keyspace.specs.declared.reply.Reply.{Reply}
 use Rattle.keyspace.specs.Writes.{Write}
 use Rattle.keyspace.specs.Judged.{Judged}
-use Rattle.wire.specs.Fields.{EntryFields, entry_fields, reply_fields}
-use Rattle.wire.specs.Spelling.{entry_text, verdict_text, places_text, reply_body, signed_text, SpellsReply}
+use Rattle.wire.specs.Fields.{entry_fields, reply_fields}
+use Rattle.wire.specs.Spelling.{entry_text, reply_body, signed_text, SpellsReply}
+use Rattle.wire.proofs.callers.ReplyLengths.{entry_length}
 use Rattle.archcaraway_c.specs.Bound.{most_reply_length}
 use Rattle.archcaraway_c.proofs.Few.{judged_few}
-
-places_length : (places : List ℕ) → length (places_text places) ≡ 2 * length places
-places_length [] = refl
-places_length (p ∷ ps) = omega (
-  arith,
-  length-append (big_bytes 2 p) (places_text ps),
-  length-bytes_high_first 2 p,
-  places_length ps,
-)
-
-verdict_length : (v : Verdict) → length (verdict_text v) ≡ 1
-verdict_length Conflict = refl
-verdict_length TooOld = refl
-verdict_length Committed = refl
-
-entry_length : (e : EntryFields) → length (entry_text e) ≡ 3 + 2 * length e.places
-unfolding entry_text
-entry_length e =
-    let count = big_bytes 2 (length e.places) in
-    omega (
-      arith,
-      length-append (verdict_text e.verdict) (count ++ places_text e.places),
-      length-append count (places_text e.places),
-      length-bytes_high_first 2 (length e.places),
-      verdict_length e.verdict,
-      places_length e.places,
-    )
 
 entries_length : (es : List Entry)
     → length (flat_map entry_text (map entry_fields es)) ≡ sum_by (λ e. 3 + 2 * length e.places) es

@@ -7,7 +7,7 @@ use Rattle.keyspace.specs.declared.batch.Batch.{Batch}
 use Rattle.keyspace.specs.declared.batch.TheConstants.{MAX_TXNS}
 use Rattle.keyspace.specs.declared.txn.TheConstants.{MAX_RANGES}
 use Rattle.keyspace.specs.declared.span.Span.{Span}
-use Rattle.keyspace.specs.Fields.{RangeFields, TxnFields, RangeHolds, txn_fields}
+use Rattle.keyspace.specs.storage.Fields.{RangeFields, TxnFields, RangeHolds, txn_fields}
 use Rattle.wire.specs.declared.error.WireError.TheVariants as wire
 use Rattle.archcaraway_c.specs.declared.key_span.KeySpan.{KeySpan}
 use Rattle.archcaraway_c.specs.declared.refusal.Refusal.{Refusal}

@@ -5,9 +5,9 @@ use Rattle.keyspace.specs.declared.batch.Batch.{Batch}
 use Rattle.keyspace.specs.declared.answer.Answer.{Answer}
 use Rattle.keyspace.specs.Run.{Step, Take, run}
 use Rattle.chain.specs.declared.gate.TheConstants.{MAX_HELD}
-use Rattle.resolver.specs.declared.resolver_core.TheConstants.{MAX_PROXIES}
-use Rattle.resolver.specs.declared.stop.Stop.{Stop as StopValue}
-use Rattle.resolver.specs.declared.stop.Stop.TheVariants.{GateFull, ArenaFull}
+use Rattle.limits.specs.declared.settings.TheConstants.{MAX_PROXIES}
+use Rattle.limits.specs.declared.stop.Stop.{Stop as StopValue}
+use Rattle.limits.specs.declared.stop.Stop.TheVariants.{GateFull, ArenaFull}
 use Rattle.resolver.specs.Owed.{owed_to, owed_count}
 use Rattle.resolver.specs.Core.{CoreState, Given, StopsAtLimit}
 use Rattle.resolver.specs.Stands.{Stands}

@@ -5,7 +5,7 @@ use Rattle.keyspace.specs.declared.reply.Reply.{Reply}
 use Rattle.keyspace.specs.declared.reply.Entry.{Entry}
 use Rattle.keyspace.specs.declared.reply.Verdict.{Verdict}
 use Rattle.keyspace.specs.declared.reply.Verdict.TheVariants.{Conflict, TooOld, Committed}
-use Rattle.keyspace.specs.Fields.{TxnFields}
+use Rattle.keyspace.specs.storage.Fields.{TxnFields}
 use Rattle.keyspace.specs.Versions.{AreVersions}
 use Rattle.keyspace.specs.Writes.{Write}
 use Rattle.keyspace.specs.Judged.{Judged}
@@ -13,8 +13,8 @@ use Rattle.stepmap.specs.Covers.{MapCovers}
 use Rattle.conflict.specs.declared.error.SetStop.{SetStop}
 use Rattle.conflict.specs.declared.when_full.WhenFull.{WhenFull}
 use Rattle.conflict.specs.ConflictSet.{SetState}
-use Rattle.resolver.specs.declared.stop.Stop.{Stop as StopValue}
-use Rattle.resolver.specs.Stop.{stop_at_set}
+use Rattle.limits.specs.declared.stop.Stop.{Stop as StopValue}
+use Rattle.conflict.specs.Stop.{stop_at_set}
 use Rattle.wire.specs.declared.error.WireError.TheVariants as wire
 use Rattle.archcaraway_c.specs.declared.refusal.Refusal.{Refusal}
 use Rattle.archcaraway_c.specs.declared.refusal.Refusal.TheVariants.{Stop, Wire, Version, Argument, Buffer, Behind}

@@ -1,8 +1,6 @@
 -- The limits of the numbers that C gives. This project's own.
 use Rattle.std.specs.Prelude.{ℕ, ℤ, pos, ◌≤◌, ◌≤ℤ◌}
-use Rattle.stepmap.specs.declared.step_map.TheConstants.{MAX_LIMIT}
-use Rattle.conflict.specs.declared.conflict_set.TheConstants.{MAX_WINDOW}
-use Rattle.resolver.specs.declared.resolver_core.TheConstants.{MAX_PROXIES}
+use Rattle.limits.specs.declared.settings.TheConstants.{MAX_LIMIT, MAX_PROXIES, MAX_WINDOW}
 
 -- the window and the limit are within their ranges
 abbrev pub AreSetNumbers : ℤ → ℕ → Type 0

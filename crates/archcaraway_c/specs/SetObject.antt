@@ -10,8 +10,8 @@ use Rattle.conflict.specs.declared.error.SetStop.TheVariants.{Memory, ArenaFull}
 use Rattle.conflict.specs.declared.when_full.WhenFull.{WhenFull}
 use Rattle.conflict.specs.declared.when_full.WhenFull.TheVariants as when
 use Rattle.conflict.specs.ConflictSet.{SetState, Remembers, IsOverLimit, raised, HasRoomToWrite, HasNoRoomToWrite}
-use Rattle.resolver.specs.declared.stop.Stop.{Stop as StopValue}
-use Rattle.resolver.specs.Stop.{stop_at_set}
+use Rattle.limits.specs.declared.stop.Stop.{Stop as StopValue}
+use Rattle.conflict.specs.Stop.{stop_at_set}
 use Rattle.wire.specs.Spelling.{SpellsReply}
 use Rattle.archcaraway_c.specs.declared.refusal.Refusal.{Refusal}
 use Rattle.archcaraway_c.specs.declared.refusal.Refusal.TheVariants.{Stop, Wire, Version, Argument, Buffer, Behind}

@@ -1,6 +1,6 @@
 -- Objects that start at a version, and what the library reports on an object. This project's own.
 use Rattle.std.specs.Prelude.{◌≡◌, ◌<◌, ◌⊎◌, ◌≤ℤ◌, ℕ, ℤ, pos, negsuc, [], length}
-use Rattle.resolver.specs.declared.stop.Stop.TheVariants as stop
+use Rattle.limits.specs.declared.stop.Stop.TheVariants as stop
 use Rattle.archcaraway_c.specs.declared.refusal.Refusal.{Refusal}
 use Rattle.archcaraway_c.specs.declared.refusal.Refusal.TheVariants.{Stop, Argument}
 use Rattle.archcaraway_c.specs.Numbers.{AreSetNumbers, AreCoreNumbers}

@@ -1,7 +1,7 @@
 -- The numbers by which C sees refusals. This project's own.
 use Rattle.std.specs.Prelude.{ℕ, ℤ, pos}
-use Rattle.resolver.specs.declared.stop.Stop.{Stop as StopValue}
-use Rattle.resolver.specs.declared.stop.Stop.TheVariants as stop
+use Rattle.limits.specs.declared.stop.Stop.{Stop as StopValue}
+use Rattle.limits.specs.declared.stop.Stop.TheVariants as stop
 use Rattle.wire.specs.declared.error.WireError.{WireError}
 use Rattle.wire.specs.declared.error.WireError.TheVariants as wire
 use Rattle.archcaraway_c.specs.declared.refusal.Refusal.{Refusal}

@@ -1,7 +1,7 @@
 //! Where the ranges and transactions of tables lie behind others.
 
 ghost use Rattle.std.specs.Prelude.{◌≡◌, ◌+◌, ◌<◌, ◌≤◌, ◌^◌, ◌++◌, ℕ, length, map, take, All, OnOk};
-ghost use Rattle.keyspace.specs.Tables.{LiesWithin, AreRows};
+ghost use Rattle.keyspace.specs.storage.Tables.{LiesWithin, AreRows};
 ghost use Rattle.archcaraway_c.specs.Moving.{span_moved, row_moved};
 
 use keyspace::{Row, Span};

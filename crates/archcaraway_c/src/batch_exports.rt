@@ -11,7 +11,7 @@ use crate::batch_handle::BatchHandle;
 use crate::batch_object::BatchObject;
 use crate::key_span::KeySpan;
 use crate::refusal::{OK, Refusal};
-use resolver::Stop;
+use limits::Stop;
 use std::alloc::Global;
 
 /// Creates a batch of no transaction, and writes its pointer.

@@ -2,7 +2,7 @@
 
 ghost use Rattle.std.specs.Prelude.{◌≡◌, ◌+◌, ◌-◌, ◌≤◌, [], ◌∷◌, ◌++◌, length, map, take, OnOk};
 ghost use Rattle.std.specs.Prelude.{OnErr, IfOk, IfErr};
-ghost use Rattle.keyspace.specs.Fields.{txn_fields};
+ghost use Rattle.keyspace.specs.storage.Fields.{txn_fields};
 ghost use Rattle.keyspace.specs.Versions.{AreVersions};
 ghost use Rattle.keyspace.specs.declared.batch.TheConstants.{MAX_TXNS};
 ghost use Rattle.archcaraway_c.specs.BatchObject.{txn_given, AddRefuses, AppendRefuses, IsBatchOf};
@@ -26,8 +26,8 @@ pub struct BatchObject {
 
 impl Model for BatchObject {
     ghost use Rattle.std.specs.Prelude.{◌≤◌, List, vec_len};
-    ghost use Rattle.keyspace.specs.Fields.{TxnFields};
-    ghost use Rattle.keyspace.specs.Tables.{txns_of_tables, AreTables};
+    ghost use Rattle.keyspace.specs.storage.Fields.{TxnFields};
+    ghost use Rattle.keyspace.specs.storage.Tables.{txns_of_tables, AreTables};
     ghost use Rattle.keyspace.specs.declared.batch.TheConstants.{MAX_TXNS};
 
     ghost Value = { List TxnFields };

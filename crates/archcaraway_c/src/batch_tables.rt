@@ -3,7 +3,7 @@
 
 ghost use Rattle.std.specs.Prelude.{◌≡◌, ◌+◌, ◌-◌, ◌<◌, ◌≤◌, ◌≤ℤ◌, ◌^◌, [], ◌∷◌, ◌++◌, ℕ, pos};
 ghost use Rattle.std.specs.Prelude.{length, vec_len, map, take, All, OnOk, OnErr, IfOk};
-ghost use Rattle.keyspace.specs.Tables.{txns_of_tables, AreTables, AreRows};
+ghost use Rattle.keyspace.specs.storage.Tables.{txns_of_tables, AreTables, AreRows};
 ghost use Rattle.keyspace.specs.declared.batch.TheConstants.{MAX_TXNS};
 ghost use Rattle.keyspace.specs.declared.txn.TheConstants.{MAX_RANGES};
 ghost use Rattle.archcaraway_c.specs.BatchObject.{txn_given, IsWithin, IsRangeOf, span_after};

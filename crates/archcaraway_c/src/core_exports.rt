@@ -15,7 +15,7 @@ ghost use Rattle.archcaraway_c.specs.declared.refusal.Refusal.{Refusal};
 use crate::core_handle::CoreHandle;
 use crate::core_object::CoreObject;
 use crate::refusal::{OK, Refusal};
-use resolver::Stop;
+use limits::Stop;
 use std::alloc::Global;
 
 /// Creates a resolver, and writes its pointer.

@@ -5,7 +5,7 @@ ghost use Rattle.std.specs.Prelude.{◌++◌, ℕ, List, [], length, replicate, 
 ghost use Rattle.std.specs.Prelude.{IfOk, IfErr};
 ghost use Rattle.keyspace.specs.Run.{Step, Finish};
 ghost use Rattle.resolver.specs.Core.{Given as GivenSoFar, Continues};
-ghost use Rattle.resolver.specs.declared.stop.Stop.{Stop as StopValue};
+ghost use Rattle.limits.specs.declared.stop.Stop.{Stop as StopValue};
 ghost use Rattle.resolver.specs.Stands.{Stands};
 ghost use Rattle.archcaraway_c.specs.BatchFrame.{IsFrame, IsNoFrame};
 ghost use Rattle.archcaraway_c.specs.Numbers.{AreCoreNumbers};
@@ -23,7 +23,8 @@ use crate::numbers::are_set_numbers;
 use crate::refusal::Refusal;
 use crate::waiting_answers::{count_waiting, nothing_waits, write_answer};
 use keyspace::{Answer, Batch};
-use resolver::{Core, MAX_PROXIES, Stop};
+use limits::{MAX_PROXIES, Stop};
+use resolver::Core;
 use std::alloc::Global;
 use std::marker::Model;
 

@@ -3,7 +3,7 @@
 
 ghost use Rattle.std.specs.Prelude.{◌≡◌, ◌≢◌, ◌<◌, pos, length, take, IfSome};
 ghost use Rattle.conflict.specs.ConflictSet.{SetState};
-ghost use Rattle.resolver.specs.Stop.{stop_at_set};
+ghost use Rattle.conflict.specs.Stop.{stop_at_set};
 ghost use Rattle.archcaraway_c.specs.Status.{stop_status, refusal_status};
 ghost use Rattle.archcaraway_c.specs.CoreObject.{CoreParts};
 ghost use Rattle.archcaraway_c.specs.Judging.{AreVerdicts, JudgeRefuses, AdmitRefuses};

@@ -3,8 +3,7 @@
 ghost use Rattle.std.specs.Prelude.{◌↔◌, IsTrue};
 ghost use Rattle.archcaraway_c.specs.Numbers.{AreSetNumbers};
 
-use conflict::MAX_WINDOW;
-use stepmap::MAX_LIMIT;
+use limits::{MAX_LIMIT, MAX_WINDOW};
 
 /// Returns whether the window and the limit are within their ranges.
 pub fn are_set_numbers(window: i64, limit: u64) -> bool

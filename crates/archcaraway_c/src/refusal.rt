@@ -4,7 +4,7 @@ ghost use Rattle.std.specs.Prelude.{◌≡◌};
 ghost use Rattle.archcaraway_c.specs.Status.{stop_status, wire_status, refusal_status};
 ghost use Rattle.archcaraway_c.specs.Status.{bytes_needed};
 
-use resolver::Stop;
+use limits::Stop;
 use wire::WireError;
 
 /// Why a call of the library is refused.

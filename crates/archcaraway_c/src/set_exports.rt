@@ -3,7 +3,7 @@
 
 ghost use Rattle.std.specs.Prelude.{◌≡◌, ◌≢◌, ◌⊎◌, ◌↔◌, pos, length, take, IfSome};
 ghost use Rattle.conflict.specs.ConflictSet.{SetState};
-ghost use Rattle.resolver.specs.Stop.{stop_at_set};
+ghost use Rattle.conflict.specs.Stop.{stop_at_set};
 ghost use Rattle.archcaraway_c.specs.Numbers.{AreSetNumbers};
 ghost use Rattle.archcaraway_c.specs.Status.{stop_status, refusal_status, bytes_needed};
 ghost use Rattle.archcaraway_c.specs.SetObject.{IsReplied, SetRefuses};
@@ -13,7 +13,7 @@ use crate::refusal::{OK, Refusal};
 use crate::set_handle::SetHandle;
 use crate::set_object::SetObject;
 use conflict::WhenFull;
-use resolver::Stop;
+use limits::Stop;
 use std::alloc::Global;
 
 /// Creates a conflict set, and writes its pointer.

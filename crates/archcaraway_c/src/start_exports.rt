@@ -7,7 +7,7 @@ ghost use Rattle.archcaraway_c.specs.Starts.{AreSetNumbersAt, AreCoreNumbersAt, 
 use crate::core_object::CoreObject;
 use crate::refusal::{OK, Refusal};
 use crate::set_object::SetObject;
-use resolver::Stop;
+use limits::Stop;
 use std::alloc::Global;
 
 /// Creates a conflict set that starts at a version, and writes its pointer.

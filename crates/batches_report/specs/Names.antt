@@ -4,18 +4,15 @@ use Rattle.std.specs.List.{list_any}
 use Rattle.std.specs.Str.{bytes_eq}
 use Rattle.keys.specs.declared.range.Range.{Range}
 use Rattle.keyspace.specs.declared.txn.Txn.{Txn}
-use Rattle.keyspace.specs.Fields.{range_fields}
+use Rattle.keyspace.specs.storage.Fields.{range_fields}
 use Rattle.wire.specs.Spelling.{is_single_key}
-use Rattle.json_lines.specs.KeyForm.{key_form}
-
-abbrev pub quoted : List ℕ → List ℕ
-quoted key = 34 ∷ key_form key ++ 34 ∷ []
+use Rattle.json_lines.specs.KeyForm.{quoted_key}
 
 -- the one key of a range, or its two keys, in their printed form
 abbrev pub name_of : Range → List ℕ
 name_of range =
-    if is_single_key (range_fields range) then quoted range.begin
-    else quoted range.begin ++ codes " .. " ++ quoted range.end
+    if is_single_key (range_fields range) then quoted_key range.begin
+    else quoted_key range.begin ++ codes " .. " ++ quoted_key range.end
 
 -- the name of a range, if there is one
 abbrev pub name_if_some : Option Range → List (List ℕ)

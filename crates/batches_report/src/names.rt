@@ -3,10 +3,10 @@
 ghost use Rattle.std.specs.Prelude.{◌≡◌, ◌∷◌, ◌++◌, [], List, ℕ, IfOk, OnOk, map, slice_get};
 ghost use Rattle.std.specs.Prelude.{string_bytes};
 ghost use Rattle.batches_report.specs.Names.{AreEachOnce, is_among, name_if_some, name_of};
-ghost use Rattle.batches_report.specs.Names.{names_at, quoted};
+ghost use Rattle.batches_report.specs.Names.{names_at};
 
 use crate::error::ReportError;
-use json_lines::put_key_form;
+use json_lines::put_quoted_key;
 use keyspace::{RangeRef, TxnRef};
 use std::alloc::{AllocError, Global};
 use wire::is_single_key;
@@ -71,22 +71,14 @@ fn name_of(alloc: Global, range: &RangeRef<'_>) -> Result<String, ReportError>
     ensures name { IfOk result (λ name. string_bytes name ≡ name_of range.now) }
 {
     let mut name = Vec::new(alloc);
-    put_quoted(&mut name, range.begin())?;
+    put_quoted_key(&mut name, range.begin())?;
     if !is_single_key(range.begin(), range.end()) {
         name.extend_from_slice(b" .. ")?;
-        put_quoted(&mut name, range.end())?;
+        put_quoted_key(&mut name, range.end())?;
     }
     match String::from_utf8(name) {
         Ok(name) => Ok(name),
         // The printed form of a key is ASCII.
         Err(_) => Err(ReportError::Memory),
     }
-}
-
-fn put_quoted(out: &mut Vec<u8>, key: &[u8]) -> Result<(), AllocError>
-    ensures text { OnOk result (out.new.items ≡ out.old.items ++ quoted key.now) }
-{
-    out.push(b'"')?;
-    put_key_form(out, key)?;
-    Ok(out.push(b'"')?)
 }

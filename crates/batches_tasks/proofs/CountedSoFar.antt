@@ -1,5 +1,5 @@
 -- Batches that were read so far, and counted or added.
-use Rattle.std.proofs.Common.{◌≡◌, ℕ, ◌+◌, List, [], ◌∷◌, ◌++◌, length, Option, refl, sym, ap, ◌∙◌, append_assoc, arith}
+use Rattle.std.proofs.Common.{◌≡◌, ℕ, ◌+◌, List, [], ◌∷◌, ◌++◌, length, Option, sym, ap, ◌∙◌, append_assoc, arith}
 use Rattle.std.proofs.lemmas.List.{append-nil, length-append}
 use Rattle.std.specs.Io.KnownBytes.{Consumes, IsAtEnd}
 use Rattle.keyspace.specs.declared.batch.Batch.{Batch}
@@ -7,7 +7,8 @@ use Rattle.wire.specs.NextFrame.{IsFrameOf}
 use Rattle.batches_tasks.specs.Counting.{Collects, Counts}
 use Rattle.batches_tasks.specs.Stats.{stats_of}
 use Rattle.batches_tasks.specs.declared.stats.Stats.{Stats}
-use Rattle.batches_tasks.proofs.FramesRead.{FramesSoFar, no_frames, one_frame_more, all_read}
+use Rattle.wire.proofs.callers.Known.{all_taken}
+use Rattle.batches_tasks.proofs.FramesRead.{FramesSoFar, no_frames, one_frame_more}
 
 pub record CountedSoFar (left now : Option (List ℕ)) (old new : Stats) (number : ℕ) : Type 0 where
   pub so_far : FramesSoFar left now number
@@ -43,7 +44,7 @@ all_counted left now old new number before end =
       bytes = so_far.bytes;
       batches = so_far.batches;
       frames = so_far.frames;
-      read = all_read left now so_far.bytes so_far.read end;
+      read = all_taken left now so_far.bytes so_far.read end;
       counted = before.counted;
     }
 
@@ -70,6 +71,6 @@ all_collected left now old new number before end =
       bytes = so_far.bytes;
       batches = so_far.batches;
       frames = so_far.frames;
-      read = all_read left now so_far.bytes so_far.read end;
+      read = all_taken left now so_far.bytes so_far.read end;
       added = before.added;
     }

@@ -4,7 +4,7 @@ use Rattle.std.specs.Prelude.{Result, Ok, Err, IfOk, IfSome, ◌==◌, if◌then
 use Rattle.std.proofs.lemmas.List.{append-nil}
 use Rattle.std.specs.Io.BufRead.{take_through, drop_through}
 use Rattle.std.specs.Io.KnownBytes.{IsAtEnd}
-use Rattle.batches_tasks.specs.Points.{ArePointLines, IsPointLine, TakesPoint}
+use Rattle.batches_tasks.specs.Points.{ArePointLines, TakesPoint}
 
 through_parts : (byte : ℕ) (xs : List ℕ) → xs ≡ take_through byte xs ++ drop_through byte xs
 through_parts byte [] = refl

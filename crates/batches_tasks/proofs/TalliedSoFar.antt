@@ -6,11 +6,11 @@ use Rattle.keyspace.specs.declared.batch.Batch.{Batch}
 use Rattle.keyspace.specs.declared.reply.Reply.{Reply}
 use Rattle.wire.specs.NextFrame.{IsFrameOf}
 use Rattle.wire.specs.Spelling.{SpellsReply}
-use Rattle.wire.proofs.callers.Known.{consumes_none, consumes_then}
+use Rattle.wire.proofs.callers.Known.{all_taken, consumes_none, consumes_then}
 use Rattle.batches_report.specs.Tallied.{IsTally}
 use Rattle.batches_report.specs.declared.tally.Tally.{Tally}
 use Rattle.batches_tasks.specs.Tallying.{AreReplyFrames, TalliesBatches, TalliesReplies}
-use Rattle.batches_tasks.proofs.FramesRead.{FramesSoFar, no_frames, one_frame_more, all_read}
+use Rattle.batches_tasks.proofs.FramesRead.{FramesSoFar, no_frames, one_frame_more}
 
 reply_frames_last : (bytes part : List ℕ) (replies : List Reply) (reply : Reply) → AreReplyFrames bytes replies → SpellsReply part reply
     → AreReplyFrames (bytes ++ part) (replies ++ reply ∷ [])
@@ -65,7 +65,7 @@ all_replies left now old new number count before end is = record {
   bytes = before.bytes;
   replies = before.replies;
   frames = before.frames;
-  read = all_read left now before.bytes before.read end;
+  read = all_taken left now before.bytes before.read end;
   count = omega (arith, before.counted, is);
   added = before.added;
 }
@@ -100,7 +100,7 @@ all_batches left now old new number count before end is =
       bytes = so_far.bytes;
       batches = so_far.batches;
       frames = so_far.frames;
-      read = all_read left now so_far.bytes so_far.read end;
+      read = all_taken left now so_far.bytes so_far.read end;
       count = omega (arith, so_far.counted, is);
       added = before.added;
     }

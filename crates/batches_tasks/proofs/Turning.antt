@@ -1,9 +1,9 @@
 -- Part after part.
-use Rattle.std.proofs.Common.{◌≡◌, ℕ, ◌+◌, List, [], ◌∷◌, ◌++◌, length, Option, Some, None, refl, sym, ap, IfSome, subst, ◌∙◌, append_assoc, arith}
+use Rattle.std.proofs.Common.{◌≡◌, ℕ, ◌+◌, List, [], ◌∷◌, ◌++◌, length, Option, Some, None, refl, sym, ap, subst, ◌∙◌, append_assoc, arith}
 use Rattle.std.proofs.lemmas.List.{append-nil, length-append}
 use Rattle.std.specs.Io.KnownBytes.{Consumes, Appends, Keeps, IsAtEnd}
 use Rattle.wire.proofs.callers.Given.{appends_none, appends_then}
-use Rattle.wire.proofs.callers.Known.{consumes_none, consumes_then}
+use Rattle.wire.proofs.callers.Known.{all_taken, consumes_none, consumes_then}
 use Rattle.batches_tasks.specs.declared.failure.Failure.{Failure}
 use Rattle.batches_tasks.specs.Turned.{BecomeEach, joined, Turns, TurnsAll, Stops}
 
@@ -59,19 +59,13 @@ one_more Becomes left now next before after later number part last so_far read b
       counted = omega (arith, so_far.counted, length-append turned.parts (part ∷ []));
     }
 
--- the parts are all, if nothing is left
-all_parts : (left now : Option (List ℕ)) (bytes : List ℕ) → Consumes left now bytes → IsAtEnd now → IfSome left (λ all. all ≡ bytes)
-all_parts None now bytes read end = tt
-all_parts (Some xs) None bytes read end = absurd read
-all_parts (Some xs) (Some ys) bytes read end = read ∙ ap (λ (t : List ℕ). bytes ++ t) end ∙ append-nil bytes
-
 pub at_the_end : (Becomes : List ℕ → List ℕ → Type 0) (left now before after later : Option (List ℕ)) (number : ℕ)
     → SoFar Becomes left now before after number → IsAtEnd now → later ≡ after → TurnsAll Becomes left before later
 at_the_end Becomes left now before after later number so_far end same =
     let turned = so_far.turned in record {
       parts = turned.parts;
       text = turned.text;
-      read = all_parts left now (joined turned.parts) turned.read end;
+      read = all_taken left now (joined turned.parts) turned.read end;
       each = turned.each;
       written = subst (λ (out : Option (List ℕ)). Appends before out turned.text) (sym same) turned.written;
     }

@@ -1,9 +1,8 @@
 -- Split points as lines: each is a key in its printed form.
-use Rattle.std.specs.Prelude.{◌≡◌, ◌⊎◌, ℕ, List, [], ◌∷◌, ◌++◌, flat_map, Option, Some, IfSome}
+use Rattle.std.specs.Prelude.{◌≡◌, ℕ, List, [], ◌∷◌, ◌++◌, flat_map, Option, Some, IfSome}
 use Rattle.std.specs.Io.BufRead.{take_through, drop_through}
-use Rattle.keys.specs.declared.key.TheConstants.{MAX_KEY_LENGTH}
 use Rattle.json_lines.specs.KeyForm.{key_form}
-use Rattle.json_lines.specs.Ranges.{key_within}
+use Rattle.json_lines.specs.Ranges.{IsKeyLine}
 
 abbrev pub point_line : List ℕ → List ℕ
 point_line key = key_form key ++ 10 ∷ []
@@ -12,18 +11,13 @@ point_line key = key_form key ++ 10 ∷ []
 abbrev pub point_lines : List (List ℕ) → List ℕ
 point_lines keys = flat_map point_line keys
 
--- the line, with its line feed or without one, spells the key
-abbrev pub IsPointLine : List ℕ → List ℕ → Type 0
-IsPointLine line key =
-    (text : List ℕ) × ((line ≡ text ++ 10 ∷ []) ⊎ (line ≡ text)) × (key_within MAX_KEY_LENGTH text ≡ Some key)
-
 -- the bytes are lines that spell these keys, in sequence
 abbrev pub ArePointLines : List ℕ → List (List ℕ) → Type 0
 ArePointLines bytes [] = bytes ≡ []
 ArePointLines bytes (key ∷ keys) =
-    (rest : List ℕ) × (bytes ≡ take_through 10 bytes ++ rest) × IsPointLine (take_through 10 bytes) key
+    (rest : List ℕ) × (bytes ≡ take_through 10 bytes ++ rest) × IsKeyLine (take_through 10 bytes) key
     × ArePointLines rest keys
 
 -- the first line spells the key, and just that line leaves
 abbrev pub TakesPoint : Option (List ℕ) → Option (List ℕ) → List ℕ → Type 0
-TakesPoint old new key = IfSome old (λ bytes. IsPointLine (take_through 10 bytes) key × (new ≡ Some (drop_through 10 bytes)))
+TakesPoint old new key = IfSome old (λ bytes. IsKeyLine (take_through 10 bytes) key × (new ≡ Some (drop_through 10 bytes)))

@@ -4,8 +4,8 @@ use Rattle.std.specs.Int.{int_min, int_max}
 use Rattle.keys.specs.declared.range.Range.{Range}
 use Rattle.keyspace.specs.declared.txn.Txn.{Txn}
 use Rattle.keyspace.specs.declared.batch.Batch.{Batch}
-use Rattle.keyspace.specs.Fields.{range_fields}
-use Rattle.keyspace.specs.BatchRanges.{ranges_in}
+use Rattle.keyspace.specs.storage.Fields.{range_fields}
+use Rattle.keyspace.specs.storage.BatchRanges.{ranges_in}
 use Rattle.wire.specs.Spelling.{is_single_key}
 use Rattle.batches_tasks.specs.declared.spread.Spread.{Spread}
 use Rattle.batches_tasks.specs.declared.stats.TxnCounts.{TxnCounts}

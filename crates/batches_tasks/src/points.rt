@@ -2,10 +2,11 @@
 
 ghost use Rattle.std.specs.Prelude.{◌≡◌, IfNone, IfOk, IfSome};
 ghost use Rattle.std.specs.Io.KnownBytes.{IsAtEnd};
-ghost use Rattle.batches_tasks.specs.Points.{ArePointLines, IsPointLine, TakesPoint, point_lines};
+ghost use Rattle.json_lines.specs.Ranges.{IsKeyLine};
+ghost use Rattle.batches_tasks.specs.Points.{ArePointLines, TakesPoint, point_lines};
 
 use crate::failure::Failure;
-use json_lines::{LineRefusal, put_key_form, read_key};
+use json_lines::{put_key_form, read_key_line};
 use keys::Key;
 use shards::{SplitPoints, SplitPointsError};
 use std::alloc::{AllocError, Global};
@@ -61,20 +62,11 @@ fn next_point<R: BufRead>(
 
 // Returns the key that a line, which has this number, spells.
 fn point_of(alloc: Global, number: u64, line: &[u8]) -> Result<Key, Failure>
-    ensures point { IfOk result (IsPointLine line.now) }
+    ensures point { IfOk result (IsKeyLine line.now) }
 {
-    match key_of_line(alloc, line) {
+    match read_key_line(alloc, line) {
         Ok(key) => Ok(key),
         Err(refusal) => Err(Failure::of_point(number, refusal)),
-    }
-}
-
-fn key_of_line(alloc: Global, line: &[u8]) -> Result<Key, LineRefusal>
-    ensures point { IfOk result (IsPointLine line.now) }
-{
-    match line.split_last() {
-        Some((b'\n', text)) => read_key(alloc, text),
-        _ => read_key(alloc, line),
     }
 }
 

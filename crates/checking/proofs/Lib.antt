@@ -1,5 +1,3 @@
-pub mod OneOrder
-pub mod Ordered
 pub mod Matched
 pub mod NoDifference
 pub mod callers

@@ -12,9 +12,9 @@ use Rattle.std.proofs.Math.Seq.{drop-cons}
 use Rattle.std.proofs.lemmas.List.Sums.{take_while-cons}
 use Rattle.keyspace.specs.declared.reply.Reply.{Reply}
 use Rattle.checking.specs.declared.difference.Difference.{Difference}
-use Rattle.checking.specs.InOrder.{NoneBefore, Rise}
+use Rattle.keyspace.specs.storage.InOrder.{NoneBefore, Rise}
 use Rattle.checking.specs.Difference.{first_of, passed, matched, matched_with, missing, unexpected, version_of_reply}
-use Rattle.checking.proofs.Ordered.{order}
+use Rattle.keyspace.proofs.callers.Ordered.{order}
 
 -- a is below b, and c isn't below b, so a is below c
 below_far : (a b c : ℤ) → int_lt a b ≡ true → int_lt c b ≡ false → int_lt a c ≡ true

@@ -11,9 +11,9 @@ use Rattle.keyspace.specs.declared.reply.Verdict.{Verdict}
 use Rattle.keyspace.specs.declared.reply.Verdict.TheVariants.{Conflict, TooOld, Committed}
 use Rattle.keyspace.proofs.callers.Judging.{entry_same, reply_same}
 use Rattle.checking.specs.declared.difference.Difference.{Difference}
-use Rattle.checking.specs.InOrder.{NoneBefore, Rise, in_order_by}
+use Rattle.keyspace.specs.storage.InOrder.{NoneBefore, Rise, in_order_by}
 use Rattle.checking.specs.Difference.{differences, entry_differences, first_of, is_same, is_same_verdict, matched, matched_with, passed, reply_differences, version_of_reply}
-use Rattle.checking.proofs.Ordered.{in_order-rises}
+use Rattle.keyspace.proofs.callers.Ordered.{in_order-rises}
 use Rattle.checking.proofs.Matched.{above, first_of-above}
 
 same_verdict : (v w : Verdict) → is_same_verdict v w ≡ true → v ≡ w

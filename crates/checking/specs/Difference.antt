@@ -15,7 +15,7 @@ use Rattle.keyspace.specs.declared.reply.Verdict.{Verdict}
 use Rattle.keyspace.specs.declared.reply.Verdict.TheVariants.{Conflict, TooOld, Committed}
 use Rattle.checking.specs.declared.difference.Difference.{Difference}
 use Rattle.checking.specs.declared.difference.DifferenceKind.TheVariants.{Missing, Unexpected, Count, Transaction}
-use Rattle.checking.specs.InOrder.{in_order_by}
+use Rattle.keyspace.specs.storage.InOrder.{in_order_by}
 
 -- the reply that an answer expects, if any
 abbrev pub expected_by : Answer → List Reply

@@ -18,7 +18,7 @@ pub struct Checked {
     /// A line for each difference, and a last one that counts batches and differences.
     pub text: Vec<u8>,
     /// How many differences there are.
-    pub differences: usize,
+    pub difference_count: usize,
 }
 
 /// Compares the replies that are expected with those that were recorded, each of the two by proxy,
@@ -36,7 +36,7 @@ pub fn check_all(
     requires as_many { vec_len expected ≡ vec_len recorded }
     ensures text { IfOk result (λ checked. checked.text.items
         ≡ check_text batches (map vec_items expected.items) (map vec_items recorded.items)) }
-    ensures differences { IfOk result (λ checked. checked.differences
+    ensures differences { IfOk result (λ checked. checked.difference_count
         ≡ count_differences (map vec_items expected.items) (map vec_items recorded.items)) }
     ensures proxy { IfErr result (λ proxy. proxy < vec_len expected) }
     ensures takes { IfErr result (TakesMemory (map vec_items expected.items)
@@ -45,7 +45,7 @@ pub fn check_all(
     let last = expected.len() - 1;
     let mut checked = Checked {
         text: Vec::new(alloc),
-        differences: 0,
+        difference_count: 0,
     };
     let mut proxy = 0;
     let mut recorded = recorded.into_iter();
@@ -72,32 +72,36 @@ impl Checked {
     ) -> Option<()>
         ensures text { IfSome result (λ _. self.new.text.items ≡ self.old.text.items
             ++ difference_lines proxy (differences expected.items recorded.items)) }
-        ensures differences { IfSome result (λ _. self.new.differences
-            ≡ self.old.differences + length (differences expected.items recorded.items)) }
+        ensures differences { IfSome result (λ _. self.new.difference_count
+            ≡ self.old.difference_count + length (differences expected.items recorded.items)) }
         ensures none { vec_len expected ≡ 0 → vec_len recorded ≡ 0 → IsSome result }
     {
         let (mut expected, mut recorded) = (expected, recorded);
         let found = compare(alloc, &mut expected, &mut recorded).ok()?;
         write_differences(&mut self.text, proxy, &found).ok()?;
-        self.differences = self.differences.checked_add(found.len())?;
+        self.difference_count = self.difference_count.checked_add(found.len())?;
         Some(())
     }
 
     // Adds the last line.
     fn finish(self, batches: usize) -> Option<Self>
         ensures text { IfSome result (λ checked. checked.text.items
-            ≡ self.text.items ++ last_line batches self.differences) }
-        ensures differences { IfSome result (λ checked. checked.differences ≡ self.differences) }
+            ≡ self.text.items ++ last_line batches self.difference_count) }
+        ensures differences { IfSome result
+            (λ checked. checked.difference_count ≡ self.difference_count) }
     {
         let Checked {
             mut text,
-            differences,
+            difference_count,
         } = self;
         write!(
             &mut text,
-            "checked {batches} batches, {differences} differences\n"
+            "checked {batches} batches, {difference_count} differences\n"
         )
         .ok()?;
-        Some(Checked { text, differences })
+        Some(Checked {
+            text,
+            difference_count,
+        })
     }
 }

@@ -3,7 +3,7 @@
 ghost use Rattle.std.specs.Prelude.{◌≡◌, ◌↔◌, List, []};
 ghost use Rattle.keyspace.specs.declared.reply.Reply.{Reply as ReplyValue};
 ghost use Rattle.checking.specs.Difference.{differences, version_of_reply};
-ghost use Rattle.checking.specs.InOrder.{in_order_by};
+ghost use Rattle.keyspace.specs.storage.InOrder.{in_order_by};
 
 /// There is no difference exactly where both have the same replies in order of versions.
 pub fn no_difference()

@@ -2,7 +2,7 @@
 
 ghost use Rattle.std.specs.Prelude.{◌≡◌, ◌++◌, List, int_lt, length, map, IfOk, IsOk, OnOk};
 ghost use Rattle.std.specs.List.{take_while};
-ghost use Rattle.checking.specs.InOrder.{NoneBefore, Rise};
+ghost use Rattle.keyspace.specs.storage.InOrder.{NoneBefore, Rise};
 ghost use Rattle.checking.specs.Difference.{differences, first_of, matched, matched_with};
 ghost use Rattle.checking.specs.Difference.{unexpected, version_of_reply};
 ghost use Rattle.checking.specs.declared.difference.Difference.{Difference as DifferenceValue};
@@ -10,8 +10,7 @@ ghost use Rattle.keyspace.specs.declared.reply.Reply.{Reply as ReplyValue};
 
 use crate::difference::Difference;
 use crate::entries::compare_replies;
-use crate::order::sort_by_version;
-use keyspace::Reply;
+use keyspace::{Reply, sort_by_version};
 use std::alloc::{AllocError, Global};
 
 /// Returns the differences between the replies that are expected and those that were recorded, in

@@ -33,7 +33,7 @@ use Rattle.keyspace.specs.declared.reply.Verdict.TheVariants.{Conflict, TooOld, 
 use Rattle.keyspace.specs.declared.reply.Entry.{Entry}
 use Rattle.keyspace.specs.Writes.{counted, committed}
 use Rattle.keys.specs.GapRuns.{HaveBegin}
-use Rattle.keyspace.specs.BatchRanges.{ranges_of_txn, ranges_in}
+use Rattle.keyspace.specs.storage.BatchRanges.{ranges_of_txn, ranges_in}
 use Rattle.conflict.specs.InBatch.{in_batch, in_batches}
 use Rattle.conflict.specs.Written.{AreWrittenGaps, AreRunsOf}
 use Rattle.conflict.proofs.Parts.{all_split}

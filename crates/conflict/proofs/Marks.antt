@@ -10,7 +10,7 @@ use Rattle.keyspace.specs.declared.reply.Verdict.TheVariants.{Conflict, TooOld, 
 use Rattle.keyspace.specs.declared.txn.Txn.{Txn}
 use Rattle.keyspace.specs.declared.reply.Entry.{Entry}
 use Rattle.keyspace.specs.Writes.{counted, committed}
-use Rattle.keyspace.specs.BatchRanges.{marks_of_txn, ranges_in, ranges_of_txn, write_marks}
+use Rattle.keyspace.specs.storage.BatchRanges.{marks_of_txn, ranges_in, ranges_of_txn, write_marks}
 use Rattle.conflict.specs.Union.{picked}
 use Rattle.conflict.proofs.JudgedTo.{committed_push}
 

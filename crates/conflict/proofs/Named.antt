@@ -6,7 +6,7 @@ use Rattle.std.proofs.lemmas.Option.{slice_get-map, none-some, same_Some, option
 use Rattle.keys.specs.declared.range.Range.{Range}
 use Rattle.keys.proofs.callers.Lists.{range_more, some_at}
 use Rattle.keyspace.specs.declared.txn.Txn.{Txn}
-use Rattle.keyspace.specs.BatchRanges.{ranges_in}
+use Rattle.keyspace.specs.storage.BatchRanges.{ranges_in}
 use Rattle.conflict.specs.declared.lookup.ReadName.{ReadName}
 use Rattle.conflict.specs.Lookup.{asked_at, query_named, queries_named, AreNamed}
 

@@ -4,6 +4,7 @@ use Rattle.std.specs.Prelude.{ℤ, ◌≤ℤ◌, flat_map}
 use Rattle.std.specs.List.{AllZip}
 use Rattle.std.proofs.lemmas.Grind.{flat_map-append}
 use Rattle.std.proofs.lemmas.List.{length-map, length-append, length-take, map-append, take_more, drop_more}
+use Rattle.keys.proofs.callers.Lists.{AllZip-split}
 use Rattle.keys.specs.declared.range.Range.{Range}
 use Rattle.keyspace.specs.declared.txn.Txn.{Txn}
 use Rattle.keyspace.specs.declared.reply.Entry.{Entry}
@@ -107,14 +108,6 @@ length-all_parts oldest [] hits = refl
 length-all_parts oldest (t ∷ ts) hits =
     ap suc (length-all_parts oldest ts (drop (length (first_asked oldest t)) hits))
 
--- the answers to the first questions, and those to the others
-zip_split : {X Y : Type 0} (R : X → Y → Type 0) (xs others : List X) (ys : List Y) → AllZip R (xs ++ others) ys
-    → AllZip R xs (take (length xs) ys) × AllZip R others (drop (length xs) ys)
-zip_split R [] others ys all = (tt, all)
-zip_split R (x ∷ xs) others [] all = absurd all
-zip_split R (x ∷ xs) others (y ∷ ys) all =
-    let rest = zip_split R xs others ys all.1 in ((all.0, rest.0), rest.1)
-
 -- an answer a question
 zip_count : {X Y : Type 0} (R : X → Y → Type 0) (xs : List X) (ys : List Y) → AllZip R xs ys → length ys ≡ length xs
 zip_count R [] [] all = refl
@@ -135,7 +128,7 @@ module _ (m : Steps) (snapshot : ℤ) (ranges : List Range) (others : List (Rang
       × AreAnswers m others (drop (length ranges) answers)
   both = subst
       (λ n. AreAnswers m (asked_at snapshot ranges) (take n answers) × AreAnswers m others (drop n answers)) long
-      (zip_split _ (asked_at snapshot ranges) others answers all)
+      (AllZip-split _ (asked_at snapshot ranges) others answers all)
 
   own_answers : AreAnswers m (asked_at snapshot ranges) (take (length ranges) answers)
   own_answers = both.0

@@ -1,14 +1,14 @@
 -- A batch is judged the same way by its ranges and by what these are ranked as.
-use Rattle.std.proofs.Common.{◌≡◌, ℕ, ◌+◌, ◌≤◌, Bool, true, false, cond, ◌||◌, List, [], ◌∷◌, ◌++◌, length, get_or, map, take, refl, sym, ap, ap₂, subst, ◌∙◌, inl, inr}
+use Rattle.std.proofs.Common.{◌≡◌, ℕ, ◌+◌, ◌≤◌, Bool, true, false, cond, ◌||◌, List, [], ◌∷◌, ◌++◌, get_or, map, take, refl, sym, ap, ap₂, subst, ◌∙◌, inl, inr}
 use Rattle.std.specs.Prelude.{All, Contains}
 use Rattle.std.specs.List.{list_any}
 use Rattle.std.proofs.lemmas.List.{length-map, map-append}
 use Rattle.std.proofs.lemmas.List.Elements.{All-append, All-contains, All-head, All-tail}
-use Rattle.keys.specs.Range.{IsEmpty, Meets, ranges_meet}
+use Rattle.keys.specs.Range.{Meets, ranges_meet}
 use Rattle.keys.specs.Singles.{IsRankedAs}
 use Rattle.keys.specs.declared.range.Range.{Range}
 use Rattle.keys.proofs.callers.Meeting.{meets_by_ends, meets_from_test}
-use Rattle.keyspace.specs.BatchRanges.{ranges_in, ranges_of_txn, writes_in}
+use Rattle.keyspace.specs.storage.BatchRanges.{ranges_in, ranges_of_txn, writes_in}
 use Rattle.keyspace.specs.Judge.{in_conflict_at, meets_earlier, places_from}
 use Rattle.keyspace.specs.Writes.{counted}
 use Rattle.keyspace.specs.declared.reply.Entry.{Entry}
@@ -16,7 +16,7 @@ use Rattle.keyspace.specs.declared.reply.Verdict.{Verdict}
 use Rattle.keyspace.specs.declared.reply.Verdict.TheVariants.{Conflict, TooOld, Committed}
 use Rattle.keyspace.specs.declared.txn.TheConstants.{MAX_RANGES}
 use Rattle.keyspace.specs.declared.txn.Txn.{Txn}
-use Rattle.conflict.specs.InBatch.{by_verdict, in_batch, in_batches, unless_met, IsShapedAs}
+use Rattle.conflict.specs.InBatch.{by_verdict, in_batch, in_batches, IsShapedAs}
 use Rattle.conflict.proofs.JudgedTo.{all_counted}
 use Rattle.conflict.proofs.Parts.{all_split}
 

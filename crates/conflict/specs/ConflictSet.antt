@@ -33,7 +33,7 @@ use Rattle.stepmap.specs.Limit.{HasRoomFor, made_room}
 use Rattle.stepmap.specs.Uniting.{Unites}
 use Rattle.stepmap.specs.declared.error.StepError.{StepError}
 use Rattle.stepmap.specs.declared.error.StepError.TheVariants as step
-use Rattle.conflict.specs.declared.conflict_set.TheConstants.{MAX_WINDOW}
+use Rattle.limits.specs.declared.settings.TheConstants.{MAX_WINDOW}
 use Rattle.conflict.specs.declared.error.SetStop.{SetStop}
 use Rattle.conflict.specs.declared.error.SetStop.TheVariants.{Memory, ArenaFull}
 use Rattle.conflict.specs.declared.when_full.WhenFull.{WhenFull}

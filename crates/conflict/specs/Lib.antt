@@ -7,3 +7,4 @@ pub mod ConflictSet
 pub mod Pace
 pub mod Calls
 pub mod Unknown
+pub mod Stop

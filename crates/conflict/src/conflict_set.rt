@@ -3,7 +3,7 @@
 ghost use Rattle.std.specs.Prelude.{◌≡◌, ◌<◌, ◌≤◌, ◌↔◌, ◌≤ℤ◌, ◌-ℤ◌, pos, negsuc, [], length};
 ghost use Rattle.std.specs.Prelude.{None, Err, IfOk, IfErr};
 ghost use Rattle.std.specs.Int.{int_max};
-ghost use Rattle.stepmap.specs.declared.step_map.TheConstants.{MAX_LIMIT};
+ghost use Rattle.limits.specs.declared.settings.TheConstants.{MAX_LIMIT, MAX_WINDOW};
 ghost use Rattle.stepmap.specs.StepMap.{AreSteps};
 ghost use Rattle.conflict.specs.ConflictSet.{IsSet, new_set, Remembers};
 ghost use Rattle.conflict.specs.Unknown.{unknown_until};
@@ -16,11 +16,6 @@ use crate::unknown::write_every_key;
 use std::alloc::{AllocError, Global};
 use std::marker::Model;
 use stepmap::StepMap;
-
-/// The greatest window, in versions: this project's own.
-pub const MAX_WINDOW: i64 = 1_099_511_627_776;
-
-const _: () = prove!(MAX_WINDOW == 1_099_511_627_776);
 
 // How many boundaries the write of every key needs: one at the empty key, and two for the range.
 const LEAST_LIMIT_TO_START: usize = 3;

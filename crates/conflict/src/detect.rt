@@ -1,15 +1,10 @@
 //! The judging of a batch and the writing of what it commits, from top to bottom:
 //! `ConflictBatch::detectConflicts` of FoundationDB 7.1.
 
-ghost use Rattle.std.specs.Prelude.{◌≡◌, ◌+◌, ◌*◌, ◌<◌, ◌≤ℤ◌, pos, List, IfOk, IfErr, IsTrue};
+ghost use Rattle.std.specs.Prelude.{◌≤ℤ◌, pos, IfOk, IfErr};
 ghost use Rattle.keyspace.specs.Judged.{edge};
-ghost use Rattle.keyspace.specs.Writes.{Write};
 ghost use Rattle.stepmap.specs.Boundary.{AreUpTo};
-ghost use Rattle.stepmap.specs.Counting.{live_count};
-ghost use Rattle.stepmap.specs.Limit.{HasRoomFor, made_room};
-ghost use Rattle.stepmap.specs.Rooted.{Rooted};
-ghost use Rattle.conflict.specs.declared.conflict_set.TheConstants.{MAX_WINDOW};
-ghost use Rattle.conflict.specs.ConflictSet.{raised};
+ghost use Rattle.limits.specs.declared.settings.TheConstants.{MAX_WINDOW};
 ghost use Rattle.conflict.specs.Calls.{Detects, Fails};
 
 use crate::conflict_set::edge_at;
@@ -82,7 +77,7 @@ pub fn detect_conflicts(
     // What is committed is written, if it fits the limit.
     scratch.writes.gather(batch, &entries)?;
     let spans = scratch.writes.spans();
-    if is_refused(steps, spans.len(), edge, when_full) {
+    if when_full == WhenFull::Refuse && !steps.can_make_room(spans.len(), edge) {
         return Err(SetStop::ArenaFull);
     }
     steps.raise(edge);
@@ -93,21 +88,4 @@ pub fn detect_conflicts(
     // The sweep keeps up with the writes.
     steps.sweep(3 * spans.len() + 10);
     Ok(Reply::new(batch.version, Sequence::new(entries)))
-}
-
-// Returns whether this many ranges are refused: they don't fit the limit, and the set doesn't stop
-// for that.
-fn is_refused(steps: &StepMap, ranges: usize, edge: i64, when_full: WhenFull) -> bool
-    requires raised { steps.now.edge ≤ℤ edge }
-    ensures full { IsTrue result
-        → ¬ HasRoomFor ranges (made_room ranges (raised edge steps.now)) }
-    ensures bound { IsTrue result → (ws : List Write) → Rooted steps.now ws
-        → steps.now.limit < 1 + 2 * (live_count edge ws + ranges) }
-    ensures fits { when_full ≡ WhenFull.Refuse → ¬ IsTrue result
-        → HasRoomFor ranges (made_room ranges (raised edge steps.now)) }
-{
-    match when_full {
-        WhenFull::Stop => false,
-        WhenFull::Refuse => !steps.can_make_room(ranges, edge),
-    }
 }

@@ -2,7 +2,9 @@
 
 ghost use Rattle.std.specs.Prelude.{◌≡◌};
 ghost use Rattle.conflict.specs.declared.error.SetStop.TheVariants.{Memory};
+ghost use Rattle.conflict.specs.Stop.{stop_at_set};
 
+use limits::Stop;
 use std::alloc::AllocError;
 use stepmap::StepError;
 use thiserror::Error;
@@ -36,6 +38,17 @@ impl From<StepError> for SetStop {
         match error {
             StepError::Memory => SetStop::Memory,
             StepError::Full => SetStop::ArenaFull,
+        }
+    }
+}
+
+impl From<SetStop> for Stop {
+    ghost from_gives = { λ error stop. stop ≡ stop_at_set error };
+
+    fn from(error: SetStop) -> Stop {
+        match error {
+            SetStop::Memory => Stop::Memory,
+            SetStop::ArenaFull => Stop::ArenaFull,
         }
     }
 }

@@ -11,7 +11,7 @@ ghost use Rattle.keyspace.specs.declared.reply.Verdict.TheVariants.{Committed};
 ghost use Rattle.keyspace.specs.Writes.{counted};
 ghost use Rattle.keyspace.specs.Judge.{meets_earlier};
 ghost use Rattle.keyspace.specs.declared.txn.Txn.{Txn};
-ghost use Rattle.keyspace.specs.BatchRanges.{ranges_in, writes_in};
+ghost use Rattle.keyspace.specs.storage.BatchRanges.{ranges_in, writes_in};
 ghost use Rattle.conflict.specs.Gaps.{IsMarked};
 ghost use Rattle.conflict.specs.Written.{AreWrittenGaps, AreRunsWithin, AreRunsOf};
 ghost use Rattle.conflict.specs.InBatch.{in_batch, in_batches, IsShapedAs};

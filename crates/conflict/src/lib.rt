@@ -33,6 +33,7 @@ mod unknown;
 mod when_full;
 mod writes;
 
-pub use conflict_set::{ConflictSet, MAX_WINDOW};
+pub use conflict_set::ConflictSet;
 pub use error::SetStop;
+pub use limits::MAX_WINDOW;
 pub use when_full::WhenFull;

@@ -4,7 +4,7 @@
 ghost use Rattle.std.specs.Prelude.{◌≡◌, ◌≤◌, ℕ, true, false, List, length, map, replicate, Some};
 ghost use Rattle.std.specs.Prelude.{MatchOption, OnOk, slice_get, slice_index_or};
 ghost use Rattle.keys.specs.declared.range.Range.{Range};
-ghost use Rattle.keyspace.specs.BatchRanges.{is_write_in, ranges_in};
+ghost use Rattle.keyspace.specs.storage.BatchRanges.{is_write_in, ranges_in};
 ghost use Rattle.keyspace.specs.Writes.{committed};
 ghost use Rattle.stepmap.specs.StepMap as map_of;
 ghost use Rattle.stepmap.specs.Writing.{AreApart};

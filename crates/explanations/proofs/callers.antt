@@ -1,3 +1,4 @@
 -- lemmas that proofs of the crates above may cite
 pub mod Chains
 pub mod Following
+pub mod Newest

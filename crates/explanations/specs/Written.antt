@@ -1,5 +1,5 @@
 -- The committed writes of a chain, each with its origin. This project's own; `writes` of `keyspace` has them without it.
-use Rattle.std.specs.Prelude.{ℕ, ◌+◌, ℤ, List, [], ◌∷◌, ◌++◌, map, flat_map}
+use Rattle.std.specs.Prelude.{ℕ, ◌+◌, ℤ, List, [], ◌∷◌, ◌++◌, map, flat_map, Option, Some, None}
 use Rattle.keys.specs.declared.range.Range.{Range}
 use Rattle.keyspace.specs.declared.txn.Txn.{Txn}
 use Rattle.keyspace.specs.declared.reply.Entry.{Entry}
@@ -34,3 +34,9 @@ written_in p = written_from p.proxy p.batch.version 0 p.batch.txns p.reply.entri
 -- all committed writes, in order
 abbrev pub all_written : List Processed → List Written
 all_written ps = flat_map written_in ps
+
+-- the last of the writes
+abbrev pub newest_write : List Written → Option Written
+newest_write [] = None
+newest_write (w ∷ []) = Some w
+newest_write (w ∷ x ∷ ws) = newest_write (x ∷ ws)

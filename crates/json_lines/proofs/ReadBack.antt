@@ -17,7 +17,7 @@ use Rattle.json.specs.Print.{IsNumber}
 use Rattle.json.proofs.Printed.Decimals.{IsNumber-signed_decimal}
 use Rattle.json.proofs.Printed.Trees.{document-print}
 use Rattle.keys.specs.Key.{IsBytes, is_before}
-use Rattle.keyspace.specs.Fields.{RangeFields, TxnFields, RangeHolds}
+use Rattle.keyspace.specs.storage.Fields.{RangeFields, TxnFields, RangeHolds}
 use Rattle.wire.specs.Fields.{BatchFields}
 use Rattle.wire.specs.Spelling.{single_key, is_single_key, TxnHolds, BatchHolds}
 use Rattle.wire.proofs.callers.Singles.{single_is}

@@ -1,6 +1,6 @@
 -- Keys as text, in the manner of FoundationDB's `printable`: printable ASCII is written as itself, `\\` for the backslash, and
 -- `\xNN` for any byte, by two hexadecimal digits.
-use Rattle.std.specs.Prelude.{ℕ, ◌+◌, ◌*◌, ◌/◌, ◌%◌, List, [], ◌∷◌, Bool, ◌&&◌, ◌==◌, nat_lt, nat_le, flat_map, Option, Some, None, option_map, if◌then◌else◌}
+use Rattle.std.specs.Prelude.{ℕ, ◌+◌, ◌*◌, ◌/◌, ◌%◌, List, [], ◌∷◌, ◌++◌, codes, Bool, ◌&&◌, ◌==◌, nat_lt, nat_le, flat_map, Option, Some, None, option_map, if◌then◌else◌}
 use Rattle.std.specs.Char.{digit_char, digit_value, is_digit}
 
 abbrev pub backslash : ℕ
@@ -23,6 +23,10 @@ byte_form byte =
 -- the printed form of a key
 abbrev pub key_form : List ℕ → List ℕ
 key_form key = flat_map byte_form key
+
+-- the same, in quotes
+abbrev pub quoted_key : List ℕ → List ℕ
+quoted_key key = codes "\"" ++ key_form key ++ codes "\""
 
 abbrev pub after_byte : ℕ → Option (List ℕ) → Option (List ℕ)
 after_byte byte rest = option_map (λ key. byte ∷ key) rest

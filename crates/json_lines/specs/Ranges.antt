@@ -1,10 +1,10 @@
 -- Ranges as JSON: a pair of keys, or one key for the range of that key alone.
-use Rattle.std.specs.Prelude.{ℕ, List, length, nat_le, Option, Some, None, option_map, if◌then◌else◌}
+use Rattle.std.specs.Prelude.{◌≡◌, ◌⊎◌, ℕ, List, [], ◌∷◌, ◌++◌, length, nat_le, Option, Some, None, option_map, if◌then◌else◌}
 use Rattle.json.specs.Json.{Json, null, boolean, number, string, array, object, Items, no_items, item}
 use Rattle.json.specs.Find.{as_str}
 use Rattle.keys.specs.Key.{is_before}
 use Rattle.keys.specs.declared.key.TheConstants.{MAX_KEY_LENGTH}
-use Rattle.keyspace.specs.Fields.{RangeFields}
+use Rattle.keyspace.specs.storage.Fields.{RangeFields}
 use Rattle.keyspace.specs.declared.txn.TheConstants.{MAX_RANGES}
 use Rattle.wire.specs.Spelling.{single_key}
 use Rattle.wire.specs.declared.single.TheConstants.{MAX_SINGLE_KEY_LENGTH}
@@ -16,6 +16,11 @@ unfoldable pub key_within : ℕ → List ℕ → Option (List ℕ)
 key_within limit text = do
   key ← spelled text
   if nat_le (length key) limit then Some key else None
+
+-- the line, with its line feed or without one, spells the key
+abbrev pub IsKeyLine : List ℕ → List ℕ → Type 0
+IsKeyLine line key =
+    (text : List ℕ) × ((line ≡ text ++ 10 ∷ []) ⊎ (line ≡ text)) × (key_within MAX_KEY_LENGTH text ≡ Some key)
 
 abbrev pub key_in : Json → Option (List ℕ)
 key_in j = as_str j >>= key_within MAX_KEY_LENGTH

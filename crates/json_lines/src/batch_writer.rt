@@ -5,7 +5,7 @@ ghost use Rattle.std.specs.Int.{w64};
 ghost use Rattle.std.specs.Int.RustNames.{FitsSigned};
 ghost use Rattle.std.specs.List.{All};
 ghost use Rattle.json.specs.Tree.{json_tokens};
-ghost use Rattle.keyspace.specs.Fields.{txn_fields};
+ghost use Rattle.keyspace.specs.storage.Fields.{txn_fields};
 ghost use Rattle.wire.specs.Fields.{batch_fields};
 ghost use Rattle.wire.specs.Spelling.{BatchHolds};
 ghost use Rattle.json_lines.specs.Batches.{batch_of};

@@ -4,9 +4,9 @@ ghost use Rattle.std.specs.Prelude.{◌≡◌, ◌<◌, ◌++◌, ◌∷◌, [],
 ghost use Rattle.std.specs.Prelude.{vec_len, option_map};
 ghost use Rattle.std.specs.Char.{digit_char};
 ghost use Rattle.json_lines.specs.KeyForm.{is_printable, byte_form, key_form, hex_value, number_at};
-ghost use Rattle.json_lines.specs.KeyForm.{escaped_at, byte_at, spelled};
+ghost use Rattle.json_lines.specs.KeyForm.{escaped_at, byte_at, quoted_key, spelled};
 ghost use Rattle.keys.specs.declared.key.TheConstants.{MAX_KEY_LENGTH};
-ghost use Rattle.json_lines.specs.Ranges.{key_within};
+ghost use Rattle.json_lines.specs.Ranges.{IsKeyLine, key_within};
 ghost use Rattle.json_lines.specs.Values.{Reads};
 
 use crate::cause::Cause;
@@ -23,6 +23,15 @@ pub fn put_key_form(out: &mut Vec<u8>, key: &[u8]) -> Result<(), AllocError>
         put_byte_form(out, *byte)?;
     }
     Ok(())
+}
+
+/// Appends the printed form of a key, in quotes.
+pub fn put_quoted_key(out: &mut Vec<u8>, key: &[u8]) -> Result<(), AllocError>
+    ensures text { OnOk result (out.new.items ≡ out.old.items ++ quoted_key key.now) }
+{
+    out.push(b'"')?;
+    put_key_form(out, key)?;
+    Ok(out.push(b'"')?)
 }
 
 #[tactic(auto, unfolding(crate::specs::KeyForm::byte_form))]
@@ -123,6 +132,16 @@ pub fn read_key(alloc: Global, text: &[u8]) -> Result<Key, LineRefusal>
     ensures reads { Reads (λ key. key) result (key_within MAX_KEY_LENGTH text.now) }
 {
     Ok(Key::new(key_within(alloc, text, MAX_KEY_LENGTH, LinePlace::Line)?))
+}
+
+/// Reads the key of a line, which is its printed form with or without a line feed.
+pub fn read_key_line(alloc: Global, line: &[u8]) -> Result<Key, LineRefusal>
+    ensures key { IfOk result (IsKeyLine line.now) }
+{
+    match line.split_last() {
+        Some((b'\n', text)) => read_key(alloc, text),
+        _ => read_key(alloc, line),
+    }
 }
 
 /// Reads a key of at most n bytes from its text.

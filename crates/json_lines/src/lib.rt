@@ -7,6 +7,7 @@
 //! The layers above use [`read_batch`] and [`read_reply`], which read a line or say which member is
 //! wrong and why ([`LineRefusal`]); and [`write_batch`] and [`write_reply`], whose lines read back
 //! as what was written ([`laws`]). [`put_key_form`] and [`read_key`] do the same with keys alone.
+//! [`put_quoted_key`] adds quotes; [`put_key`] writes the form as a string of JSON.
 #![tactic(auto)]
 
 mod batch;
@@ -31,9 +32,10 @@ pub use batch::read_batch;
 pub use batch_writer::write_batch;
 pub use cause::Cause;
 pub use json::Scratch;
-pub use key_form::{put_key_form, read_key};
+pub use key_form::{put_key_form, put_quoted_key, read_key, read_key_line};
 pub use member::Member;
 pub use place::LinePlace;
+pub use range_writer::put_key;
 pub use refusal::LineRefusal;
 pub use reply::read_reply;
 pub use reply_writer::write_reply;

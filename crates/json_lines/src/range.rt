@@ -3,7 +3,7 @@
 ghost use Rattle.std.specs.Prelude.{◌≡◌, ◌≤◌, map, length, IfOk};
 ghost use Rattle.json.specs.Value.{value_view, items_view};
 ghost use Rattle.keys.specs.declared.key.TheConstants.{MAX_KEY_LENGTH};
-ghost use Rattle.keyspace.specs.Fields.{range_fields};
+ghost use Rattle.keyspace.specs.storage.Fields.{range_fields};
 ghost use Rattle.keyspace.specs.declared.txn.TheConstants.{MAX_RANGES};
 ghost use Rattle.json_lines.specs.Ranges.{key_in, range_in, pair_in, single_in, ranges_in};
 ghost use Rattle.json_lines.specs.Values.{Reads, each};

@@ -2,7 +2,7 @@
 
 ghost use Rattle.std.specs.Prelude.{◌≡◌, ◌<◌, ◌++◌, map, All, IsAscii, OnOk};
 ghost use Rattle.json.specs.Tree.{json_tokens};
-ghost use Rattle.keyspace.specs.Fields.{range_fields};
+ghost use Rattle.keyspace.specs.storage.Fields.{range_fields};
 ghost use Rattle.json_lines.specs.Written.{all_tokens, key_json, pair_json, range_json, list_json};
 
 use crate::key_form::put_key_form;
@@ -78,8 +78,9 @@ fn put_pair(
     Ok(())
 }
 
-// Writes a key. Its printed form is put together in `form`, whose memory is used again.
-fn put_key(writer: &mut Writer, form: &mut Vec<u8>, key: &[u8]) -> Result<(), AllocError>
+/// Writes a key, as a string of its printed form. That is put together in `form`, whose memory is
+/// used again.
+pub fn put_key(writer: &mut Writer, form: &mut Vec<u8>, key: &[u8]) -> Result<(), AllocError>
     ensures tokens { OnOk result (writer.new.tokens
         ≡ writer.old.tokens ++ (json_tokens (key_json key.now))) }
     ensures before { writer.new.before ≡ writer.old.before }

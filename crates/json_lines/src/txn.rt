@@ -2,7 +2,7 @@
 
 ghost use Rattle.std.specs.Prelude.{◌≡◌, ◌≤◌, map, length, IfOk};
 ghost use Rattle.json.specs.Value.{value_view, items_view};
-ghost use Rattle.keyspace.specs.Fields.{txn_fields};
+ghost use Rattle.keyspace.specs.storage.Fields.{txn_fields};
 ghost use Rattle.keyspace.specs.declared.batch.TheConstants.{MAX_TXNS};
 ghost use Rattle.json_lines.specs.Batches.{txn_in, txn_members, report_in, txns_in};
 ghost use Rattle.json_lines.specs.Values.{Reads, each, number_in, required};

@@ -4,7 +4,7 @@ use Rattle.std.proofs.lemmas.List.{length-map}
 use Rattle.std.proofs.lemmas.List.Elements.{All-head, All-tail, All-map}
 use Rattle.keys.specs.declared.range.Range.{Range}
 use Rattle.keyspace.specs.declared.txn.Txn.{Txn}
-use Rattle.keyspace.specs.Fields.{RangeFields, TxnFields, range_fields, txn_fields, RangeHolds, TxnLimits, ranges_with, txn_with, txns_with}
+use Rattle.keyspace.specs.storage.Fields.{RangeFields, TxnFields, range_fields, txn_fields, RangeHolds, TxnLimits, ranges_with, txn_with, txns_with}
 
 pub fields_of_ranges : (ranges : List RangeFields) (holds : All RangeHolds ranges)
     → map range_fields (ranges_with ranges holds) ≡ ranges

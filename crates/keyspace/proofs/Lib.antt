@@ -1,4 +1,5 @@
 pub mod callers
+pub mod OneOrder
 pub mod Limits
 pub mod Rising
 pub mod Scans

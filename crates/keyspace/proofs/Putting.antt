@@ -3,9 +3,9 @@ use Rattle.std.proofs.Common.{◌≡◌, ◌+◌, ℕ, List, [], ◌∷◌, ◌+
 use Rattle.std.proofs.lemmas.List.{map-append, length-map}
 use Rattle.std.proofs.lemmas.List.Elements.{All-nil, All-head, All-tail, All-append, All-weaker}
 use Rattle.keyspace.specs.declared.span.Span.{Span}
-use Rattle.keyspace.specs.Fields.{RangeFields}
-use Rattle.keyspace.specs.Tables.{range_of_span, LiesWithin}
-use Rattle.keyspace.specs.Putting.{ArePut}
+use Rattle.keyspace.specs.storage.Fields.{RangeFields}
+use Rattle.keyspace.specs.storage.Tables.{range_of_span, LiesWithin}
+use Rattle.keyspace.specs.storage.Putting.{ArePut}
 use Rattle.keyspace.proofs.Slices.{slice_range-append}
 
 pub ranges_kept : (buffer more : List ℕ) (spans : List Span) → All (LiesWithin (length buffer)) spans

@@ -3,8 +3,8 @@ use Rattle.std.proofs.Common.{◌≡◌, ◌<◌, ℕ, List, length, map, refl, 
 use Rattle.std.proofs.lemmas.List.{length-map, get_or-map}
 use Rattle.keys.specs.declared.range.Range.{Range}
 use Rattle.keyspace.specs.declared.span.Span.{Span}
-use Rattle.keyspace.specs.Fields.{range_fields, RangeHolds, ranges_with, length-ranges_with}
-use Rattle.keyspace.specs.Tables.{range_of_span}
+use Rattle.keyspace.specs.storage.Fields.{range_fields, RangeHolds, ranges_with, length-ranges_with}
+use Rattle.keyspace.specs.storage.Tables.{range_of_span}
 use Rattle.keyspace.proofs.callers.SameFields.{same_range, same_ranges}
 use Rattle.keyspace.proofs.FieldsBack.{fields_of_ranges}
 use Rattle.keyspace.proofs.Slices.{slice_range-map, All-slice_range, slice_get-shown}

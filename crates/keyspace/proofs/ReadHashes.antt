@@ -10,9 +10,9 @@ use Rattle.keys.proofs.callers.Lists.{some_at, part_get, AllZip-at}
 use Rattle.keyspace.specs.declared.txn.Txn.{Txn}
 use Rattle.keyspace.specs.declared.span.Span.{Span}
 use Rattle.keyspace.specs.declared.row.Row.{Row}
-use Rattle.keyspace.specs.BatchRanges.{ranges_in}
-use Rattle.keyspace.specs.Fields.{TxnFields, range_fields, txn_fields, txns_with}
-use Rattle.keyspace.specs.Tables.{range_of_span, txn_of_row, txns_of_tables, AreRows, AreTables}
+use Rattle.keyspace.specs.storage.BatchRanges.{ranges_in}
+use Rattle.keyspace.specs.storage.Fields.{TxnFields, range_fields, txn_fields, txns_with}
+use Rattle.keyspace.specs.storage.Tables.{range_of_span, txn_of_row, txns_of_tables, AreRows, AreTables}
 use Rattle.keyspace.proofs.callers.SameFields.{same_ranges}
 use Rattle.keyspace.proofs.FieldsBack.{fields_of_txns}
 use Rattle.keyspace.proofs.RangesReported.{part_reported}

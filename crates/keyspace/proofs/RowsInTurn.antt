@@ -2,8 +2,8 @@
 use Rattle.std.proofs.Common.{◌≡◌, ℕ, zero, suc, pos, false, ◌+◌, ◌<◌, ◌≤◌, List, [], ◌∷◌, ◌++◌, length, take, get_or, refl, sym, ap, ◌∙◌, subst, arith}
 use Rattle.keyspace.specs.declared.span.Span.{Span}
 use Rattle.keyspace.specs.declared.row.Row.{Row}
-use Rattle.keyspace.specs.Fields.{TxnFields}
-use Rattle.keyspace.specs.Tables.{txn_of_row, txns_from, AreRows}
+use Rattle.keyspace.specs.storage.Fields.{TxnFields}
+use Rattle.keyspace.specs.storage.Tables.{txn_of_row, txns_from, AreRows}
 use Rattle.keyspace.proofs.callers.Rows.{rows_rise}
 
 -- what an index past the rows reads

@@ -6,9 +6,9 @@ use Rattle.keys.specs.declared.range.Range.{Range}
 use Rattle.keyspace.specs.declared.txn.Txn.{Txn}
 use Rattle.keyspace.specs.declared.span.Span.{Span}
 use Rattle.keyspace.specs.declared.row.Row.{Row}
-use Rattle.keyspace.specs.BatchRanges.{ranges_in}
-use Rattle.keyspace.specs.Fields.{RangeFields, TxnFields, range_fields, txn_fields, RangeHolds, TxnLimits, txns_with}
-use Rattle.keyspace.specs.Tables.{range_of_span, txns_from, txns_of_tables, AreRows, AreTables}
+use Rattle.keyspace.specs.storage.BatchRanges.{ranges_in}
+use Rattle.keyspace.specs.storage.Fields.{RangeFields, TxnFields, range_fields, txn_fields, RangeHolds, TxnLimits, txns_with}
+use Rattle.keyspace.specs.storage.Tables.{range_of_span, txns_from, txns_of_tables, AreRows, AreTables}
 use Rattle.keyspace.proofs.callers.Rows.{rows_rise}
 use Rattle.keyspace.proofs.callers.SameFields.{same_ranges}
 use Rattle.keyspace.proofs.FieldsBack.{fields_of_txns}

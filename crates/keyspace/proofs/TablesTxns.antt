@@ -4,8 +4,8 @@ use Rattle.std.proofs.lemmas.List.{length-map}
 use Rattle.keyspace.specs.declared.txn.Txn.{Txn}
 use Rattle.keyspace.specs.declared.span.Span.{Span}
 use Rattle.keyspace.specs.declared.row.Row.{Row}
-use Rattle.keyspace.specs.Fields.{TxnFields, range_fields, txn_fields, TxnLimits, txns_with}
-use Rattle.keyspace.specs.Tables.{txn_of_row, txns_of_tables, AreRows}
+use Rattle.keyspace.specs.storage.Fields.{TxnFields, range_fields, txn_fields, TxnLimits, txns_with}
+use Rattle.keyspace.specs.storage.Tables.{txn_of_row, txns_of_tables, AreRows}
 use Rattle.keyspace.proofs.callers.SameFields.{same_txn}
 use Rattle.keyspace.proofs.FieldsBack.{fields_of_txns}
 use Rattle.keyspace.proofs.RowsInTurn.{length-reported, reported_at}

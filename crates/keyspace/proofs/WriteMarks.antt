@@ -9,10 +9,10 @@ use Rattle.keys.proofs.callers.GapRuns.{chosen_among}
 use Rattle.keyspace.specs.declared.txn.Txn.{Txn}
 use Rattle.keyspace.specs.declared.span.Span.{Span}
 use Rattle.keyspace.specs.declared.row.Row.{Row}
-use Rattle.keyspace.specs.BatchRanges.{is_write_in, marks_of_txn, ranges_in, ranges_of_txn, write_marks, writes_in}
-use Rattle.keyspace.specs.Fields.{TxnFields, range_fields, txn_fields, TxnLimits, txns_with}
-use Rattle.keyspace.specs.Tables.{range_of_span, txns_from, txns_of_tables, AreRows, AreTables}
-use Rattle.keyspace.specs.RowMarks.{marks_from, marks_of_rows}
+use Rattle.keyspace.specs.storage.BatchRanges.{is_write_in, marks_of_txn, ranges_in, ranges_of_txn, write_marks, writes_in}
+use Rattle.keyspace.specs.storage.Fields.{TxnFields, range_fields, txn_fields, TxnLimits, txns_with}
+use Rattle.keyspace.specs.storage.Tables.{range_of_span, txns_from, txns_of_tables, AreRows, AreTables}
+use Rattle.keyspace.specs.storage.RowMarks.{marks_from, marks_of_rows}
 use Rattle.keyspace.proofs.callers.Rows.{rows_rise}
 use Rattle.keyspace.proofs.FieldsBack.{fields_of_txns}
 use Rattle.keyspace.proofs.RowsInTurn.{rows_up_to, row_at}

@@ -4,3 +4,4 @@ pub mod Chains
 pub mod SameFields
 pub mod Rows
 pub mod Putting
+pub mod Ordered

@@ -12,9 +12,5 @@ pub mod Run
 pub mod Laws
 pub mod Rows
 pub mod Versions
--- Not of the reference: how the transactions of a batch are kept and their ranges numbered, this project's own.
-pub mod BatchRanges
-pub mod Fields
-pub mod Tables
-pub mod RowMarks
-pub mod Putting
+-- Not of the reference.
+pub mod storage

@@ -2,9 +2,9 @@
 //! keeps its limits.
 //!
 //! `specs/` holds the reference definitions, in reading order: all that has to be believed about
-//! verdicts and about the chain of versions, and last how the transactions of a batch are kept. The
-//! contracts of the crates above cite them. A crate above may use the contracts of the types here
-//! and the laws of [`laws`].
+//! verdicts and about the chain of versions. `specs/storage` says how the transactions of a batch
+//! are kept, and what order by version is. The contracts of the crates above cite them. A crate
+//! above may use the contracts of the types here and the laws of [`laws`].
 //!
 //! [`Txn::checked`] and [`Batch::checked`] take what comes from outside, and return a
 //! [`LimitError`] where it is beyond a limit. Callers that know it to be within the limits have
@@ -14,6 +14,8 @@
 //! range, and a [`Row`] a transaction. It lends them as [`TxnRef`], [`RangesRef`] and [`RangeRef`],
 //! so no key is copied once it is read. Their ranges are ranked ([`GapRuns`]) when a batch is read,
 //! and not when batches are resolved in sequence.
+//!
+//! [`sort_by_version`] sorts what is [`Versioned`], such as replies.
 #![tactic(auto)]
 
 mod answer;
@@ -30,6 +32,7 @@ mod txn;
 mod txn_ref;
 mod txns;
 mod unordered;
+mod version_order;
 mod write_order;
 
 pub use answer::Answer;
@@ -42,12 +45,13 @@ pub use ranges_ref::RangesRef;
 pub use reply::{Entry, Places, Reply, Verdict};
 pub use row::Row;
 pub use sequence::Sequence;
-pub use span::Span;
+pub use span::{Span, bytes_at};
 pub use tables::Tables;
 pub use txn::{MAX_RANGES, Txn};
 pub use txn_ref::TxnRef;
 pub use txns::Txns;
 pub use unordered::UnorderedBatch;
+pub use version_order::{Versioned, sort_by_version};
 
 /// The default window, in versions: how far back the resolver remembers committed writes. It is
 /// `MAX_WRITE_TRANSACTION_LIFE_VERSIONS` of FoundationDB 7.1, about five seconds of commit

@@ -1,11 +1,11 @@
 //! Ranges whose keys lie in a buffer.
 
-ghost use Rattle.std.specs.Prelude.{◌≡◌, ◌↔◌, ◌+◌, ◌<◌, ◌≤◌, [], Some, IsTrue, All, length, map};
+ghost use Rattle.std.specs.Prelude.{◌≡◌, ◌↔◌, ◌<◌, ◌≤◌, [], Some, IsTrue, All, length, map};
 ghost use Rattle.std.specs.Prelude.{slice_get, slice_range};
-ghost use Rattle.keyspace.specs.Fields.{range_fields, RangeHolds};
-ghost use Rattle.keyspace.specs.Tables.{range_of_span, LiesWithin};
+ghost use Rattle.keyspace.specs.storage.Fields.{range_fields, RangeHolds};
+ghost use Rattle.keyspace.specs.storage.Tables.{range_of_span, LiesWithin};
 
-use crate::span::Span;
+use crate::span::{Span, bytes_at};
 use keys::{RangeList, RangeRef};
 use std::marker::Model;
 
@@ -22,8 +22,8 @@ pub struct RangesRef<'a> {
 impl<'a> Model for RangesRef<'a> {
     ghost use Rattle.std.specs.Prelude.{List, map};
     ghost use Rattle.keys.specs.declared.range.Range.{Range};
-    ghost use Rattle.keyspace.specs.Fields.{ranges_with};
-    ghost use Rattle.keyspace.specs.Tables.{range_of_span};
+    ghost use Rattle.keyspace.specs.storage.Fields.{ranges_with};
+    ghost use Rattle.keyspace.specs.storage.Tables.{range_of_span};
 
     ghost Value = { List Range };
 
@@ -87,13 +87,4 @@ impl RangeList for RangesRef<'_> {
     fn range(&self, index: usize) -> RangeRef<'_> {
         self.get(index)
     }
-}
-
-// Returns n bytes of the buffer, from an index on.
-fn bytes_at(buffer: &[u8], from: u32, count: u16) -> &[u8]
-    requires within { from + count ≤ length buffer.now }
-    ensures bytes { result.now ≡ slice_range buffer.now from (from + count) }
-{
-    let from = from as usize;
-    &buffer[from..from + count as usize]
 }

@@ -1,7 +1,7 @@
 //! A transaction as a row of the tables of its batch.
 
 ghost use Rattle.std.specs.Prelude.{ℕ, ◌<◌, length, take};
-ghost use Rattle.keyspace.specs.Tables.{AreRows};
+ghost use Rattle.keyspace.specs.storage.Tables.{AreRows};
 
 /// A transaction, as a row of the tables of its batch. The spans of its ranges follow those of the
 /// row before, those of its read ranges first.

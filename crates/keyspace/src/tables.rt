@@ -1,9 +1,9 @@
 //! The tables of transactions that are put together by hand: their keys are copied into one buffer.
 
 ghost use Rattle.std.specs.Prelude.{◌≡◌, [], ◌∷◌, ◌++◌, ◌<◌, ◌≤◌, length, vec_len, map, IfOk, OnOk};
-ghost use Rattle.keyspace.specs.Fields.{range_fields, txn_fields};
-ghost use Rattle.keyspace.specs.Putting.{ArePut};
-ghost use Rattle.keyspace.specs.Tables.{txns_of_tables, AreTables};
+ghost use Rattle.keyspace.specs.storage.Fields.{range_fields, txn_fields};
+ghost use Rattle.keyspace.specs.storage.Putting.{ArePut};
+ghost use Rattle.keyspace.specs.storage.Tables.{txns_of_tables, AreTables};
 ghost use Rattle.keyspace.specs.declared.batch.TheConstants.{MAX_TXNS};
 
 use crate::row::Row;
@@ -29,8 +29,8 @@ impl Tables {
     pub fn of(alloc: Global, txns: &[Txn]) -> Result<Self, AllocError>
         requires few { length txns.now ≤ MAX_TXNS }
         ensures tables { IfOk result (λ t. AreTables t.buffer.items t.spans.items t.rows.items) }
-        ensures reported { IfOk result (λ t. txns_of_tables t.buffer.items t.spans.items t.rows.items
-            ≡ map txn_fields txns.now) }
+        ensures reported { IfOk result (λ t.
+            txns_of_tables t.buffer.items t.spans.items t.rows.items ≡ map txn_fields txns.now) }
         ensures count { IfOk result (λ t. vec_len t.rows ≡ length txns.now) }
     {
         let mut tables = Tables {

@@ -8,9 +8,9 @@ ghost use Rattle.keys.specs.Range.{IsSingle};
 ghost use Rattle.keys.specs.GapRuns.{AreChosenInOrder, AreRanked};
 ghost use Rattle.keys.specs.Singles.{AreRankedFor};
 ghost use Rattle.keys.specs.declared.range.Range.{Range};
-ghost use Rattle.keyspace.specs.BatchRanges.{is_write_in, ranges_in, writes_in};
-ghost use Rattle.keyspace.specs.Fields.{txn_fields};
-ghost use Rattle.keyspace.specs.Tables.{txns_of_tables, AreTables, AreTables-prop};
+ghost use Rattle.keyspace.specs.storage.BatchRanges.{is_write_in, ranges_in, writes_in};
+ghost use Rattle.keyspace.specs.storage.Fields.{txn_fields};
+ghost use Rattle.keyspace.specs.storage.Tables.{txns_of_tables, AreTables, AreTables-prop};
 ghost use Rattle.keyspace.specs.declared.batch.TheConstants.{MAX_TXNS};
 ghost use Rattle.keyspace.specs.declared.txn.Txn.{Txn as TxnValue};
 
@@ -53,9 +53,9 @@ impl Model for Txns {
     ghost use Rattle.keys.specs.Range.{IsSingle};
     ghost use Rattle.keys.specs.GapRuns.{AreChosenInOrder, AreRanked};
     ghost use Rattle.keys.specs.Singles.{AreRankedFor};
-    ghost use Rattle.keyspace.specs.BatchRanges.{is_write_in, ranges_in, writes_in};
-    ghost use Rattle.keyspace.specs.Fields.{txns_with};
-    ghost use Rattle.keyspace.specs.Tables.{txns_of_tables};
+    ghost use Rattle.keyspace.specs.storage.BatchRanges.{is_write_in, ranges_in, writes_in};
+    ghost use Rattle.keyspace.specs.storage.Fields.{txns_with};
+    ghost use Rattle.keyspace.specs.storage.Tables.{txns_of_tables};
     ghost use Rattle.keyspace.specs.declared.txn.Txn.{Txn};
 
     ghost Value = { List Txn };

@@ -2,9 +2,9 @@
 
 ghost use Rattle.std.specs.Prelude.{◌≡◌, ◌≤◌, ◌≤ℤ◌, ◌<ℤ◌, pos, negsuc, length, map};
 ghost use Rattle.std.specs.Prelude.{IfOk};
-ghost use Rattle.keyspace.specs.BatchRanges.{ranges_in};
-ghost use Rattle.keyspace.specs.Fields.{txn_fields};
-ghost use Rattle.keyspace.specs.Tables.{txns_of_tables, AreTables, AreTables-prop};
+ghost use Rattle.keyspace.specs.storage.BatchRanges.{ranges_in};
+ghost use Rattle.keyspace.specs.storage.Fields.{txn_fields};
+ghost use Rattle.keyspace.specs.storage.Tables.{txns_of_tables, AreTables, AreTables-prop};
 ghost use Rattle.keyspace.specs.declared.batch.TheConstants.{MAX_TXNS};
 
 use crate::batch::Batch;
@@ -43,8 +43,8 @@ pub struct UnorderedBatch {
 }
 
 impl Model for UnorderedBatch {
-    ghost use Rattle.keyspace.specs.Fields.{txns_with, length-txns_with};
-    ghost use Rattle.keyspace.specs.Tables.{txns_of_tables};
+    ghost use Rattle.keyspace.specs.storage.Fields.{txns_with, length-txns_with};
+    ghost use Rattle.keyspace.specs.storage.Tables.{txns_of_tables};
     ghost use Rattle.keyspace.specs.contracts.batch.Batch as batch_type;
     ghost use Rattle.keyspace.specs.declared.batch.Batch.{Batch};
 

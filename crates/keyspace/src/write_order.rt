@@ -2,8 +2,8 @@
 
 ghost use Rattle.std.specs.Prelude.{ℕ, ◌≡◌, ◌<◌, All, IfOk, filter, length};
 ghost use Rattle.keys.specs.Singles.{is_marked};
-ghost use Rattle.keyspace.specs.RowMarks.{marks_of_rows};
-ghost use Rattle.keyspace.specs.Tables.{AreRows};
+ghost use Rattle.keyspace.specs.storage.RowMarks.{marks_of_rows};
+ghost use Rattle.keyspace.specs.storage.Tables.{AreRows};
 
 use crate::row::Row;
 use std::alloc::{AllocError, Global};

@@ -1,6 +1,7 @@
 //! How a lane is made: both of its ends at once.
 
 ghost use Rattle.std.specs.Prelude.{◌≡◌, ◌<◌, ◌≤◌, ◌↔◌, IsTrue, IfOk};
+ghost use Rattle.limits.specs.declared.settings.TheConstants.{MAX_CAPACITY};
 ghost use Rattle.lane.specs.Lane.{SameLane, IntakeContinues, new_port, new_intake};
 ghost use Rattle.lane.specs.Calls.{Meets};
 
@@ -13,11 +14,6 @@ use crate::{intake, port};
 use crossbeam_utils::CachePadded;
 use std::alloc::Global;
 use std::sync::Arc;
-
-/// The largest capacity of a lane.
-pub const MAX_CAPACITY: usize = 1_024;
-
-const _: () = prove!(MAX_CAPACITY == 1_024);
 
 /// Makes a lane that holds at most `capacity` items, and returns its two ends. Each may go to a
 /// thread of its own.

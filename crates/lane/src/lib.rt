@@ -18,8 +18,9 @@ mod moves;
 mod port;
 mod ring;
 
-pub use ends::{MAX_CAPACITY, agree, lane};
+pub use ends::{agree, lane};
 pub use error::LaneError;
 pub use intake::{Intake, Taken};
+pub use limits::MAX_CAPACITY;
 pub use moves::Move;
 pub use port::{MAX_SENT, Port, Refused};

@@ -7,10 +7,7 @@ use Rattle.clap.specs.Values.{IsSignedIn, IsUnsignedIn, bool_text}
 use Rattle.clap.specs.Words.{IsAmong, Kinds, Row, all_of, fault_of, first_of, matches_of, one_of}
 use Rattle.clap.specs.declared.error.kind.ErrorKind.{ErrorKind}
 use Rattle.clap.specs.declared.error.kind.ErrorKind.TheVariants.{DisplayHelp, DisplayVersion, OutOfMemory}
-use Rattle.lane.specs.declared.ends.TheConstants.{MAX_CAPACITY}
-use Rattle.conflict.specs.declared.conflict_set.TheConstants.{MAX_WINDOW}
-use Rattle.stepmap.specs.declared.step_map.TheConstants.{MAX_LIMIT}
-use Rattle.resolver.specs.declared.resolver_core.TheConstants.{MAX_PROXIES}
+use Rattle.limits.specs.declared.settings.TheConstants.{MAX_CAPACITY, MAX_LIMIT, MAX_PROXIES, MAX_WINDOW}
 use Rattle.keyspace.specs.declared.reply.Verdict.{Verdict}
 use Rattle.replay_output.specs.LineFilter.{least_version}
 use Rattle.replay_output.specs.Lines.{verdict_word}

@@ -4,9 +4,7 @@ use Rattle.clap.specs.Words.{App, Rule, new_app, new_rule, with_rule}
 use Rattle.clap.specs.declared.builder.action.ArgAction.TheVariants.{Append, SetTrue}
 use Rattle.clap.specs.declared.builder.value_parser.ValueParser.{ValueParser}
 use Rattle.clap.specs.declared.builder.value_parser.ValueParser.TheVariants.{Signed, Unsigned}
-use Rattle.lane.specs.declared.ends.TheConstants.{MAX_CAPACITY}
-use Rattle.conflict.specs.declared.conflict_set.TheConstants.{MAX_WINDOW}
-use Rattle.stepmap.specs.declared.step_map.TheConstants.{MAX_LIMIT}
+use Rattle.limits.specs.declared.settings.TheConstants.{MAX_CAPACITY, MAX_LIMIT, MAX_WINDOW}
 use Rattle.replay_arguments.specs.declared.arguments.details.TheConstants.{MAX_TOP}
 use Rattle.replay_arguments.specs.declared.arguments.shard_options.TheConstants.{MAX_RESOLVERS}
 

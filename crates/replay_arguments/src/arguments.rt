@@ -39,7 +39,7 @@ pub use task::Task;
 /// What the command line asks for. `Options` keeps its numbers within their ranges.
 #[derive(Debug, Drop)]
 pub struct CommandLine<'a> {
-    /// The names of the files of batches, from 1 to [`MAX_PROXIES`](resolver::MAX_PROXIES). At most
+    /// The names of the files of batches, from 1 to [`MAX_PROXIES`](limits::MAX_PROXIES). At most
     /// one name of these, of replies and of split points is
     /// [`STANDARD_INPUT`](crate::STANDARD_INPUT).
     pub files: Vec<&'a str>,

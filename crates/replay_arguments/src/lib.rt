@@ -15,6 +15,6 @@ pub use arguments::{
     ArgumentsRefusal, CommandLine, MAX_RESOLVERS, MAX_TOP, Sharding, SummaryFile, Task, read_words,
 };
 pub use opened_files::{
-    Extent, FileError, Files, OpeningError, STANDARD_INPUT, WrittenFile, create_files,
-    fail_to_create, fail_to_create_file, fail_to_open, first_irregular, open_files,
+    Extent, FileError, Files, OpeningError, STANDARD_INPUT, WrittenFile, begin_replies,
+    create_files, fail_to_create, fail_to_create_file, fail_to_open, first_irregular, open_files,
 };

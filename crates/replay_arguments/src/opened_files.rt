@@ -171,8 +171,8 @@ pub fn fail_to_create<W: Sink>(error: &mut W, cause: OpeningError) -> Status
     Status::Failed
 }
 
-// Writes `replay: replies ` and the number of the proxy.
-fn begin_replies<W: Sink>(error: &mut W, proxy: usize) -> Result<(), Failed>
+/// Writes `replay: replies ` and the number of the proxy. Takes no memory.
+pub fn begin_replies<W: Sink>(error: &mut W, proxy: usize) -> Result<(), Failed>
     ensures text { OnOk result (Appends (W.given error.old) (W.given error.new)
         (replies_of proxy)) }
     ensures ok { OnOk result (W.failures error.new ≡ W.failures error.old) }

@@ -1,31 +1,17 @@
 -- Frames that were read, one after another.
-use Rattle.std.proofs.Common.{◌≡◌, ℕ, ◌+◌, List, [], ◌∷◌, ◌++◌, length, Option, Some, None, refl, sym, ap, subst, ◌∙◌, append_assoc, arith}
-use Rattle.std.specs.Prelude.{IfSome}
-use Rattle.std.proofs.lemmas.List.{append-nil, length-append}
+use Rattle.std.proofs.Common.{◌≡◌, ℕ, ◌+◌, List, [], ◌∷◌, ◌++◌, length, Option, refl, subst, ◌∙◌, arith}
+use Rattle.std.proofs.lemmas.List.{length-append}
 use Rattle.std.specs.Io.KnownBytes.{Consumes, IsAtEnd}
 use Rattle.keyspace.specs.declared.batch.Batch.{Batch}
 use Rattle.wire.specs.NextFrame.{IsFrameOf}
 use Rattle.wire.specs.Upgrade.{AreFrames}
-use Rattle.wire.proofs.callers.Known.{consumes_none, consumes_then}
+use Rattle.wire.proofs.callers.Frames.{frames_last}
+use Rattle.wire.proofs.callers.Known.{all_taken, consumes_none, consumes_then}
 use Rattle.replay_diagnosis.specs.declared.position.Position.{Position}
 use Rattle.replay_diagnosis.specs.declared.batches.FileBatches.{FileBatches}
 use Rattle.replay_diagnosis.specs.declared.run_findings.Finding.{Finding}
 use Rattle.replay_diagnosis.specs.Following.{HasLeast}
 use Rattle.replay_diagnosis.specs.Content.{ContainsBatches, FoundIn, IsFindingAt, position_after}
-
-frames_last : (bytes part : List ℕ) (batches : List Batch) (batch : Batch) → AreFrames bytes batches → IsFrameOf part batch
-    → AreFrames (bytes ++ part) (batches ++ batch ∷ [])
-frames_last bytes part [] batch frames is =
-    (part, [], ap (λ (t : List ℕ). t ++ part) frames ∙ sym (append-nil part), is, refl)
-frames_last bytes part (first ∷ batches) batch frames is =
-    let begin = frames.0 in
-    let rest = frames.1 in (
-      begin,
-      rest ++ part,
-      ap (λ (t : List ℕ). t ++ part) frames.2 ∙ append_assoc begin rest part,
-      frames.3,
-      frames_last rest part batches batch frames.4 is,
-    )
 
 -- the bytes that were read are the frames of these batches; and the position of the next frame
 pub record FramesSoFar (left now : Option (List ℕ)) (number offset : ℕ) (found : FileBatches) : Type 0 where
@@ -80,19 +66,13 @@ frames_more left now next found more part batch so_far read is added =
           added,
     )
 
--- the bytes that were read are all, if nothing is left
-all_read : (left now : Option (List ℕ)) (bytes : List ℕ) → Consumes left now bytes → IsAtEnd now → IfSome left (λ all. all ≡ bytes)
-all_read None now bytes read end = tt
-all_read (Some xs) None bytes read end = absurd read
-all_read (Some xs) (Some ys) bytes read end = read ∙ ap (λ (t : List ℕ). bytes ++ t) end ∙ append-nil bytes
-
 pub contains : (left now : Option (List ℕ)) (number offset : ℕ) (found : FileBatches) → FramesSoFar left now number offset found
     → IsAtEnd now → ContainsBatches left found
 contains left now number offset found so_far end = record {
   bytes = so_far.bytes;
   batches = so_far.batches;
   frames = so_far.frames;
-  read = all_read left now so_far.bytes so_far.read end;
+  read = all_taken left now so_far.bytes so_far.read end;
   least = so_far.least;
 }
 

@@ -8,6 +8,7 @@ use Rattle.replay_diagnosis.specs.Content.{EndsInFrame}
 use Rattle.wire.specs.declared.error.WireError.TheVariants.{Short}
 use Rattle.wire.specs.FrameLength.{frame_length}
 use Rattle.wire.specs.Reading.{body_at, batch_fault, read_batch}
+use Rattle.wire.proofs.callers.Frames.{entire_length, long_length}
 
 -- four bytes settle it
 pub same_frame_length : (front rest : List ℕ) → 4 ≤ length front → frame_length (front ++ rest) ≡ frame_length front
@@ -21,20 +22,6 @@ same_frame_length front rest le =
     let a = le-ltb _ _ le in
     let b = le-ltb _ _ more in
     rw (a, b, number) refl
-
-long_length : (bytes : List ℕ) → 4 ≤ length bytes → 4194304 < big_number 4 bytes → frame_length bytes ≡ 4
-unfolding frame_length
-long_length bytes le lt =
-    let a = le-ltb _ _ le in
-    let b = lt-ltb _ _ lt in
-    rw (a, b) refl
-
-entire_length : (bytes : List ℕ) → 4 ≤ length bytes → big_number 4 bytes ≤ 4194304 → frame_length bytes ≡ 4 + big_number 4 bytes
-unfolding frame_length
-entire_length bytes le low =
-    let a = le-ltb _ _ le in
-    let b = le-ltb _ _ low in
-    rw (a, b) refl
 
 -- bytes that end too early have that fault
 pub short_fault : (bytes : List ℕ) → length bytes < frame_length bytes → batch_fault bytes ≡ Some Short

@@ -3,16 +3,14 @@
 ghost use Rattle.std.specs.Prelude.{◌≡◌, ◌≢◌, ◌<◌, ◌≤◌, Some, length, take, IfErr, IfOk, IsTrue};
 ghost use Rattle.std.specs.Prelude.{not};
 ghost use Rattle.keyspace.specs.declared.reply.Reply.{Reply as ReplyValue};
-ghost use Rattle.wire.specs.FrameLength.{frame_length};
 ghost use Rattle.wire.specs.Reading.{batch_fault, reply_fault};
 ghost use Rattle.wire.specs.Spelling.{SpellsReply};
 ghost use Rattle.replay_diagnosis.specs.Content.{BeginsAsJson, IsFindingAt, IsNoJson, IsUnreadable};
 
 use crate::position::Position;
 use crate::run_findings::Finding;
-use byteorder::{BigEndian, ByteOrder};
 use std::alloc::Global;
-use wire::{MAX_BODY_LENGTH, WireError, decode_reply};
+use wire::{WireError, decode_reply, frame_length};
 
 /// Returns what is at a position of a file, if decoding a batch there had this fault. The front is
 /// as much of the bytes from there on as settles what the frame says, or all of them.
@@ -38,7 +36,7 @@ fn faulty(alloc: Global, position: Position, front: &[u8], fault: WireError) -> 
     if is_json(position, front) {
         return Finding::Json;
     }
-    let settled = settled_by(front);
+    let settled = frame_length(front);
     if front.len() < settled {
         return Finding::Truncated {
             position,
@@ -56,21 +54,6 @@ fn is_json(position: Position, front: &[u8]) -> bool
     ensures no_json { IsTrue (not result) → IsNoJson position front.now }
 {
     position.offset == 0 && front[0] == b'{'
-}
-
-// Returns how many bytes of the frame at the front settle what it says.
-#[tactic(auto, unfolding(wire::specs::FrameLength::frame_length))]
-fn settled_by(front: &[u8]) -> usize
-    ensures exact { result ≡ frame_length front.now }
-{
-    if front.len() < 4 {
-        return 4;
-    }
-    let length = BigEndian::read_u32(front) as usize;
-    if length > MAX_BODY_LENGTH {
-        return 4;
-    }
-    4 + length
 }
 
 // Returns what is at a position where the frame has this fault: a reply, or neither.

@@ -1,20 +1,16 @@
 -- The line of a read range by the writes that explain it, and a text with the lines of one more transaction.
-use Rattle.std.proofs.Common.{◌≡◌, ℕ, zero, suc, ◌+◌, ◌-◌, ◌^◌, min, List, [], ◌∷◌, ◌++◌, length, take, Option, Some, slice_get, refl, sym, ap, ◌∙◌, arith, append-nil, append_assoc, length-append}
+use Rattle.std.proofs.Common.{◌≡◌, ℕ, zero, suc, ◌+◌, ◌-◌, ◌^◌, min, List, [], ◌∷◌, ◌++◌, length, take, Option, Some, slice_get, sym, ap, ◌∙◌, arith, append-nil, append_assoc, length-append}
 use Rattle.std.specs.Prelude.{ℤ}
 use Rattle.keys.specs.declared.range.Range.{Range}
 use Rattle.keyspace.specs.declared.txn.Txn.{Txn}
 use Rattle.keyspace.specs.declared.batch.Batch.{Batch}
 use Rattle.keyspace.specs.declared.reply.Entry.{Entry}
 use Rattle.keyspace.specs.Processed.{Processed}
-use Rattle.explanations.specs.Written.{Written}
+use Rattle.explanations.specs.Written.{Written, newest_write}
+use Rattle.explanations.proofs.callers.Newest.{newest_write-last}
 use Rattle.explanations.specs.Found.{IsExplained}
 use Rattle.replay_explanations.specs.declared.form.ExplanationForm.{ExplanationForm}
-use Rattle.replay_explanations.specs.Lines.{conflict_text, lines_from, newest, read_line, txn_lines}
-
-newest_push : (others : List Written) (w : Written) → newest (others ++ w ∷ []) ≡ Some w
-newest_push [] w = refl
-newest_push (x ∷ []) w = refl
-newest_push (x ∷ y ∷ others) w = newest_push (y ∷ others) w
+use Rattle.replay_explanations.specs.Lines.{conflict_text, lines_from, read_line, txn_lines}
 
 count_of : (all others most further : ℕ) → all ≡ others + 1 → further ≡ min others most → min (all - 1) most ≡ further
 count_of all others most further entire count =
@@ -29,7 +25,7 @@ explained form version j i range ws w further found =
     let entire : length ws ≡ length found.others + 1 =
     ap (λ (xs : List Written). length xs) found.last ∙ length-append found.others (w ∷ []) in
     sym (ap (λ (o : Option Written). conflict_text form version j i range o (min (length ws - 1) (2 ^ 64 - 1)))
-    (ap newest found.last ∙ newest_push found.others w)
+    (ap newest_write found.last ∙ newest_write-last found.others w)
     ∙ ap (conflict_text form version j i range (Some w))
     (count_of (length ws) (length found.others) (2 ^ 64 - 1) further entire found.count))
 

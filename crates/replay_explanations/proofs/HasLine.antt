@@ -11,12 +11,12 @@ use Rattle.keyspace.specs.Processed.{Processed}
 use Rattle.keyspace.specs.Chain.{IsChain}
 use Rattle.keyspace.specs.Writes.{writes, earlier}
 use Rattle.keyspace.specs.Judged.{IsHit, MeetsEarlier, IsReported, HasReport}
-use Rattle.explanations.specs.Written.{Written, all_written}
+use Rattle.explanations.specs.Written.{Written, all_written, newest_write}
 use Rattle.explanations.specs.Explains.{explaining, explaining_range, explaining_txn}
 use Rattle.explanations.proofs.callers.Chains.{explained_if_in_conflict, each_conflict_explained}
 use Rattle.replay_explanations.specs.declared.form.ExplanationForm.{ExplanationForm}
 use Rattle.replay_explanations.specs.declared.form.ExplanationForm.TheVariants.{Words, Json}
-use Rattle.replay_explanations.specs.Lines.{conflict_text, conflict_lines, indices_from, line_at, newest, read_line}
+use Rattle.replay_explanations.specs.Lines.{conflict_text, conflict_lines, indices_from, line_at, read_line}
 use Rattle.replay_explanations.proofs.Indices.{index_at}
 
 first_empty : (xs ys : List ℕ) → xs ++ ys ≡ [] → xs ≡ []
@@ -36,7 +36,7 @@ some_line line (y ∷ xs) zero x at there e =
 some_line line (y ∷ xs) (suc k) x at there e =
     some_line line xs k x at there (second_empty (line y) (flat_map line xs) e)
 
-some_newest : (ws : List Written) → ws ≢ [] → (w : Written) × (newest ws ≡ Some w)
+some_newest : (ws : List Written) → ws ≢ [] → (w : Written) × (newest_write ws ≡ Some w)
 some_newest [] some = absurd (some refl)
 some_newest (w ∷ []) some = (w, refl)
 some_newest (w ∷ x ∷ ws) some = some_newest (x ∷ ws) (λ e. cc)

@@ -10,20 +10,16 @@ use Rattle.keyspace.specs.declared.reply.Verdict.{Verdict}
 use Rattle.keyspace.specs.declared.reply.Verdict.TheVariants.{Conflict, TooOld, Committed}
 use Rattle.keyspace.specs.Judged.{edge}
 use Rattle.keyspace.specs.Processed.{Processed}
-use Rattle.explanations.specs.Written.{Written}
+use Rattle.explanations.specs.Written.{Written, newest_write}
 use Rattle.explanations.specs.Explains.{explaining}
-use Rattle.json_lines.specs.KeyForm.{key_form}
+use Rattle.json_lines.specs.KeyForm.{quoted_key}
 use Rattle.replay_explanations.specs.declared.form.ExplanationForm.{ExplanationForm}
 use Rattle.replay_explanations.specs.declared.form.ExplanationForm.TheVariants.{Words, Json}
 use Rattle.replay_explanations.specs.Json.{conflict_json, member_json, too_old_json}
 
--- a key in its printed form, in quotes
-abbrev pub quoted : List ℕ → List ℕ
-quoted key = codes "\"" ++ key_form key ++ codes "\""
-
 -- a range: its begin and its end
 abbrev pub range_form : Range → List ℕ
-range_form range = codes "[" ++ quoted range.begin ++ codes "," ++ quoted range.end ++ codes ")"
+range_form range = codes "[" ++ quoted_key range.begin ++ codes "," ++ quoted_key range.end ++ codes ")"
 
 -- whether the write is one of the reader's own batch, which has this version
 abbrev pub origin : ℤ → Written → List ℕ
@@ -38,12 +34,6 @@ abbrev pub write_form : ℤ → Written → List ℕ
 write_form version w =
     range_form w.range ++ codes " of proxy " ++ decimal w.proxy ++ codes ", version " ++ signed_decimal w.version
     ++ codes ", txn " ++ decimal w.txn ++ origin version w
-
--- the last of the writes
-abbrev pub newest : List Written → Option Written
-newest [] = None
-newest (w ∷ []) = Some w
-newest (w ∷ x ∷ ws) = newest (x ∷ ws)
 
 -- the line of read range i of the transaction at index j, given the newest write that explains it and the number of other writes
 abbrev pub conflict_line : ℤ → ℕ → ℕ → Range → Option Written → ℕ → List ℕ
@@ -60,7 +50,7 @@ conflict_text Json version j i range w others = conflict_json version j i range 
 -- the line of a read range, given the writes that explain it, oldest first; there is none if no write does
 abbrev pub read_line : ExplanationForm → ℤ → ℕ → ℕ → Option Range → List Written → List ℕ
 read_line form version j i None ws = []
-read_line form version j i (Some range) ws = conflict_text form version j i range (newest ws) (min (length ws - 1) (2 ^ 64 - 1))
+read_line form version j i (Some range) ws = conflict_text form version j i range (newest_write ws) (min (length ws - 1) (2 ^ 64 - 1))
 
 -- the n indices from `first` on
 abbrev pub indices_from : ℕ → ℕ → List ℕ

@@ -3,10 +3,10 @@
 ghost use Rattle.std.specs.Prelude.{◌≡◌, ◌++◌, OnOk, decimal, flat_map};
 ghost use Rattle.std.specs.Fmt.{signed_decimal};
 ghost use Rattle.replay_explanations.specs.Json.{byte_json, key_json, range_json};
-ghost use Rattle.replay_explanations.specs.Lines.{quoted, range_form};
+ghost use Rattle.replay_explanations.specs.Lines.{range_form};
 
 use itoa::Buffer;
-use json_lines::put_key_form;
+use json_lines::{put_key_form, put_quoted_key};
 use keys::RangeRef;
 use std::alloc::AllocError;
 
@@ -30,18 +30,10 @@ pub(crate) fn put_range(out: &mut Vec<u8>, range: &RangeRef<'_>) -> Result<(), A
     ensures text { OnOk result (out.new.items ≡ out.old.items ++ range_form range.now) }
 {
     out.push(b'[')?;
-    put_quoted(out, range.begin())?;
+    put_quoted_key(out, range.begin())?;
     out.push(b',')?;
-    put_quoted(out, range.end())?;
+    put_quoted_key(out, range.end())?;
     Ok(out.push(b')')?)
-}
-
-fn put_quoted(out: &mut Vec<u8>, key: &[u8]) -> Result<(), AllocError>
-    ensures text { OnOk result (out.new.items ≡ out.old.items ++ quoted key.now) }
-{
-    out.push(b'"')?;
-    put_key_form(out, key)?;
-    Ok(out.push(b'"')?)
 }
 
 // Appends a range as an array of JSON: its begin and its end.

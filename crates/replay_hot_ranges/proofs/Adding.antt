@@ -1,5 +1,5 @@
 -- Conflicts one by one: of a read range, of a transaction, and of a batch.
-use Rattle.std.proofs.Common.{◌≡◌, ℕ, zero, suc, ◌+◌, ◌^◌, ◌-◌, List, [], ◌∷◌, ◌++◌, take, Option, Some, slice_get, refl, sym, ap, ◌∙◌, arith, append-nil, append_assoc}
+use Rattle.std.proofs.Common.{◌≡◌, ℕ, zero, suc, ◌+◌, ◌^◌, ◌-◌, List, [], ◌∷◌, ◌++◌, take, Option, Some, slice_get, sym, ap, ◌∙◌, arith, append-nil, append_assoc}
 use Rattle.std.specs.Prelude.{flat_map}
 use Rattle.std.proofs.lemmas.Grind.{flat_map-append}
 use Rattle.keys.specs.declared.range.Range.{Range}
@@ -8,21 +8,17 @@ use Rattle.keyspace.specs.declared.txn.Txn.{Txn}
 use Rattle.keyspace.specs.declared.batch.Batch.{Batch}
 use Rattle.keyspace.specs.declared.reply.Entry.{Entry}
 use Rattle.keyspace.specs.Processed.{Processed}
-use Rattle.explanations.specs.Written.{Written, all_written}
+use Rattle.explanations.specs.Written.{Written, all_written, newest_write}
+use Rattle.explanations.proofs.callers.Newest.{newest_write-last}
 use Rattle.explanations.specs.Explains.{explaining_newest, explaining_of, explaining_range, explaining_txn, newest_of}
 use Rattle.explanations.specs.Found.{IsExplained}
-use Rattle.replay_hot_ranges.specs.Conflicts.{InConflict, conflict_of, conflicts_of, in_conflict, newest, rejected_by, rejected_from}
-
-newest_push : (others : List Written) (w : Written) → newest (others ++ w ∷ []) ≡ Some w
-newest_push [] w = refl
-newest_push (x ∷ []) w = refl
-newest_push (x ∷ y ∷ others) w = newest_push (y ∷ others) w
+use Rattle.replay_hot_ranges.specs.Conflicts.{InConflict, conflict_of, conflicts_of, in_conflict, rejected_by, rejected_from}
 
 -- the conflict of a read range by the newest of the writes that explain it
 pub explained : (range : Range) (ws : List Written) (w : Written) (further : ℕ) → IsExplained ws (2 ^ 64 - 1) w further
-    → record { read = range; written = w.range } ∷ [] ≡ in_conflict range (newest ws)
+    → record { read = range; written = w.range } ∷ [] ≡ in_conflict range (newest_write ws)
 explained range ws w further found =
-    sym (ap (in_conflict range) (ap newest found.last ∙ newest_push found.others w))
+    sym (ap (in_conflict range) (ap newest_write found.last ∙ newest_write-last found.others w))
 
 -- what the history explains of a read range of the newest batch
 pub by_range : (ps : List Processed) (b : Batch) (j i : ℕ) (t : Txn) (range : Range) → newest_of ps ≡ Some b
@@ -36,12 +32,12 @@ by_range ps b j i t range is at read =
 -- the conflicts of one read range more
 pub conflicts_more : (ps : List Processed) (b : Batch) (j i : ℕ) (t : Txn) (range : Range) → newest_of ps ≡ Some b
     → slice_get b.txns j ≡ Some t → slice_get t.reads i ≡ Some range
-    → flat_map (conflict_of ps b j t) (take i t.reads) ++ in_conflict range (newest (explaining_newest ps j i))
+    → flat_map (conflict_of ps b j t) (take i t.reads) ++ in_conflict range (newest_write (explaining_newest ps j i))
     ≡ flat_map (conflict_of ps b j t) (take (i + 1) t.reads)
 conflicts_more ps b j i t range is at read =
     let next : 0 + i ≡ i = omega arith in
     let before = flat_map (conflict_of ps b j t) (take i t.reads) in
-    ap (λ ws. before ++ in_conflict range (newest ws)) (by_range ps b j i t range is at read)
+    ap (λ ws. before ++ in_conflict range (newest_write ws)) (by_range ps b j i t range is at read)
     ∙ ap (λ (cs : List InConflict). before ++ cs) (sym (append-nil (conflict_of ps b j t range)))
     ∙ sym (flat_map-append (conflict_of ps b j t) (take i t.reads) (range ∷ []))
     ∙ ap (flat_map (conflict_of ps b j t)) (sym (part_more t.reads 0 i range (ap (slice_get t.reads) next ∙ read)))

@@ -10,11 +10,11 @@ use Rattle.keyspace.specs.declared.reply.Verdict.TheVariants.{Conflict, TooOld, 
 use Rattle.keyspace.specs.Processed.{Processed}
 use Rattle.keyspace.specs.Chain.{IsChain}
 use Rattle.keyspace.specs.Judged.{edge}
-use Rattle.explanations.specs.Written.{all_written}
+use Rattle.explanations.specs.Written.{all_written, newest_write}
 use Rattle.explanations.specs.Explains.{explaining, explaining_range, explaining_txn, newest_of}
 use Rattle.explanations.specs.History.{HistoryState, Keeps}
 use Rattle.explanations.proofs.callers.Following.{same_explaining}
-use Rattle.replay_hot_ranges.specs.Conflicts.{InConflict, conflict_of, conflicts_of, in_conflict, newest, rejected_by, rejected_from}
+use Rattle.replay_hot_ranges.specs.Conflicts.{InConflict, conflict_of, conflicts_of, in_conflict, rejected_by, rejected_from}
 
 -- what is the same of each element
 flat_map_same : {X Y : Type 0} (f g : X → List Y) (xs : List X) → ((i : ℕ) (x : X) → slice_get xs i ≡ Some x → f x ≡ g x)
@@ -47,7 +47,7 @@ module _ (window : ℤ) (ps : List Processed) (p : Processed) (h : HistoryState)
       → e.verdict ≡ Conflict → (i : ℕ) (range : Range) → slice_get t.reads i ≡ Some range
       → conflict_of (ps ++ p ∷ []) p.batch j t range ≡ conflict_of h.kept p.batch j t range
   conflict_same j t e at_t at_e is i range read =
-      ap (λ ws. in_conflict range (newest ws))
+      ap (λ ws. in_conflict range (newest_write ws))
       (sym (at_read (ps ++ p ∷ []) j i t range at_t read)
       ∙ same_explaining window ps p h chain keeps newest_is low j t e at_t at_e is i range read
       ∙ at_read h.kept j i t range at_t read)

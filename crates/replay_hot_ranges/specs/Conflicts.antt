@@ -7,19 +7,13 @@ use Rattle.keyspace.specs.declared.reply.Entry.{Entry}
 use Rattle.keyspace.specs.declared.reply.Verdict.{Verdict}
 use Rattle.keyspace.specs.declared.reply.Verdict.TheVariants.{Conflict, TooOld, Committed}
 use Rattle.keyspace.specs.Processed.{Processed}
-use Rattle.explanations.specs.Written.{Written, all_written}
+use Rattle.explanations.specs.Written.{Written, all_written, newest_write}
 use Rattle.explanations.specs.Explains.{explaining_range}
 
 -- a read range in conflict, and the range of the newest write that it conflicts with
 pub record InConflict : Type 0 where
   pub read : Range
   pub written : Range
-
--- the last of the writes
-abbrev pub newest : List Written → Option Written
-newest [] = None
-newest (w ∷ []) = Some w
-newest (w ∷ x ∷ ws) = newest (x ∷ ws)
 
 -- a read range with the newest write that it conflicts with; nothing if there is none
 abbrev pub in_conflict : Range → Option Written → List InConflict
@@ -28,7 +22,7 @@ in_conflict range (Some w) = record { read = range; written = w.range } ∷ []
 
 -- the same for a read range of the transaction at index j of the batch that was processed last
 abbrev pub conflict_of : List Processed → Batch → ℕ → Txn → Range → List InConflict
-conflict_of ps b j t range = in_conflict range (newest (explaining_range (all_written ps) b.version j t.snapshot (Some range)))
+conflict_of ps b j t range = in_conflict range (newest_write (explaining_range (all_written ps) b.version j t.snapshot (Some range)))
 
 -- the conflicts of that transaction, in the order of its read ranges
 abbrev pub conflicts_of : List Processed → Batch → ℕ → Txn → List InConflict

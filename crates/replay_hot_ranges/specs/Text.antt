@@ -4,18 +4,14 @@ use Rattle.std.specs.Fmt.{decimal}
 use Rattle.json.specs.Json.{Json, number, object, member, no_members}
 use Rattle.json.specs.Print.{print}
 use Rattle.json.specs.Tree.{json_tokens}
-use Rattle.json_lines.specs.KeyForm.{key_form}
+use Rattle.json_lines.specs.KeyForm.{quoted_key}
 use Rattle.json_lines.specs.Written.{key_json, list_json}
 use Rattle.replay_hot_ranges.specs.declared.hot_range.HotRange.{HotRange}
 use Rattle.replay_hot_ranges.specs.declared.hot_range.Top.{Top}
 
--- a key in its printed form, in quotes
-abbrev pub quoted : List ℕ → List ℕ
-quoted key = codes "\"" ++ key_form key ++ codes "\""
-
 -- a range: its begin and its end
 abbrev pub range_form : List ℕ → List ℕ → List ℕ
-range_form begin end = codes "[" ++ quoted begin ++ codes "," ++ quoted end ++ codes ")"
+range_form begin end = codes "[" ++ quoted_key begin ++ codes "," ++ quoted_key end ++ codes ")"
 
 -- the line of a range: its count, and then the range
 abbrev pub hot_line : HotRange → List ℕ

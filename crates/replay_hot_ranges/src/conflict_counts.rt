@@ -6,8 +6,9 @@ ghost use Rattle.keys.specs.declared.range.Range.{Range};
 ghost use Rattle.keyspace.specs.declared.batch.Batch.{Batch as BatchValue};
 ghost use Rattle.keyspace.specs.declared.txn.Txn.{Txn};
 ghost use Rattle.explanations.specs.Explains.{explaining_newest, newest_of};
+ghost use Rattle.explanations.specs.Written.{newest_write};
 ghost use Rattle.replay_hot_ranges.specs.Conflicts.{InConflict, conflicts_of, in_conflict};
-ghost use Rattle.replay_hot_ranges.specs.Conflicts.{newest, rejected_by, rejected_from};
+ghost use Rattle.replay_hot_ranges.specs.Conflicts.{rejected_by, rejected_from};
 
 use crate::tally::RangeTally;
 use explanations::{History, WrittenRef};
@@ -146,7 +147,8 @@ impl Tallies {
         ensures added { OnOk result ((range : Range) (txns : List (List InConflict))
             (conflicts : List InConflict) → slice_get reads.now read ≡ Some range
             → AreTalliesWith txns conflicts self.old → AreTalliesWith txns (conflicts
-            ++ in_conflict range (newest (explaining_newest history.now.kept txn read))) self.new) }
+            ++ in_conflict range (newest_write
+            (explaining_newest history.now.kept txn read))) self.new) }
     {
         match history.explain(txn, read) {
             Some(explanation) => self.note_write(&reads.get(read), &explanation.newest),

@@ -1,11 +1,11 @@
 //! The ranges that conflict most, as lines of words.
 
 ghost use Rattle.std.specs.Prelude.{◌≡◌, ◌++◌, IfOk, OnOk, decimal, flat_map};
-ghost use Rattle.replay_hot_ranges.specs.Text.{hot_line, lines, quoted, range_form};
+ghost use Rattle.replay_hot_ranges.specs.Text.{hot_line, lines, range_form};
 
 use crate::hot_range::{HotRange, Top};
 use itoa::Buffer;
-use json_lines::put_key_form;
+use json_lines::put_quoted_key;
 use std::alloc::{AllocError, Global};
 
 /// Returns the read ranges and then the written ranges, each under a heading, one line per range.
@@ -51,16 +51,8 @@ fn put_range(out: &mut Vec<u8>, begin: &[u8], end: &[u8]) -> Result<(), AllocErr
     ensures text { OnOk result (out.new.items ≡ out.old.items ++ range_form begin.now end.now) }
 {
     out.push(b'[')?;
-    put_quoted(out, begin)?;
+    put_quoted_key(out, begin)?;
     out.push(b',')?;
-    put_quoted(out, end)?;
+    put_quoted_key(out, end)?;
     Ok(out.push(b')')?)
-}
-
-fn put_quoted(out: &mut Vec<u8>, key: &[u8]) -> Result<(), AllocError>
-    ensures text { OnOk result (out.new.items ≡ out.old.items ++ quoted key.now) }
-{
-    out.push(b'"')?;
-    put_key_form(out, key)?;
-    Ok(out.push(b'"')?)
 }

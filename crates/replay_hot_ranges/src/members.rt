@@ -1,15 +1,14 @@
 //! The ranges that conflict most, as members of an object of JSON.
 
-ghost use Rattle.std.specs.Prelude.{◌≡◌, ◌++◌, ◌<◌, IfOk, IsAscii, OnOk, map};
+ghost use Rattle.std.specs.Prelude.{◌≡◌, ◌++◌, IfOk, OnOk, map};
 ghost use Rattle.json.specs.Tree.{json_tokens};
-ghost use Rattle.json_lines.specs.Written.{all_tokens, key_json, list_json};
+ghost use Rattle.json_lines.specs.Written.{all_tokens, list_json};
 ghost use Rattle.replay_hot_ranges.specs.Text.{hot_array, hot_json, members};
 
 use crate::hot_range::{HotRange, Top};
 use json::Writer;
-use json_lines::put_key_form;
+use json_lines::put_key;
 use std::alloc::{AllocError, Global};
-use std::str;
 
 /// Returns the members `hot_reads` and `hot_writes`, with a comma between: each is an array with
 /// one object per range. There is no brace and no newline, since they belong into an object.
@@ -70,26 +69,4 @@ fn put_hot(writer: &mut Writer, form: &mut Vec<u8>, hot: &HotRange<'_>) -> Resul
     writer.u64(hot.conflicts as u64)?;
     writer.end_object()?;
     Ok(())
-}
-
-// Writes a key. Its printed form is put together in `form`, whose memory is used again.
-fn put_key(writer: &mut Writer, form: &mut Vec<u8>, key: &[u8]) -> Result<(), AllocError>
-    ensures tokens { OnOk result (writer.new.tokens
-        ≡ writer.old.tokens ++ (json_tokens (key_json key.now))) }
-    ensures before { writer.new.before ≡ writer.old.before }
-{
-    form.clear();
-    put_key_form(form, key)?;
-    writer.string(as_text(form))
-}
-
-// Returns the printed form of a key as text.
-fn as_text(form: &[u8]) -> &str
-    requires ascii { IsAscii form.now }
-    ensures text { result.now ≡ form.now }
-{
-    match str::from_utf8(form) {
-        Ok(text) => text,
-        Err(_) => "",
-    }
 }

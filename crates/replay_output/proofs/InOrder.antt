@@ -5,7 +5,7 @@ use Rattle.std.proofs.Common.{refl, sym, ap, ◌∙◌, subst, inl, inr, arith}
 use Rattle.std.proofs.lemmas.Bool.{cond-true, cond-false, cases_Bool}
 use Rattle.std.proofs.lemmas.List.Elements.{All-cons, All-head, All-tail}
 use Rattle.std.proofs.lemmas.Int.{ints}
-use Rattle.checking.specs.InOrder.{put_in_order, in_order_by, NoneBefore, Rise}
+use Rattle.keyspace.specs.storage.InOrder.{put_in_order, in_order_by, NoneBefore, Rise}
 
 module _ {X : Type 0} (P : X → Type 0) (version : X → ℤ) where
   All-put : (xs : List X) (x : X) → P x → All P xs → All P (put_in_order version xs x)

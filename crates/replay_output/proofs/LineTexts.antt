@@ -11,7 +11,7 @@ use Rattle.replay_summary.specs.Counted.{counted_of}
 use Rattle.replay_output.specs.declared.options.style.Style.{Style}
 use Rattle.replay_output.specs.declared.line.Line.{Line}
 use Rattle.replay_output.specs.Line.{answer_of, answers_of, version_of_line, IsLineOf, IsLineBy, AreLinesBy, text_of, texts}
-use Rattle.checking.specs.InOrder.{in_order_by}
+use Rattle.keyspace.specs.storage.InOrder.{in_order_by}
 use Rattle.replay_output.specs.Lines.{Print, in_order, lines_of_proxy, lines_by}
 use Rattle.replay_output.proofs.InOrder.{All-in_order, map-in_order}
 

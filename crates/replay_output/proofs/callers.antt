@@ -3,3 +3,4 @@ pub mod Results
 pub mod Quiet
 pub mod Counting
 pub mod Texts
+pub mod Known

@@ -6,7 +6,7 @@ use Rattle.keyspace.specs.declared.answer.Answer.TheVariants as answer
 use Rattle.keyspace.specs.Answer.{version_of_answer}
 use Rattle.keyspace.specs.declared.reply.Entry.{Entry}
 use Rattle.keyspace.specs.declared.reply.Verdict.{Verdict}
-use Rattle.keyspace.specs.declared.reply.Verdict.TheVariants.{Conflict, TooOld, Committed}
+use Rattle.checking.specs.Difference.{is_same_verdict}
 use Rattle.replay_output.specs.declared.options.line_filter.LineFilter.{LineFilter}
 
 -- the least number of 64 bits
@@ -17,17 +17,10 @@ least_version = negsuc 9223372036854775807
 abbrev pub all_lines : LineFilter
 all_lines = record { quiet = false; only = None; least = least_version; below = None }
 
--- it is this verdict
-abbrev pub is_verdict : Verdict → Verdict → Bool
-is_verdict Conflict Conflict = true
-is_verdict TooOld TooOld = true
-is_verdict Committed Committed = true
-is_verdict _ _ = false
-
 -- The answer is a reply in which at least one transaction has this verdict. If none is asked for, every answer will do.
 abbrev pub has_verdict : Option Verdict → Answer → Bool
 has_verdict None answer = true
-has_verdict (Some verdict) (answer.Reply reply) = list_any (λ (entry : Entry). is_verdict verdict entry.verdict) reply.entries
+has_verdict (Some verdict) (answer.Reply reply) = list_any (λ (entry : Entry). is_same_verdict verdict entry.verdict) reply.entries
 has_verdict (Some verdict) (answer.Never version) = false
 has_verdict (Some verdict) (answer.Held version) = false
 

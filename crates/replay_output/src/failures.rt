@@ -8,7 +8,7 @@ ghost use Rattle.replay_output.specs.Failures.{lines_of_failure, proxy_lines, en
 ghost use Rattle.replay_output.specs.Failures.{failure_lines, with_loss, IsClean, NothingFailed};
 
 use itoa::Buffer;
-use resolver::Stop;
+use limits::Stop;
 use wire::{Failed, Sink, WireError, write_all};
 
 /// What failed of one proxy.

@@ -32,8 +32,9 @@ pub use failures::{
 pub use line::{Line, PackedText};
 pub use options::{Form, LineFilter, Options, Reports, Style};
 pub use records::write_record;
-pub use report::{PrintError, Report, print_answers, print_report, sort_lines};
+pub use report::{PrintError, Report, print_answers, print_report, print_sorted, sort_lines};
 pub use start::{StartError, fail_to_start, print_start_error};
 pub use status::Status;
 pub use stream::{AnswerError, print_line};
 pub use unwritten::{all_written, print_unwritten};
+pub use version::version_of;

@@ -9,9 +9,8 @@ ghost use Rattle.replay_output.specs.Notes.{with_member, with_note};
 
 use crate::options::{Form, Style};
 use crate::version::version_of;
-use checking::Versioned;
 use json::print_json;
-use keyspace::{Answer, Entry, Reply, Verdict};
+use keyspace::{Answer, Entry, Reply, Verdict, Versioned};
 use packed::Word;
 use replay_summary::{Counted, HasCounted};
 use std::alloc::Global;
@@ -69,7 +68,7 @@ impl Line {
         if note.is_empty() || self.text.is_empty() {
             return Ok(());
         }
-        self.text.reserve(note.len())?;
+        self.text.reserve_more(note.len())?;
         self.text.write_all(note)
     }
 
@@ -88,7 +87,7 @@ impl Line {
         if member.is_empty() || self.text.is_empty() {
             return Ok(());
         }
-        self.text.reserve(member.len().saturating_add(1))?;
+        self.text.reserve_more(member.len().saturating_add(1))?;
         if !self.text.remove_end(b"}\n") {
             return Err(Error::from(ErrorKind::InvalidInput));
         }
@@ -174,7 +173,7 @@ fn print_frame(alloc: Global, text: &mut PackedText, reply: &Reply) -> Option<()
 {
     let frame = encode_reply(alloc, reply).ok()?;
     let word = hex::encode(alloc, frame).ok()?;
-    text.reserve(word.len().saturating_add(2)).ok()?;
+    text.reserve_more(word.len().saturating_add(2)).ok()?;
     text.write_all(b" ").ok()?;
     text.write_all(word.as_bytes()).ok()
 }

@@ -2,17 +2,13 @@
 
 ghost use Rattle.std.specs.Prelude.{◌≡◌, ◌≤◌, ◌≤ℤ◌, ◌↔◌, IfSome, IsSome, pos};
 ghost use Rattle.keyspace.specs.declared.TheConstants.{WINDOW};
-ghost use Rattle.lane.specs.declared.ends.TheConstants.{MAX_CAPACITY};
-ghost use Rattle.conflict.specs.declared.conflict_set.TheConstants.{MAX_WINDOW};
-ghost use Rattle.stepmap.specs.declared.step_map.TheConstants.{MAX_LIMIT};
+ghost use Rattle.limits.specs.declared.settings.TheConstants.{MAX_CAPACITY, MAX_LIMIT, MAX_WINDOW};
 ghost use Rattle.replay_output.specs.LineFilter.{all_lines};
 ghost use Rattle.replay_output.specs.declared.options.form.Form.TheVariants.{Words};
 ghost use Rattle.replay_output.specs.declared.options.reports.Reports.TheVariants.{Asked};
 
-use conflict::MAX_WINDOW;
 use keyspace::WINDOW;
-use lane::MAX_CAPACITY;
-use stepmap::MAX_LIMIT;
+use limits::{MAX_CAPACITY, MAX_LIMIT, MAX_WINDOW};
 
 mod form;
 mod line_filter;

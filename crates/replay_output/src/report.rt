@@ -15,7 +15,7 @@ use wire::{Failed, Sink};
 
 mod lines;
 
-pub use lines::{PrintError, print_answers, sort_lines};
+pub use lines::{PrintError, print_answers, print_sorted, sort_lines};
 
 /// What was printed, and how the program ends.
 #[derive(Debug, Drop)]

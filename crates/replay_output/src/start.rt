@@ -5,7 +5,6 @@ ghost use Rattle.std.specs.Io.KnownBytes.{Appends};
 ghost use Rattle.replay_output.specs.Start.{start_line};
 
 use crate::status::Status;
-use resolver::OpenError;
 use std::alloc::AllocError;
 use wire::{Failed, Sink, write_all};
 
@@ -24,16 +23,6 @@ impl From<AllocError> for StartError {
     ghost from_gives = { λ _ error. error ≡ Memory };
 
     fn from(_refused: AllocError) -> StartError {
-        StartError::Memory
-    }
-}
-
-impl From<OpenError> for StartError {
-    ghost use Rattle.replay_output.specs.declared.start.StartError.TheVariants.{Memory};
-
-    ghost from_gives = { λ _ error. error ≡ Memory };
-
-    fn from(_refused: OpenError) -> StartError {
         StartError::Memory
     }
 }

@@ -3,7 +3,7 @@ use Rattle.std.specs.Prelude.{◌≡◌, ◌⊎◌, ℕ, zero, suc, ◌+◌, ◌
 use Rattle.std.specs.Borrow.{Bor}
 use Rattle.std.proofs.Common.{refl, sym, ap, subst, ◌∙◌, append-nil, append_assoc, inl, inr, arith}
 use Rattle.keyspace.specs.declared.batch.Batch.{Batch}
-use Rattle.resolver.specs.declared.stop.Stop.TheVariants as stop
+use Rattle.limits.specs.declared.stop.Stop.TheVariants as stop
 use Rattle.wire.specs.declared.error.WireError.{WireError}
 use Rattle.wire.specs.declared.error.WireError.TheVariants.{Memory, Write}
 use Rattle.replay_diagnosis.specs.declared.run_findings.Finding.{Finding}

@@ -3,6 +3,7 @@ use Rattle.std.specs.Prelude.{◌≡◌, ◌⊎◌, ℕ, zero, suc, ◌+◌, ◌
 use Rattle.std.proofs.Common.{refl, sym, ap, ◌∙◌, append_assoc, inl, inr, arith}
 use Rattle.std.proofs.lemmas.List.{length-map}
 use Rattle.std.proofs.lemmas.Option.{none-some, same_Some, slice_get-map}
+use Rattle.keys.proofs.callers.Lists.{element_of_map}
 use Rattle.replay_arguments.specs.declared.opened_files.OpeningError.{OpeningError}
 use Rattle.replay_arguments.specs.declared.opened_files.OpeningError.TheVariants as opening
 use Rattle.replay_arguments.specs.Opening.{IsFirstRefused, contents_each, creating_line}
@@ -60,12 +61,6 @@ padded_beyond (suc n) [] (suc place) o beyond at = padded_beyond n [] place o (o
 padded_beyond (suc n) (x ∷ xs) zero o beyond at = absurd (omega (arith, beyond))
 padded_beyond (suc n) (x ∷ xs) (suc place) o beyond at = padded_beyond n xs place o (omega (arith, beyond)) at
 
-item_of_map : {X Y : Type 0} (f : X → Y) (xs : List X) (place : ℕ) (y : Y) → slice_get (map f xs) place ≡ Some y
-    → (x : X) × (slice_get xs place ≡ Some x) × (f x ≡ y)
-item_of_map f [] place y at = absurd (none-some y at)
-item_of_map f (x ∷ xs) zero y at = (x, refl, same_Some (f x) y at)
-item_of_map f (x ∷ xs) (suc place) y at = item_of_map f xs place y at
-
 -- the writers that were opened stand at the numbers of their proxies
 pub have_writers : {W : Type 0} (given_to : W → Option (List ℕ)) (begun : List ℕ → Option (List ℕ)) (names : List (List ℕ))
     (opened : List W) (places : ℕ) → map given_to opened ≡ contents_each begun names → length names ≤ places
@@ -76,12 +71,12 @@ have_writers {W} given_to begun names opened places are few =
       each = λ proxy name at.
           let there : slice_get (map given_to opened) proxy ≡ Some (begun name) =
           ap (λ l. slice_get l proxy) are ∙ slice_get-map begun names proxy ∙ ap (option_map begun) at in
-          let w = item_of_map given_to opened proxy (begun name) there in
+          let w = element_of_map given_to opened proxy (begun name) there in
           let here = padded_at places opened proxy w.0 (omega (arith, few, count)) w.1 in
           slice_get-map (option_map given_to) (padded places opened) proxy ∙ ap (option_map (option_map given_to)) here
           ∙ ap (λ (b : Option (List ℕ)). Some (Some b)) w.2;
       no_more = λ proxy writer beyond at.
-          let w = item_of_map (option_map given_to) (padded places opened) proxy writer at in
+          let w = element_of_map (option_map given_to) (padded places opened) proxy writer at in
           sym w.2 ∙ ap (option_map given_to) (padded_beyond places opened proxy w.0 (omega (arith, count, beyond)) w.1);
     }
 

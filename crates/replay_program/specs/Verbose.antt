@@ -1,7 +1,7 @@
 -- What more is said of a run: one line about a file or about the run if it failed, or that all batches are held. This project's own.
 use Rattle.std.specs.Prelude.{◌≡◌, ◌⊎◌, ℕ, negsuc, ℤ, true, List, [], ◌∷◌, ◌++◌, take, Option, Some, IfSome, slice_get}
 use Rattle.keyspace.specs.declared.batch.Batch.{Batch}
-use Rattle.resolver.specs.declared.stop.Stop.TheVariants as stop
+use Rattle.limits.specs.declared.stop.Stop.TheVariants as stop
 use Rattle.wire.specs.Upgrade.{AreFrames}
 use Rattle.replay_arguments.specs.Arguments.{standard_input}
 use Rattle.replay_diagnosis.specs.declared.run_findings.Finding.{Finding}

@@ -12,6 +12,7 @@ ghost use Rattle.replay_tasks.specs.Replayed.{written};
 ghost use Rattle.replay_program.specs.Streamed.{FailsToStream, IsStreamDone};
 
 use crate::report::RunReport;
+use limits::MAX_PROXIES;
 use replay_output::{
     Ending, Options, ProxyFailure, Status, all_written, fail_to_start, nothing_failed,
     print_failures, print_unwritten,
@@ -19,7 +20,6 @@ use replay_output::{
 use replay_stream::{Streamed, run_stream};
 use replay_tasks::Met;
 use replay_workers::{Gatekeeper, ShareKeeper};
-use resolver::MAX_PROXIES;
 use std::alloc::Global;
 use std::sync::{Arc, Wait};
 use std::thread::Threads;

@@ -11,10 +11,10 @@ ghost use Rattle.replay_tasks.specs.Summarized.{TookUnlessFailed};
 ghost use Rattle.replay_program.specs.Verbose.{IsExplained, IsFoundOf, IsGateFinding};
 
 use files::{FileFinding, examine_files};
+use limits::Stop;
 use replay_arguments::{CommandLine, Files};
 use replay_diagnosis::{FileBatches, RunFinding, write_remedy, write_run_remedy};
 use replay_tasks::Met;
-use resolver::Stop;
 use std::alloc::Global;
 use wire::Sink;
 

@@ -4,6 +4,7 @@ use Rattle.std.specs.Prelude.{◌≡◌, ◌<◌, ◌≤◌, ℕ, suc, ℤ, negs
 use Rattle.std.specs.List.{AllZip}
 use Rattle.std.proofs.Common.{refl, sym, ap, subst, ◌∙◌, inl, inr, arith}
 use Rattle.std.proofs.lemmas.Option.{same_Some, slice_get_within}
+use Rattle.keys.proofs.callers.Lists.{some_at as element_at}
 use Rattle.keyspace.specs.declared.answer.Answer.{Answer}
 use Rattle.keyspace.specs.declared.answer.Answer.TheVariants as answer
 use Rattle.keyspace.specs.declared.batch.Batch.{Batch}
@@ -44,7 +45,6 @@ use Rattle.replay_sharded.proofs.CommittedParts.{AreReplied, IsOfTogether, IsPar
 use Rattle.replay_sharded.proofs.CommittedReplies.{IsOfAll, IsReplied, one_each}
 use Rattle.replay_sharded.proofs.CommittedVerdicts.{HasSameReply, committed_by}
 use Rattle.replay_sharded.proofs.Logs.{choose, zip_at}
-use Rattle.replay_sharded.proofs.Readings.{there}
 use Rattle.replay_sharded.proofs.Resolved.{AreMergedOf}
 use Rattle.replay_sharded.proofs.Sizes.{some_shard}
 use Rattle.replay_sharded.proofs.Taking.{zip_length}
@@ -180,8 +180,8 @@ module _ (known_verdicts : AnswersReportVerdicts) (points : List (List ℕ)) (wi
         let within = slice_get_within r.entries j e.0 e.1 in
         let one_count = count_of p is r one (sym entry.3) in
         let other_count = count_of p is p.reply other is.version in
-        let f = there p.reply.entries j (omega (arith, within, one_count, other_count)) in
-        let txn = there p.batch.txns j (omega (arith, within, one_count)) in
+        let f = element_at p.reply.entries j (omega (arith, within, one_count, other_count)) in
+        let txn = element_at p.batch.txns j (omega (arith, within, one_count)) in
         let verdict =
         committed_by one.each other.each j e.0.verdict f.0.verdict zip (one.together.entries j e.0 e.1).verdict e.2
         (other.together.entries j f.0 f.1).verdict in

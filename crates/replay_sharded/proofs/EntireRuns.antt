@@ -7,6 +7,7 @@ use Rattle.std.proofs.lemmas.Bool.{true≢false}
 use Rattle.std.proofs.lemmas.List.{length-map}
 use Rattle.std.proofs.lemmas.List.Elements.{All-nil, All-cons}
 use Rattle.std.proofs.lemmas.Option.{slice_get-get_or}
+use Rattle.keys.proofs.callers.Lists.{some_at}
 use Rattle.keyspace.specs.declared.batch.Batch.{Batch}
 use Rattle.serial.specs.Shards.{Shard}
 use Rattle.shards.specs.Clips.{IsBatchClip}
@@ -14,7 +15,7 @@ use Rattle.wire.specs.NextFrame.{TakesFrame}
 use Rattle.replay_output.specs.Failures.{IsClean}
 use Rattle.replay_output.specs.declared.failures.ProxyFailure.{ProxyFailure}
 use Rattle.replay_output.specs.declared.options.style.Style.{Style}
-use Rattle.replay_workers.specs.Batches.{GivesEach}
+use Rattle.wire.specs.Batches.{GivesEach}
 use Rattle.replay_workers.proofs.callers.Lists.{all_at}
 use Rattle.replay_shards.specs.Failures.{fault_of, first_some, has_loss}
 use Rattle.replay_shards.specs.Notes.{note_in, notes_of}
@@ -23,7 +24,6 @@ use Rattle.replay_sharded.specs.declared.combined.Combined.{Combined}
 use Rattle.replay_sharded.specs.declared.shard_run.ShardRun.{ShardRun}
 use Rattle.replay_sharded.specs.Combined.{AreCombined, HasAllAnswers, HasProxies}
 use Rattle.replay_sharded.specs.Files.{Reading, TakesClip}
-use Rattle.replay_sharded.proofs.Readings.{there}
 use Rattle.replay_sharded.proofs.Taking.{zip_all_back}
 
 or_none : {X : Type 0} (one other : Option X) → option_or one other ≡ None → (one ≡ None) × (other ≡ None)
@@ -65,8 +65,8 @@ all_entire style proxies runs combined are all has = λ m e inside.
           omega (arith, below, are.lines_count proxies has, combined.lines.ok.0, length-map combined.lines.items vec_items) in
           let in_failures : k < length combined.failures.items =
           omega (arith, below, are.failures_count proxies has, combined.failures.ok.0) in
-          let lines = there (map vec_items combined.lines.items) k in_lines in
-          let failure = there combined.failures.items k in_failures in
+          let lines = some_at (map vec_items combined.lines.items) k in_lines in
+          let failure = some_at combined.failures.items k in_failures in
           let clean = all_at IsClean combined.failures.items k failure.0 all.clean failure.1 in
           let together = are.each k lines.0 failure.0 lines.1 failure.1 in
           let no_fault = sym together.together.fault ∙ (sym together.fault ∙ clean.0) in

@@ -15,7 +15,7 @@ use Rattle.wire.specs.NextFrame.{TakesFrame}
 use Rattle.resolver.specs.Resolver.{TakesOnlyFrom}
 use Rattle.replay_output.specs.Failures.{IsClean}
 use Rattle.replay_output.specs.declared.options.Options.{Options}
-use Rattle.replay_workers.specs.Batches.{GivesEach}
+use Rattle.wire.specs.Batches.{GivesEach}
 use Rattle.replay_workers.proofs.callers.Lists.{all_at, found, mapped_at}
 use Rattle.replay_shards.specs.Answered.{notes_by}
 use Rattle.replay_shards.specs.Notes.{notes_of}

@@ -1,8 +1,8 @@
 -- Streams of clips, by what is left of their files.
-use Rattle.std.specs.Prelude.{◌≡◌, ◌<◌, ℕ, zero, suc, ◌++◌, List, [], ◌∷◌, length, map, Option, None, Some, IfOk, IsSomeAnd, Result, Ok, Err, slice_get}
+use Rattle.std.specs.Prelude.{◌≡◌, ℕ, ◌++◌, List, [], ◌∷◌, map, Option, None, Some, IfOk, IsSomeAnd, Result, Ok, Err, slice_get}
 use Rattle.std.specs.Option.{option_map, option_or}
 use Rattle.std.specs.List.{All}
-use Rattle.std.proofs.Common.{refl, sym, ap, subst, ◌∙◌, inl, inr, arith}
+use Rattle.std.proofs.Common.{refl, sym, ap, subst, ◌∙◌, inl, inr}
 use Rattle.std.proofs.lemmas.List.Elements.{All-head, All-tail}
 use Rattle.std.proofs.lemmas.Option.{same_Some, slice_get-map}
 use Rattle.std.specs.Io.KnownBytes.{IsAtEnd}
@@ -10,9 +10,8 @@ use Rattle.keyspace.specs.declared.batch.Batch.{Batch}
 use Rattle.serial.specs.Shards.{Shard}
 use Rattle.shards.specs.Clips.{IsBatchClip}
 use Rattle.replay_output.specs.declared.options.Options.{Options}
-use Rattle.replay_workers.specs.Batches.{EndsWith}
+use Rattle.wire.specs.Batches.{EndsWith, IsFaultAt}
 use Rattle.replay_workers.specs.Run.{EndsAt, IsRunOver}
-use Rattle.replay_workers.specs.Worker.{IsFaultAt}
 use Rattle.replay_shards.specs.declared.clips.Clips.{Clips}
 use Rattle.replay_shards.specs.declared.answered.Answered.{Answered}
 use Rattle.replay_shards.specs.declared.note.Note.{Note}
@@ -104,9 +103,3 @@ if_ok_three (Err e) P Q R T all p q r = tt
 pub or_some : {X : Type 0} (o : Option X) (x : X) → option_or o (Some x) ≡ None → ⊥
 or_some None x is = cc
 or_some (Some y) x is = cc
-
--- within a list there is an item at each place
-pub there : {X : Type 0} (xs : List X) (place : ℕ) → place < length xs → (x : X) × (slice_get xs place ≡ Some x)
-there [] place within = absurd (omega (arith, within))
-there (x ∷ xs) zero within = (x, refl)
-there (x ∷ xs) (suc place) within = there xs place (omega (arith, within))

@@ -8,7 +8,7 @@ use Rattle.wire.specs.declared.version.WireVersion.{WireVersion}
 use Rattle.wire.specs.NextFrame.{TakesFrame}
 use Rattle.wire.specs.Reading.{version_at_front}
 use Rattle.wire.specs.Spelling.{SpellsBatch}
-use Rattle.replay_workers.specs.Batches.{GivesEach}
+use Rattle.wire.specs.Batches.{GivesEach}
 
 -- no frame begins another (`wire::laws::one_spelling`)
 abbrev pub HasOneSpelling : Type 0

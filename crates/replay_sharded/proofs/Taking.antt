@@ -6,6 +6,7 @@ use Rattle.std.proofs.lemmas.Grind.{take-set_at}
 use Rattle.std.proofs.lemmas.List.{drop-drop, drop-set-lt}
 use Rattle.std.proofs.lemmas.Option.{slice_get_within}
 use Rattle.std.proofs.lemmas.List.Elements.{All-head, All-tail, All-nil, All-cons}
+use Rattle.keys.proofs.callers.Lists.{some_at}
 use Rattle.shards.proofs.callers.Combining.{last_or_before, take_next}
 use Rattle.replay_workers.proofs.callers.Lists.{AllZip-also}
 use Rattle.replay_shards.specs.declared.answered.Answered.{Answered}
@@ -17,7 +18,6 @@ use Rattle.replay_output.specs.declared.options.style.Style.{Style}
 use Rattle.replay_output.specs.Line.{AreLines, IsLineOf, answers_of}
 use Rattle.replay_sharded.specs.declared.shard_run.ShardRun.{ShardRun}
 use Rattle.replay_sharded.specs.Combined.{AreFailuresOf, AreOfProxy, AreTogether, HasProxies, TakesOf}
-use Rattle.replay_sharded.proofs.Readings.{there}
 
 module _ {X : Type 0} where
   head_at : (xs : List X) (place : ℕ) → slice_get (drop place xs) 0 ≡ slice_get xs place
@@ -148,7 +148,7 @@ each_of proxies proxy within [] all = ([], tt)
 each_of proxies proxy within (run ∷ runs) all =
     let has = All-head (HasProxies proxies) run runs all in
     let inside : proxy < length run.answered.items = omega (arith, has.answered, run.answered.ok.0, within) in
-    let own = there run.answered.items proxy inside in
+    let own = some_at run.answered.items proxy inside in
     let rest = each_of proxies proxy within runs (All-tail (HasProxies proxies) run runs all) in
     (own.0 ∷ rest.0, (own.1, rest.1))
 

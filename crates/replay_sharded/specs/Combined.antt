@@ -1,7 +1,7 @@
 -- What all shards have answered together, to every proxy. This project's own.
 use Rattle.std.specs.Prelude.{◌≡◌, ◌≢◌, ℕ, ◌≤◌, ◌↔◌, ◌⊎◌, true, false, List, [], map, vec_capacity, vec_items, vec_len, Option, None, Some, slice_get, MatchOption}
 use Rattle.std.specs.List.{All, AllZip}
-use Rattle.resolver.specs.declared.stop.Stop.{Stop}
+use Rattle.limits.specs.declared.stop.Stop.{Stop}
 use Rattle.replay_output.specs.declared.failures.ProxyFailure.{ProxyFailure}
 use Rattle.replay_output.specs.declared.line.Line.{Line}
 use Rattle.replay_output.specs.declared.options.style.Style.{Style}

@@ -6,7 +6,7 @@ use Rattle.keyspace.specs.declared.batch.Batch.{Batch}
 use Rattle.serial.specs.Shards.{Shard, shards}
 use Rattle.shards.specs.Clips.{IsBatchClip}
 use Rattle.wire.specs.NextFrame.{TakesFrame}
-use Rattle.replay_workers.specs.Batches.{GivesEach}
+use Rattle.wire.specs.Batches.{GivesEach}
 use Rattle.replay_shards.specs.declared.clips.Clips.{Clips}
 use Rattle.replay_shards.specs.declared.note.Note.{Note}
 use Rattle.replay_shards.specs.Clips.{bytes_left, refusal_of_clips, shard_of_clips}

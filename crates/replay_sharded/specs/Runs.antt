@@ -8,7 +8,7 @@ use Rattle.replay_output.specs.declared.options.Options.{Options}
 use Rattle.replay_output.specs.declared.options.form.Form.TheVariants.{Kept}
 use Rattle.replay_output.specs.LineFilter.{all_lines}
 use Rattle.replay_workers.specs.Run.{IsRunOver}
-use Rattle.replay_workers.specs.Worker.{IsFaultAt}
+use Rattle.wire.specs.Batches.{IsFaultAt}
 use Rattle.replay_shards.specs.declared.answered.Answered.{Answered}
 use Rattle.replay_shards.specs.Answered.{AreKept}
 use Rattle.replay_shards.specs.declared.clips.Clips.{Clips}

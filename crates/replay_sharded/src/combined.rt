@@ -11,9 +11,9 @@ ghost use Rattle.replay_sharded.specs.Combined.{HasRoom, TakesOf, stop_of};
 
 use crate::room::Room;
 use crate::shard_run::ShardRun;
+use limits::Stop;
 use replay_output::{Line, ProxyFailure, Style};
 use replay_shards::{Answered, ShardStop, combine_answered, failure_together, first_stop};
-use resolver::Stop;
 use std::alloc::{AllocError, Global};
 use std::mem;
 

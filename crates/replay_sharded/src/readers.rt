@@ -3,7 +3,7 @@
 ghost use Rattle.std.specs.Prelude.{◌≡◌, ◌≤◌, ◌<◌, ℕ, IfOk, List, Option, Some, length, map};
 ghost use Rattle.std.specs.Prelude.{slice_get, vec_items, vec_len};
 ghost use Rattle.std.specs.List.{All};
-ghost use Rattle.resolver.specs.declared.resolver_core.TheConstants.{MAX_PROXIES};
+ghost use Rattle.limits.specs.declared.settings.TheConstants.{MAX_PROXIES};
 ghost use Rattle.serial.specs.Shards.{Shard, shards};
 ghost use Rattle.replay_sharded.specs.Files.{AreClipsOf, AreClipsOfShards, AreFresh};
 ghost use Rattle.replay_sharded.specs.Files.{ReadTheFiles};
@@ -23,7 +23,7 @@ pub struct ShardedReaders<S, G> {
     pub points: SplitPoints,
     /// The gatekeeper of each shard.
     pub gatekeepers: Vec<Arc<G, Global>>,
-    /// The number of proxies, from 1 to [`MAX_PROXIES`](resolver::MAX_PROXIES).
+    /// The number of proxies, from 1 to [`MAX_PROXIES`](limits::MAX_PROXIES).
     pub proxies: usize,
     ghost each_shard: { vec_len readers ≡ length (shards points) },
     ghost each_gatekeeper: { vec_len gatekeepers ≡ length (shards points) },

@@ -2,8 +2,8 @@
 
 ghost use Rattle.std.specs.Prelude.{◌≡◌, ◌≤◌, [], IfOk, vec_capacity};
 
+use limits::Stop;
 use replay_output::{Line, ProxyFailure};
-use resolver::Stop;
 use std::alloc::{AllocError, Global};
 
 /// Empty vectors in which the answers of all shards are combined. Their memory is taken before the

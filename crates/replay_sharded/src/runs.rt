@@ -3,7 +3,7 @@
 ghost use Rattle.std.specs.Prelude.{◌≡◌, ◌≤◌, ℕ, [], IfErr, IfOk, List, None, Option, map};
 ghost use Rattle.std.specs.Prelude.{vec_capacity, vec_items, vec_len};
 ghost use Rattle.std.specs.List.{All, AllZip};
-ghost use Rattle.resolver.specs.declared.resolver_core.TheConstants.{MAX_PROXIES};
+ghost use Rattle.limits.specs.declared.settings.TheConstants.{MAX_PROXIES};
 ghost use Rattle.replay_shards.specs.Clips.{refusal_of_clips};
 ghost use Rattle.replay_sharded.specs.Combined.{HasProxies};
 ghost use Rattle.replay_sharded.specs.Files.{AreClipsOfShards, AreFresh};

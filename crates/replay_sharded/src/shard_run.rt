@@ -7,11 +7,11 @@ ghost use Rattle.replay_shards.specs.Clips.{refusal_of_clips};
 ghost use Rattle.replay_sharded.specs.Files.{notes_left};
 ghost use Rattle.replay_sharded.specs.Runs.{IsWorkOf, lines_by, notes_by};
 
+use limits::{MAX_PROXIES, Stop};
 use observer::Unobserved;
 use replay_output::{Line, Options, ProxyFailure, StartError};
 use replay_shards::{Answered, Clips};
 use replay_workers::{Gatekeeper, RunOutcome, ShareKeeper, run_over};
-use resolver::{MAX_PROXIES, Stop};
 use std::alloc::Global;
 use std::sync::{Arc, Wait};
 use std::thread::Threads;

@@ -5,7 +5,7 @@ use Rattle.std.specs.Ordering.{int_eq}
 use Rattle.std.proofs.lemmas.Bool.{cases_Bool, cond-true, cond-false}
 use Rattle.keyspace.specs.declared.answer.Answer.{Answer}
 use Rattle.keyspace.specs.Answer.{version_of_answer}
-use Rattle.checking.specs.InOrder.{Rise}
+use Rattle.keyspace.specs.storage.InOrder.{Rise}
 use Rattle.replay_shards.specs.Merging.{answers_at}
 use Rattle.replay_shards.specs.Matching.{without_earlier, first_at, after_first_at}
 use Rattle.replay_shards.proofs.Versions.{none_at, at_kept, at_dropped, not_same_if_after, after_if, same_if, is_same, not_both_ways}

@@ -8,7 +8,8 @@ use Rattle.std.proofs.lemmas.Bool.Decides.{Decides-eqb}
 use Rattle.std.proofs.lemmas.List.Elements.{All-head, All-tail}
 use Rattle.serial.specs.Shards.{IsRising}
 use Rattle.shards.specs.SplitPoints.{IsFirstFall}
-use Rattle.replay_shards.specs.Points.{ArePointLines, IsPointLine}
+use Rattle.json_lines.specs.Ranges.{IsKeyLine}
+use Rattle.replay_shards.specs.Points.{ArePointLines}
 
 is_feed : (x : ℕ) → x ≡ 10 → (x == 10) ≡ true
 is_feed x is = (Decides-eqb x 10).1 is
@@ -46,7 +47,7 @@ abbrev pub Completes : List ℕ → List ℕ → List (List ℕ) → Type 0
 Completes bytes rest keys = (more : List (List ℕ)) → ArePointLines rest more → ArePointLines bytes (keys ++ more)
 
 pub completes_more : (bytes rest after key : List ℕ) (keys : List (List ℕ)) → Completes bytes rest keys → 0 < length rest
-    → rest ≡ take_through 10 rest ++ after → IsPointLine (take_through 10 rest) key → Completes bytes after (keys ++ key ∷ [])
+    → rest ≡ take_through 10 rest ++ after → IsKeyLine (take_through 10 rest) key → Completes bytes after (keys ++ key ∷ [])
 completes_more bytes rest after key keys so_far some parts is more lines =
     subst (ArePointLines bytes) (sym (append_assoc keys (key ∷ []) more)) (so_far (key ∷ more) (after, some, parts, is, lines))
 

@@ -7,7 +7,7 @@ use Rattle.std.proofs.lemmas.List.Elements.{All-head, All-tail, filter-append}
 use Rattle.std.proofs.lemmas.Slice.Zip.{all_zipped_more}
 use Rattle.keyspace.specs.declared.answer.Answer.{Answer}
 use Rattle.keyspace.specs.Answer.{version_of_answer}
-use Rattle.checking.specs.InOrder.{NoneBefore, Rise}
+use Rattle.keyspace.specs.storage.InOrder.{NoneBefore, Rise}
 use Rattle.replay_shards.specs.Merging.{answers_at, matches_at, version_of_match, common, AreAt, Match, AreMatched}
 use Rattle.replay_shards.specs.Matching.{without_earlier, first_at, after_first_at, more, with_answer, match_next, single, match_one, match_rest, match_all}
 use Rattle.replay_shards.proofs.Versions.{none_at, at_kept, at_dropped, after_if, same_if, is_same}

@@ -5,7 +5,7 @@ use Rattle.std.specs.List.{AllZip}
 use Rattle.std.proofs.lemmas.List.Elements.{All-nil, All-cons, All-head, All-tail}
 use Rattle.keyspace.specs.declared.answer.Answer.{Answer}
 use Rattle.keyspace.specs.Answer.{version_of_answer}
-use Rattle.checking.specs.InOrder.{Rise}
+use Rattle.keyspace.specs.storage.InOrder.{Rise}
 use Rattle.replay_shards.specs.declared.note.Note.{Note}
 use Rattle.replay_shards.specs.declared.answer_match.Matched.{Matched}
 use Rattle.replay_shards.specs.Matching.{IsComplete, match_all, match_of}

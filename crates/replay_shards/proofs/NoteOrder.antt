@@ -5,7 +5,7 @@ use Rattle.std.specs.List.Sorted.{IsPartitionPoint, IsPartitionedBy}
 use Rattle.std.specs.Ordering.{int_eq}
 use Rattle.std.proofs.lemmas.Bool.{cases_Bool, cond-true, cond-false}
 use Rattle.std.proofs.lemmas.Int.{ints}
-use Rattle.checking.specs.InOrder.{NoneBefore, Rise}
+use Rattle.keyspace.specs.storage.InOrder.{NoneBefore, Rise}
 use Rattle.replay_shards.specs.declared.note.Note.{Note}
 use Rattle.replay_shards.specs.Notes.{first_note, reads_at, version_of_note}
 use Rattle.replay_shards.proofs.Versions.{irreflexive, after_if, not_same_if_before, not_same_if_after}

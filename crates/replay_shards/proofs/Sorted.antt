@@ -6,8 +6,8 @@ use Rattle.std.proofs.lemmas.Bool.{cases_Bool, cond-true, cond-false}
 use Rattle.std.proofs.lemmas.List.Elements.{All-nil, All-cons, All-head, All-tail, filter-append}
 use Rattle.keyspace.specs.declared.answer.Answer.{Answer}
 use Rattle.keyspace.specs.Answer.{version_of_answer}
-use Rattle.checking.specs.InOrder.{NoneBefore, Rise, in_order_by, put_in_order}
-use Rattle.checking.proofs.Ordered.{in_order-rises}
+use Rattle.keyspace.specs.storage.InOrder.{NoneBefore, Rise, in_order_by, put_in_order}
+use Rattle.keyspace.proofs.callers.Ordered.{in_order-rises}
 use Rattle.replay_output.specs.declared.line.Line.{Line}
 use Rattle.replay_output.specs.Line.{answer_of, answers_of, version_of_line}
 use Rattle.replay_shards.specs.declared.answered.Answered.{Answered}

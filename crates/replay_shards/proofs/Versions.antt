@@ -5,8 +5,8 @@ use Rattle.std.specs.Ordering.{int_eq}
 use Rattle.std.proofs.lemmas.Bool.{cases_Bool}
 use Rattle.std.proofs.lemmas.Bool.Decides.{Decides-int_eq}
 use Rattle.std.proofs.lemmas.Int.{ints}
-use Rattle.checking.specs.InOrder.{NoneBefore}
-use Rattle.checking.proofs.OneOrder.{filter-kept, filter-dropped}
+use Rattle.keyspace.specs.storage.InOrder.{NoneBefore}
+use Rattle.keyspace.proofs.OneOrder.{filter-kept, filter-dropped}
 use Rattle.replay_shards.specs.Merging.{at_version}
 
 -- equal numbers pass the test, and what passes is equal

@@ -2,7 +2,7 @@
 use Rattle.std.specs.Prelude.{◌≡◌, List, map}
 use Rattle.std.specs.List.{All}
 use Rattle.keyspace.specs.declared.answer.Answer.{Answer}
-use Rattle.checking.specs.InOrder.{in_order_by}
+use Rattle.keyspace.specs.storage.InOrder.{in_order_by}
 use Rattle.replay_summary.specs.Counted.{counted_of}
 use Rattle.replay_output.specs.declared.line.Line.{Line}
 use Rattle.replay_output.specs.declared.options.form.Form.TheVariants.{Kept}

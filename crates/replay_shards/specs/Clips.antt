@@ -8,7 +8,7 @@ use Rattle.wire.specs.Frames.{frames_reader, refusal_of}
 use Rattle.wire.specs.NextFrame.{TakesFrame}
 use Rattle.wire.specs.declared.error.WireError.{WireError}
 use Rattle.wire.specs.declared.error.WireError.TheVariants as wire
-use Rattle.replay_workers.specs.Batches.{GivesEach}
+use Rattle.wire.specs.Batches.{GivesEach}
 use Rattle.replay_shards.specs.declared.clips.Clips.{Clips}
 use Rattle.replay_shards.specs.Notes.{note_in, notes_of}
 

@@ -3,7 +3,7 @@ use Rattle.std.specs.Prelude.{◌≡◌, Bool, List, [], ◌∷◌, map, take, O
 use Rattle.std.specs.Option.{option_or}
 use Rattle.std.specs.List.{All, list_any}
 use Rattle.wire.specs.declared.error.WireError.{WireError}
-use Rattle.resolver.specs.declared.stop.Stop.{Stop}
+use Rattle.limits.specs.declared.stop.Stop.{Stop}
 use Rattle.replay_output.specs.declared.failures.ProxyFailure.{ProxyFailure}
 use Rattle.replay_shards.specs.declared.failures.ShardStop.{ShardStop}
 

@@ -2,7 +2,7 @@
 
 ghost use Rattle.std.specs.Prelude.{◌≡◌, ◌<◌, ◌↔◌, ◌⊎◌, All, Any, IfOk, IsTrue, MatchOption};
 ghost use Rattle.std.specs.Prelude.{length, map, vec_items};
-ghost use Rattle.checking.specs.InOrder.{Rise};
+ghost use Rattle.keyspace.specs.storage.InOrder.{Rise};
 ghost use Rattle.keyspace.specs.Answer.{version_of_answer};
 ghost use Rattle.replay_shards.specs.Answers.{HaveReplied, IsAnswerTogether, IsHeld, IsNever};
 ghost use Rattle.replay_shards.specs.Answers.{noted_each};

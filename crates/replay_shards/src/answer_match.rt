@@ -1,12 +1,12 @@
 //! Answers of several shards, matched by version.
 
 ghost use Rattle.std.specs.Prelude.{◌≡◌, ◌<◌, IfOk, map, vec_items, vec_len};
-ghost use Rattle.keyspace.specs.Answer.{version_of_answer};
 ghost use Rattle.replay_shards.specs.Matching.{after_first_at, first_at, left_in, match_all};
 ghost use Rattle.replay_shards.specs.Matching.{match_next, match_of, match_one, more, single};
 ghost use Rattle.replay_shards.specs.Matching.{without_earlier};
 
 use keyspace::Answer;
+use replay_output::version_of;
 use std::alloc::{AllocError, Global};
 use std::mem;
 
@@ -118,13 +118,4 @@ fn more(one: Matched, answer: Answer) -> Result<Matched, AllocError>
     let mut one = one;
     one.answers.push(answer)?;
     Ok(one)
-}
-
-fn version_of(answer: &Answer) -> i64
-    ensures version { result ≡ version_of_answer answer.now }
-{
-    match answer {
-        Answer::Reply(reply) => reply.version,
-        Answer::Never(version) | Answer::Held(version) => *version,
-    }
 }

@@ -2,7 +2,7 @@
 
 ghost use Rattle.std.specs.Prelude.{◌≡◌, ◌<◌, IfOk, map, vec_items, vec_len};
 ghost use Rattle.std.specs.List.{All};
-ghost use Rattle.checking.specs.InOrder.{in_order_by};
+ghost use Rattle.keyspace.specs.storage.InOrder.{in_order_by};
 ghost use Rattle.replay_output.specs.Line.{IsLineOf, answer_of, answers_of, version_of_line};
 ghost use Rattle.replay_shards.specs.Answered.{AreAnswersTogether, AreKept, IsKept};
 ghost use Rattle.replay_shards.specs.Answered.{sorted_answers, sorted_notes};
@@ -10,8 +10,7 @@ ghost use Rattle.replay_shards.specs.Notes.{version_of_note};
 
 use crate::merged_answers::merge_answers;
 use crate::note::Note;
-use checking::sort_by_version;
-use keyspace::Answer;
+use keyspace::{Answer, sort_by_version};
 use replay_output::{Line, Style};
 use replay_summary::Outcome;
 use std::alloc::{AllocError, Global};

@@ -5,7 +5,7 @@ ghost use Rattle.std.specs.Prelude.{slice_get};
 ghost use Rattle.std.specs.Io.KnownBytes.{IsAtEnd};
 ghost use Rattle.std.specs.List.{All};
 ghost use Rattle.serial.specs.Shards.{shards};
-ghost use Rattle.replay_workers.specs.Worker.{IsFaultAt};
+ghost use Rattle.wire.specs.Batches.{IsFaultAt};
 ghost use Rattle.replay_shards.specs.Clips.{GivesClip, GivesNoClip, IsNotedClip};
 ghost use Rattle.replay_shards.specs.Clips.{bytes_left, failures_of, refusal_of_clips};
 ghost use Rattle.replay_shards.specs.Clips.{shard_of_clips};
@@ -14,11 +14,10 @@ ghost use Rattle.replay_shards.specs.Notes.{note_with};
 use crate::note::{Note, requests_report};
 use crate::own_shard::OwnShard;
 use keyspace::{Batch, UnorderedBatch};
-use replay_workers::Batches;
 use shards::{Clipped, ReadIndices, SplitPoints, clip_in_place};
 use std::alloc::{AllocError, Global};
 use std::sync::Arc;
-use wire::{Frames, Source, WireError, read_frames};
+use wire::{Batches, Frames, Source, WireError, read_frames};
 
 /// The clips of the batches of a file to a shard, in order: what a worker of that shard sends.
 /// Beside them it keeps what reports need.

@@ -1,16 +1,17 @@
 //! The replies of all shards to a batch as one.
 
-ghost use Rattle.std.specs.Prelude.{◌≡◌, ◌<◌, ◌≤◌, ◌↔◌, ◌⊎◌, ℕ, All, Any, Contains, IfOk};
+ghost use Rattle.std.specs.Prelude.{◌≡◌, ◌<◌, ◌≤◌, ◌↔◌, ℕ, All, Any, Contains, IfOk};
 ghost use Rattle.std.specs.Prelude.{IsTrue, MatchOption, Some, length, pos, slice_get, vec_len};
 ghost use Rattle.std.specs.Prelude.{◌≤ℤ◌};
 ghost use Rattle.std.specs.List.Sorted.{IsStrictlyIncreasing};
 ghost use Rattle.keyspace.specs.declared.reply.Entry.{Entry as EntryValue};
 ghost use Rattle.keyspace.specs.declared.batch.TheConstants.{MAX_TXNS};
-ghost use Rattle.shards.specs.Combined.{FitsAt, IsCombinedEntry, IsLeast, Reports, rank};
+ghost use Rattle.shards.specs.Combined.{FitsAt, IsCombinedEntry, IsLeast, Reports};
 ghost use Rattle.replay_shards.specs.Answers.{AreOfOneBatch, FitsIn, IsReplyTogether, noted_each};
 
 use crate::noted_reply::NotedReply;
 use keyspace::{Entry, Places, Reply, Sequence, Verdict};
+use shards::lesser;
 use std::alloc::{AllocError, Global};
 
 /// Combines the replies of all shards to the batch of this version, as [`combine`](shards::combine)
@@ -101,19 +102,6 @@ fn least_verdict(each: &[NotedReply], index: usize) -> Verdict
         least = lesser(least, own.entry(index).verdict);
     }
     least
-}
-
-// Returns the lesser of two verdicts.
-fn lesser(a: Verdict, b: Verdict) -> Verdict
-    ensures one { (result ≡ a) ⊎ (result ≡ b) }
-    ensures first { rank result ≤ rank a }
-    ensures second { rank result ≤ rank b }
-{
-    match (a, b) {
-        (Verdict::Conflict, _) | (_, Verdict::Conflict) => Verdict::Conflict,
-        (Verdict::TooOld, _) | (_, Verdict::TooOld) => Verdict::TooOld,
-        (Verdict::Committed, Verdict::Committed) => Verdict::Committed,
-    }
 }
 
 // Unites what the shards report of a transaction.

@@ -4,8 +4,8 @@ ghost use Rattle.std.specs.Prelude.{◌≡◌, MatchOption, None};
 ghost use Rattle.std.specs.List.{All};
 ghost use Rattle.replay_shards.specs.Failures.{IsFailureTogether, IsFirstStop};
 
+use limits::Stop;
 use replay_output::ProxyFailure;
-use resolver::Stop;
 
 /// The stop of the first shard that met one.
 #[derive(Clone, Copy, Debug, PartialEq, Eq)]

@@ -4,7 +4,7 @@
 ghost use Rattle.std.specs.Prelude.{◌≡◌, List, Some};
 ghost use Rattle.keyspace.specs.declared.batch.Batch.{Batch as BatchValue};
 ghost use Rattle.serial.specs.Shards.{Shard};
-ghost use Rattle.replay_workers.specs.Batches.{GivesEach};
+ghost use Rattle.wire.specs.Batches.{GivesEach};
 ghost use Rattle.replay_shards.specs.declared.clips.Clips.{Clips};
 ghost use Rattle.replay_shards.specs.Clips.{GaveClips, GivesClip, shard_of_clips};
 

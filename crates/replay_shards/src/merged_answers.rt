@@ -2,7 +2,7 @@
 
 ghost use Rattle.std.specs.Prelude.{◌≡◌, ◌<◌, All, IfOk, length, map, vec_items, vec_len};
 ghost use Rattle.std.specs.List.{AllZip};
-ghost use Rattle.checking.specs.InOrder.{Rise};
+ghost use Rattle.keyspace.specs.storage.InOrder.{Rise};
 ghost use Rattle.keyspace.specs.Answer.{version_of_answer};
 ghost use Rattle.replay_shards.specs.Matching.{IsComplete, match_of};
 ghost use Rattle.replay_shards.specs.Merging.{AreMerged, IsOfMatch};

@@ -2,11 +2,10 @@
 
 ghost use Rattle.std.specs.Prelude.{◌≡◌, option_map, slice_get};
 ghost use Rattle.std.specs.List.{list_any};
-ghost use Rattle.checking.specs.InOrder.{Rise};
+ghost use Rattle.keyspace.specs.storage.InOrder.{Rise};
 ghost use Rattle.replay_shards.specs.Notes.{first_note, reads_at, requests_report, version_of_note};
 
-use checking::Versioned;
-use keyspace::Batch;
+use keyspace::{Batch, Versioned};
 use shards::ReadIndices;
 
 /// The original indices of the read ranges of a clip. Only a batch with a transaction that requests

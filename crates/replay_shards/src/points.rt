@@ -1,15 +1,16 @@
 //! Split points as lines of a file.
 
-ghost use Rattle.std.specs.Prelude.{◌≡◌, ◌≢◌, ◌+◌, ◌≤◌, ◌<◌, ◌↔◌, ◌⊎◌, ◌++◌, ◌∷◌, [], ℕ};
+ghost use Rattle.std.specs.Prelude.{◌≡◌, ◌≢◌, ◌+◌, ◌≤◌, ◌<◌, ◌↔◌, ℕ};
 ghost use Rattle.std.specs.Prelude.{IfOk, IfSome, IsErrOf, length, take, vec_len};
 ghost use Rattle.std.specs.Io.BufRead.{take_through};
 ghost use Rattle.std.specs.Io.KnownBytes.{Consumes, IsAtEnd};
 ghost use Rattle.shards.specs.SplitPoints.{IsFirstFall};
 ghost use Rattle.shards.specs.declared.split_points.TheConstants.{MAX_SPLIT_POINTS};
-ghost use Rattle.replay_shards.specs.Points.{ArePointLines, IsPointLine};
+ghost use Rattle.json_lines.specs.Ranges.{IsKeyLine};
+ghost use Rattle.replay_shards.specs.Points.{ArePointLines};
 ghost use Rattle.replay_shards.specs.declared.points.PointsError.TheVariants.{Memory};
 
-use json_lines::{Cause, LineRefusal, read_key};
+use json_lines::{Cause, LineRefusal, read_key_line};
 use keys::Key;
 use replay_output::Status;
 use shards::{SplitPoints, SplitPointsError};
@@ -123,21 +124,12 @@ fn line_length(bytes: &[u8]) -> usize
 
 // Reads the key of a line, before which there are that many lines.
 fn key_of_line(alloc: Global, before: u64, line: &[u8]) -> Result<Key, PointsError>
-    ensures key { IfOk result (IsPointLine line.now) }
+    ensures key { IfOk result (IsKeyLine line.now) }
 {
-    match read_key(alloc, without_feed(line)) {
+    match read_key_line(alloc, line) {
         Ok(key) => Ok(key),
         Err(refusal) if refusal.cause == Cause::Memory => Err(PointsError::Memory),
         Err(refusal) => Err(PointsError::Line(before.saturating_add(1), refusal)),
-    }
-}
-
-fn without_feed(line: &[u8]) -> &[u8]
-    ensures text { (line.now ≡ result.now ++ 10 ∷ []) ⊎ (line.now ≡ result.now) }
-{
-    match line.split_last() {
-        Some((b'\n', text)) => text,
-        _ => line,
     }
 }
 

@@ -97,22 +97,6 @@ given_at {S = S} {W = W} reports first (d ∷ clients) (s ∷ readers) (p ∷ ou
     given_at reports (first + 1) clients readers outs (omega (arith, same)) (omega (arith, as_many)) place c r o at_c at_r at_o
     ∙ ap (λ (n : ℕ). Some (given_one reports n c r o)) (omega arith)
 
--- what the relation says at a place
-pub zip_at : {X Y : Type 0} (R : X → Y → Type 0) (xs : List X) (ys : List Y) (place : ℕ) (x : X) (y : Y)
-    → AllZip R xs ys → slice_get xs place ≡ Some x → slice_get ys place ≡ Some y → R x y
-zip_at R [] ys place x y all at there = absurd (none-some x at)
-zip_at R (first ∷ xs) [] place x y all at there = absurd all
-zip_at {X = X} {Y = Y} R (first ∷ xs) (other ∷ ys) zero x y all at there =
-    subst (λ (pair : X × Y). R pair.0 pair.1) (λ i. (same_Some first x at i, same_Some other y there i)) all.0
-zip_at R (first ∷ xs) (other ∷ ys) (suc place) x y all at there = zip_at R xs ys place x y all.1 at there
-
--- the items that a list was made from
-pub from_map : {X Y : Type 0} (f : X → Y) (xs : List X) (place : ℕ) (y : Y) → slice_get (map f xs) place ≡ Some y
-    → (x : X) × (slice_get xs place ≡ Some x) × (f x ≡ y)
-from_map f [] place y at = absurd (none-some y at)
-from_map f (x ∷ xs) zero y at = (x, refl, same_Some (f x) y at)
-from_map f (x ∷ xs) (suc place) y at = from_map f xs place y at
-
 -- the writers with their recorders, place by place
 pub recorded_at : {W : Type 0} (state_of : W → SinkState) (outs : List (Option W)) (recorders : List (Option (Recorder W)))
     (place : ℕ) (o : Option W) (r : Option (Recorder W)) → slice_get outs place ≡ Some o → slice_get recorders place ≡ Some r

@@ -5,6 +5,7 @@ use Rattle.std.proofs.Common.{refl, sym, ap, subst, ◌∙◌, arith}
 use Rattle.std.proofs.lemmas.List.{length-map}
 use Rattle.std.proofs.lemmas.Slice.Zip.{AllZip-long}
 use Rattle.std.proofs.lemmas.Option.{same_Some}
+use Rattle.keys.proofs.callers.Lists.{AllZip-get, element_of_map}
 use Rattle.keyspace.specs.declared.answer.Answer.{Answer}
 use Rattle.keyspace.specs.declared.batch.Batch.{Batch}
 use Rattle.keyspace.specs.Run.{Step, part}
@@ -49,7 +50,7 @@ use Rattle.replay_workers.specs.Reporting.{TakesFrames}
 use Rattle.replay_workers.specs.Worker.{ClientContinues}
 use Rattle.replay_stream.specs.Sinks.{SinkState}
 use Rattle.replay_workers.proofs.callers.Lists.{all_at, found, mapped_at, both}
-use Rattle.replay_stream.proofs.Places.{all_of, from_map, given_at, given_one, given_number, has_recorder, is_recorded, length_given, length_recorded, recorded_at, zip_at, zip_of}
+use Rattle.replay_stream.proofs.Places.{all_of, given_at, given_one, given_number, has_recorder, is_recorded, length_given, length_recorded, recorded_at, zip_of}
 use Rattle.replay_stream.proofs.Streams.{ends_of, recorded_of, streamed_for}
 
 module _ {S W G : Type 0} (reports : Reports) (readers : List S) (outs : List (Option W)) (clients : List Client) (tasks : List (ProxyTask S W G))
@@ -96,7 +97,7 @@ module _ {S W G : Type 0} (reports : Reports) (readers : List S) (outs : List (O
 
     pub are_numbered : AreNumbered (map (λ (t : ProxyTask S W G). t.outlet) tasks)
     are_numbered proxy l at =
-        let t = from_map (λ (t : ProxyTask S W G). t.outlet) tasks proxy l at in
+        let t = element_of_map (λ (t : ProxyTask S W G). t.outlet) tasks proxy l at in
         let number : 0 + proxy ≡ proxy = omega arith in
         ap (λ (l : Outlet). l.proxy) (sym t.2)
         ∙ given_number reports 0 clients readers outs proxy (given_with t.0.outlet (threads_by t.0)) (given_here proxy t.0 t.1) ∙ number
@@ -176,7 +177,7 @@ module _ {S W G : Type 0} (reports : Reports) (readers : List S) (outs : List (O
               place = place;
               has =
                   subst (λ (given : GivenThreads S W). HasJoined remaining state_of p.0.outlet given j) ran.same_threads
-                  (zip_at (IsJoined remaining state_of) ended joined proxy p.0 j worked p.1 at);
+                  (AllZip-get (IsJoined remaining state_of) ended joined proxy p.0 j worked p.1 at);
               requests = ap (λ (g : GivenProxy S W). g.client.requests) place.was_given;
               replies = ap (λ (g : GivenProxy S W). g.client.replies) place.was_given;
               reader = ap (λ (g : GivenProxy S W). g.reader) place.was_given;
@@ -188,7 +189,7 @@ module _ {S W G : Type 0} (reports : Reports) (readers : List S) (outs : List (O
         pub clients_joined : AllZip ClientContinues clients (map client_of joined)
         clients_joined =
             zip_of ClientContinues clients (map client_of joined) (length-map joined client_of ∙ joined_count) (λ proxy c d at there.
-            let j = from_map client_of joined proxy d there in
+            let j = element_of_map client_of joined proxy d there in
             let known = known_at proxy j.0 j.1 in
             let is : known.place.client ≡ c = same_Some _ c (sym known.place.at_client ∙ at) in
             let replies = ap (λ (o : Outlet). o.replies) known.has.outlet_is in
@@ -205,7 +206,7 @@ module _ {S W G : Type 0} (reports : Reports) (readers : List S) (outs : List (O
         -- and each has taken its answers to their end
         pub clients_ended : (proxy : ℕ) (c : Client) → slice_get (map client_of joined) proxy ≡ Some c → HasEnded c.replies
         clients_ended proxy c at =
-            let j = from_map client_of joined proxy c at in
+            let j = element_of_map client_of joined proxy c at in
             let known = known_at proxy j.0 j.1 in
             subst (λ (c : Client). HasEnded c.replies) j.2
             (subst (λ (i : IntakeView Answer). HasEnded i) (sym (ap (λ (o : Outlet). o.replies) known.has.outlet_is))
@@ -215,9 +216,9 @@ module _ {S W G : Type 0} (reports : Reports) (readers : List S) (outs : List (O
         pub have_recorders : (recorders : List (Option (Recorder W))) → recorders ≡ map (λ (j : Joined W). j.recorder) joined
             → HaveRecords (map is_some outs) recorders
         have_recorders recorders are proxy has r has_at r_at =
-            let j = from_map (λ (j : Joined W). j.recorder) joined proxy r (ap (λ l. slice_get l proxy) (sym are) ∙ r_at) in
+            let j = element_of_map (λ (j : Joined W). j.recorder) joined proxy r (ap (λ l. slice_get l proxy) (sym are) ∙ r_at) in
             let known = known_at proxy j.0 j.1 in
-            let o = from_map is_some outs proxy has has_at in
+            let o = element_of_map is_some outs proxy has has_at in
             let out_is : known.place.out ≡ o.0 = same_Some _ o.0 (sym known.place.at_out ∙ o.1) in
             ap is_some (sym j.2)
             ∙ has_recorder state_of (threads_by known.ran.task).out (threads_by known.ran.task).answers _ _ j.0.recorder known.has.recorder
@@ -327,7 +328,7 @@ module _ {S W G : Type 0} (reports : Reports) (readers : List S) (outs : List (O
                 writers = λ proxy has r has_at r_at.
                     let j = joined_for (recorded_each state_of outs streamed.recorders.items) proxy r recorded_count r_at in
                     let known = known_at proxy j.0 j.1 in
-                    let o = from_map is_some outs proxy has has_at in
+                    let o = element_of_map is_some outs proxy has has_at in
                     let out_is : known.place.out ≡ o.0 = same_Some _ o.0 (sym known.place.at_out ∙ o.1) in
                     ap is_some (same_Some r _ (sym r_at ∙ recorded_here proxy j.0 j.1 known))
                     ∙ ap (λ (o : Option W). is_some (recorded_of state_of o j.0.recorder)) (sym known.out)

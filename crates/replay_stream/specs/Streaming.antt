@@ -10,7 +10,7 @@ use Rattle.serial.specs.Serial.{IsSerializable}
 use Rattle.serial.specs.Replies.{IsCommittedAt, ReportsCommitted}
 use Rattle.wire.specs.declared.error.WireError.TheVariants as wire
 use Rattle.wire.specs.NextFrame.{IsFaultOf}
-use Rattle.resolver.specs.declared.stop.Stop.{Stop}
+use Rattle.limits.specs.declared.stop.Stop.{Stop}
 use Rattle.resolver.specs.Core.{IsPrefix}
 use Rattle.resolver.specs.Resolver.{TakesOnlyFrom, FinishesLast}
 use Rattle.replay_output.specs.declared.failures.ProxyFailure.{ProxyFailure}

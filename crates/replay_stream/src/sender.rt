@@ -2,7 +2,7 @@
 
 ghost use Rattle.std.specs.Prelude.{◌≡◌, ◌<◌, ◌⊎◌, [], ◌∷◌, ◌++◌, length, None};
 ghost use Rattle.std.specs.Prelude.{IsTrue, OnOk, OnErr, IfErr};
-ghost use Rattle.flow.specs.Share.{unanswered};
+ghost use Rattle.replay_workers.specs.Share.{unanswered};
 ghost use Rattle.lane.specs.Lane.{PortContinues};
 ghost use Rattle.lane.specs.Refused.{item_of};
 ghost use Rattle.replay_workers.specs.Reporting.{SendsFrames};
@@ -10,16 +10,16 @@ ghost use Rattle.replay_workers.specs.Worker.{SendsBatches, batch_of, fault_of, 
 ghost use Rattle.replay_stream.specs.Sender.{HasSent};
 
 use crate::progress::AnswerProgress;
-use flow::{Stand, is_below_share};
 use keyspace::Batch;
 use lane::{Port, Refused};
 use replay_output::Reports;
 use replay_workers::{
-    Assignment, Batches, FileEnd, Gatekeeper, Leftover, ShareKeeper, pause, read_asking,
+    Assignment, FileEnd, Gatekeeper, Leftover, ShareKeeper, Stand, is_below_share, pause,
+    read_asking,
 };
 use std::alloc::Global;
 use std::sync::Wait;
-use wire::{Source, WireError, read_frames};
+use wire::{Batches, Source, WireError, read_frames};
 
 /// What a sender returns.
 #[derive(Drop)]

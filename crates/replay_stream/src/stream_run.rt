@@ -3,7 +3,7 @@
 
 ghost use Rattle.std.specs.Prelude.{◌≡◌, ◌≤◌, ◌&&◌, ℕ, true, Some, is_some, map, slice_get};
 ghost use Rattle.std.specs.Prelude.{vec_len, IfOk, IsTrue, OnErr};
-ghost use Rattle.resolver.specs.declared.resolver_core.TheConstants.{MAX_PROXIES};
+ghost use Rattle.limits.specs.declared.settings.TheConstants.{MAX_PROXIES};
 ghost use Rattle.replay_stream.specs.Recorder.{is_unwritten, unwritten_cause};
 ghost use Rattle.replay_stream.specs.Streaming.{HaveRecords, IsStreamed, recorded_each};
 ghost use Rattle.resolver.specs.Core.{Continues};
@@ -18,8 +18,8 @@ use crate::outlet::{Passed, Printer};
 use crate::proxies::{Proxy, connect_all, join_all, start_all};
 use crate::streamed::Streamed;
 use replay_output::{Options, StartError};
-use replay_workers::{Gatekeeper, ShareKeeper, Watch, admit};
-use resolver::{Account, Resolver, Turn, open};
+use replay_workers::{Gatekeeper, ShareKeeper, Watch, admit, open_resolver};
+use resolver::{Account, Resolver, Turn};
 use std::alloc::Global;
 use std::sync::{Arc, Wait};
 use std::thread;
@@ -66,17 +66,10 @@ pub fn run_stream<
     let count = readers.len();
     let mut streamed = Streamed::with_room(alloc, count)?;
     let mut watch = Watch::new(alloc, count)?;
-    let Options {
-        capacity,
-        window,
-        limit,
-        style,
-        ..
-    } = options;
-    let (mut resolver, clients) = open(alloc, count, capacity, window, limit)?;
+    let (mut resolver, clients) = open_resolver(alloc, count, options)?;
     let tasks = connect_all(alloc, options, readers, records, clients, gatekeeper)?;
     let mut proxies = start_all(rt, alloc, tasks)?;
-    let mut printer = Printer::new(alloc, style);
+    let mut printer = Printer::new(alloc, options.style);
     turn_to_end(
         rt,
         &mut resolver,

@@ -2,7 +2,7 @@
 use Rattle.std.specs.Prelude.{◌≡◌, ℕ, ◌+◌, ◌<◌, Bool, List, [], ◌∷◌, ◌++◌, All, length, map, take, slice_index_or as get_or}
 use Rattle.std.proofs.Common.{sym, ap, subst, ◌∙◌, arith}
 use Rattle.std.proofs.lemmas.List.{take_more, map-append, take-map, get_or-map, length-map}
-use Rattle.checking.specs.InOrder.{Rise}
+use Rattle.keyspace.specs.storage.InOrder.{Rise}
 use Rattle.replay_summary.specs.declared.counted.Counted.{Counted}
 use Rattle.replay_summary.specs.declared.summary.Summary.{Summary}
 use Rattle.replay_summary.specs.Adding.{is_last, part, plus}

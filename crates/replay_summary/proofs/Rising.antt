@@ -2,7 +2,7 @@
 use Rattle.std.specs.Prelude.{◌≡◌, ℕ, zero, suc, ◌<◌, ℤ, ◌≤ℤ◌, int_lt, Bool, true, false, cond, List, [], ◌∷◌, filter, map, take, length, slice_index_or as get_or}
 use Rattle.std.proofs.Common.{arith}
 use Rattle.std.proofs.lemmas.Int.{ints}
-use Rattle.checking.specs.InOrder.{NoneBefore, Rise}
+use Rattle.keyspace.specs.storage.InOrder.{NoneBefore, Rise}
 use Rattle.replay_summary.specs.declared.counted.Counted.{Counted}
 use Rattle.replay_summary.specs.Counted.{version_of}
 use Rattle.replay_summary.specs.Summary.{is_reply, reply_versions}

@@ -1,7 +1,7 @@
 //! The summaries of all proxies.
 
 ghost use Rattle.std.specs.Prelude.{◌≡◌, All, map, vec_items, IfErr, IfOk};
-ghost use Rattle.checking.specs.InOrder.{Rise};
+ghost use Rattle.keyspace.specs.storage.InOrder.{Rise};
 ghost use Rattle.replay_summary.specs.Counted.{version_of};
 ghost use Rattle.replay_summary.specs.Summary.{Fits, summary_of};
 

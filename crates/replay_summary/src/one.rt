@@ -1,7 +1,7 @@
 //! The summary of the answers to one proxy.
 
 ghost use Rattle.std.specs.Prelude.{◌≡◌, map, IfNone, IfSome};
-ghost use Rattle.checking.specs.InOrder.{Rise};
+ghost use Rattle.keyspace.specs.storage.InOrder.{Rise};
 ghost use Rattle.replay_summary.specs.Adding.{part, reply_part};
 ghost use Rattle.replay_summary.specs.Counted.{version_of};
 ghost use Rattle.replay_summary.specs.Summary.{Fits, summary_of};

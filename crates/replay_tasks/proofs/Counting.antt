@@ -5,7 +5,7 @@ use Rattle.std.proofs.Common.{subst, sym, inr, arith}
 use Rattle.keyspace.specs.Chain.{IsChain}
 use Rattle.keyspace.specs.Processed.{Processed}
 use Rattle.keyspace.specs.Run.{Step, run}
-use Rattle.resolver.specs.declared.stop.Stop.{Stop}
+use Rattle.limits.specs.declared.stop.Stop.{Stop}
 use Rattle.resolver.specs.Observed.{HasSeen}
 use Rattle.replay_output.specs.declared.failures.ProxyFailure.{ProxyFailure}
 use Rattle.replay_output.specs.declared.line.Line.{Line}

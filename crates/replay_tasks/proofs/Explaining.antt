@@ -4,7 +4,7 @@ use Rattle.std.proofs.Common.{refl, sym, ap, subst, ◌∙◌, append_assoc}
 use Rattle.keyspace.specs.Chain.{IsChain}
 use Rattle.keyspace.specs.Processed.{Processed}
 use Rattle.keyspace.specs.Run.{Step, run}
-use Rattle.resolver.specs.declared.stop.Stop.{Stop}
+use Rattle.limits.specs.declared.stop.Stop.{Stop}
 use Rattle.resolver.specs.Observed.{HasSeen}
 use Rattle.replay_explanations.specs.Explainer.{ExplainerState, HasExplained, text_of}
 use Rattle.replay_explanations.specs.declared.form.ExplanationForm.{ExplanationForm}

@@ -1,6 +1,5 @@
 -- The files of replies that another resolver gave. This project's own.
 use Rattle.std.specs.Prelude.{◌≡◌, ◌≢◌, ℕ, List, [], ◌∷◌, ◌++◌, codes, Option, Some, IfSome, slice_get, ⊤}
-use Rattle.std.specs.Fmt.{decimal}
 use Rattle.std.specs.Io.KnownBytes.{IsAtEnd}
 use Rattle.keyspace.specs.declared.reply.Reply.{Reply}
 use Rattle.wire.specs.declared.error.WireError.{WireError}
@@ -10,7 +9,7 @@ use Rattle.replay_tasks.specs.declared.check.replies.RepliesError.{RepliesError}
 use Rattle.replay_tasks.specs.declared.check.replies.RepliesError.TheVariants.{CannotOpen, Fault, Memory}
 use Rattle.replay_output.specs.declared.start.StartError.TheVariants as start
 use Rattle.replay_output.specs.Failures.{fault_name}
-use Rattle.replay_arguments.specs.Opening.{IsFirstRefused, contents_each}
+use Rattle.replay_arguments.specs.Opening.{IsFirstRefused, contents_each, replies_of}
 use Rattle.replay_output.specs.Start.{start_line}
 
 -- the frames of these replies are at the front, in order, and just those frames leave
@@ -43,10 +42,6 @@ abbrev pub IsCauseOf : (List ℕ → Type 0) → (List ℕ → Type 0) → (List
 IsCauseOf has_opened cannot_open contents names (CannotOpen proxy) = IsFirstRefused has_opened cannot_open names proxy
 IsCauseOf has_opened cannot_open contents names (Fault proxy e) = IsFaultIn (contents_each contents names) (Fault proxy e)
 IsCauseOf has_opened cannot_open contents names Memory = ⊤
-
--- how the line of a file of replies begins
-abbrev pub replies_of : ℕ → List ℕ
-replies_of proxy = codes "replay: replies " ++ decimal proxy
 
 -- the line of standard error where the replies were not read
 abbrev pub replies_line : RepliesError → List ℕ

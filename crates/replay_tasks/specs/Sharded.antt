@@ -7,7 +7,7 @@ use Rattle.keyspace.specs.declared.answer.Answer.{Answer}
 use Rattle.keyspace.specs.declared.batch.Batch.{Batch}
 use Rattle.keyspace.specs.declared.reply.Reply.{Reply}
 use Rattle.serial.specs.Replies.{IsCommittedAt}
-use Rattle.resolver.specs.declared.stop.Stop.{Stop}
+use Rattle.limits.specs.declared.stop.Stop.{Stop}
 use Rattle.replay_output.specs.declared.failures.ProxyFailure.{ProxyFailure}
 use Rattle.replay_output.specs.declared.line.Line.{Line}
 use Rattle.replay_output.specs.declared.options.Options.{Options}

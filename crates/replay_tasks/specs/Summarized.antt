@@ -4,7 +4,7 @@ use Rattle.std.specs.Io.KnownBytes.{Appends}
 use Rattle.keyspace.specs.declared.answer.Answer.{Answer}
 use Rattle.keyspace.specs.Processed.{Processed}
 use Rattle.keyspace.specs.Run.{run}
-use Rattle.resolver.specs.declared.stop.Stop.{Stop}
+use Rattle.limits.specs.declared.stop.Stop.{Stop}
 use Rattle.replay_hot_ranges.specs.declared.hot_range.Top.{Top}
 use Rattle.replay_hot_ranges.specs.Text.{members, lines as hot_lines}
 use Rattle.replay_hot_ranges.specs.Top.{IsTopOf}

@@ -11,10 +11,10 @@ ghost use Rattle.replay_output.specs.declared.options.form.Form.TheVariants.{Kep
 use crate::met::{Ended, Met, is_unwritten};
 use crate::reached::Reached;
 use keyspace::Reply;
+use limits::MAX_PROXIES;
 use observer::Unobserved;
 use replay_output::{Ending, Options, Status, fail_to_start};
 use replay_workers::{Gatekeeper, RunOutcome, ShareKeeper, run_observed};
-use resolver::MAX_PROXIES;
 use std::alloc::Global;
 use std::sync::{Arc, Wait};
 use std::thread::Threads;

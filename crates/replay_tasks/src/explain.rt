@@ -10,10 +10,10 @@ ghost use Rattle.replay_tasks.specs.Replayed.{written};
 
 use crate::met::{Ended, Met, is_unwritten};
 use crate::reached::Reached;
+use limits::MAX_PROXIES;
 use replay_explanations::{Explainer, ExplanationForm};
 use replay_output::{Ending, Form, Options, Status, fail_to_start};
 use replay_workers::{Gatekeeper, RunOutcome, ShareKeeper, run_observed};
-use resolver::MAX_PROXIES;
 use std::alloc::Global;
 use std::sync::{Arc, Wait};
 use std::thread::Threads;

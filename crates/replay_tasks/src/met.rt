@@ -2,8 +2,8 @@
 
 ghost use Rattle.std.specs.Prelude.{◌≡◌, None, false, true};
 
+use limits::Stop;
 use replay_output::{PrintError, Status};
-use resolver::Stop;
 
 /// What a run met of which its fixed lines say a part, or nothing.
 #[derive(Clone, Copy, Debug, PartialEq, Eq)]

@@ -7,10 +7,10 @@ ghost use Rattle.replay_tasks.specs.Replayed.{IsReplayed, FailsToReplay, written
 
 use crate::met::{Ended, Met, is_unwritten};
 use crate::reached::Reached;
+use limits::MAX_PROXIES;
 use observer::Unobserved;
 use replay_output::{Ending, Options, Status, fail_to_start, print_report};
 use replay_workers::{Gatekeeper, RunOutcome, ShareKeeper, run_observed};
-use resolver::MAX_PROXIES;
 use std::alloc::Global;
 use std::sync::{Arc, Wait};
 use std::thread::Threads;

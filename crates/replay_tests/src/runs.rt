@@ -1,7 +1,7 @@
 //! A run over files in memory, and what it gives.
 
-use flow::WaitingRoom;
 use replay_program::{Gatekeeper, Options, ShareKeeper, Status, replay_over};
+use replay_workers::WaitingRoom;
 use resolver::MAX_PROXIES;
 use std::alloc::{AllocError, Global};
 use std::io::Cursor;

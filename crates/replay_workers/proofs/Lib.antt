@@ -1,6 +1,7 @@
 pub mod callers
 pub mod Serving
 pub mod Working
+pub mod Firsts
 pub mod Watching
 pub mod Runs
 pub mod Seen

@@ -6,7 +6,7 @@ use Rattle.std.proofs.lemmas.Bool.{cases_lt, false≢true}
 use Rattle.std.proofs.lemmas.List.{length_push, take-append-le, take_all, take_min}
 use Rattle.keyspace.specs.Processed.{Processed, version_of}
 use Rattle.keyspace.specs.Run.{Step, Take, Finish, run}
-use Rattle.resolver.specs.declared.stop.Stop.{Stop}
+use Rattle.limits.specs.declared.stop.Stop.{Stop}
 use Rattle.resolver.specs.declared.turn.Turn.{Turn}
 use Rattle.stepmap.specs.StepMap.{AreSteps}
 use Rattle.resolver.specs.Core.{IsIn, RemembersWindow}

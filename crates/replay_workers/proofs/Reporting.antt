@@ -25,8 +25,8 @@ use Rattle.keyspace.specs.declared.batch.TheConstants.{MAX_TXNS}
 use Rattle.keyspace.specs.declared.row.Row.{Row}
 use Rattle.keyspace.specs.declared.span.Span.{Span}
 use Rattle.keyspace.specs.declared.txn.Txn.{Txn}
-use Rattle.keyspace.specs.Fields.{TxnFields, TxnLimits, txn_fields}
-use Rattle.keyspace.specs.Tables.{AreRows, AreTables, txn_of_row, txns_from, txns_of_tables}
+use Rattle.keyspace.specs.storage.Fields.{TxnFields, TxnLimits, txn_fields}
+use Rattle.keyspace.specs.storage.Tables.{AreRows, AreTables, txn_of_row, txns_from, txns_of_tables}
 use Rattle.replay_workers.specs.Asking.{asking_row}
 use Rattle.replay_workers.specs.Reporting.{asking}
 

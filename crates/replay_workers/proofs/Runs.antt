@@ -18,7 +18,7 @@ use Rattle.replay_output.specs.declared.options.Options.{Options}
 use Rattle.replay_workers.specs.declared.outcome.RunOutcome.{RunOutcome}
 use Rattle.replay_workers.specs.declared.threads.Worked.{Worked}
 use Rattle.replay_workers.specs.declared.worker.Finished.{Finished}
-use Rattle.replay_workers.specs.Batches.{EndsWith}
+use Rattle.wire.specs.Batches.{EndsWith}
 use Rattle.replay_workers.specs.Worker.{HasWorkedOver}
 use Rattle.replay_workers.specs.Threads.{given_each, finished_of, streams_of, HasWorkedOn, IsOutcomeOf, failure_of}
 use Rattle.replay_workers.specs.Run.{EndsAt, IsServedOver, LeavesBatchOver, IsRunOver, is_complete}

@@ -18,7 +18,7 @@ use Rattle.resolver.specs.Settled.{SettledFor}
 use Rattle.replay_output.specs.declared.options.style.Style.{Style}
 use Rattle.replay_workers.specs.declared.worker.Finished.{Finished}
 use Rattle.replay_output.specs.Line.{answers_of}
-use Rattle.replay_workers.specs.Batches.{GivesEach}
+use Rattle.wire.specs.Batches.{GivesEach}
 use Rattle.replay_workers.specs.Worker.{HasWorkedOver, LeavesLane}
 use Rattle.replay_workers.specs.Threads.{failure_of}
 use Rattle.replay_workers.specs.Run.{IsServedOver}

@@ -4,7 +4,7 @@ use Rattle.std.proofs.Common.{set, sym, ◌∙◌, ap, inl, inr, arith, length-s
 use Rattle.std.proofs.lemmas.Bool.{false≢true}
 use Rattle.std.proofs.lemmas.List.{set-get_or}
 use Rattle.std.proofs.lemmas.Option.{get_or_from_slice_get, slice_get-get_or}
-use Rattle.flow.specs.declared.reported_state.ReportedState.{ReportedState}
+use Rattle.replay_workers.specs.declared.shares.reported_state.ReportedState.{ReportedState}
 
 module _ {X : Type 0} where
   written : (now : List X) (place : ℕ) (x : X) → place < length now → slice_get (set now place x) place ≡ Some x

@@ -1,11 +1,12 @@
 -- What each worker was given, and what it handed back.
-use Rattle.std.specs.Prelude.{◌≡◌, ℕ, zero, suc, ◌+◌, ◌<◌, Bool, true, false, List, [], ◌∷◌, ◌++◌, length, map, Option, Some, None, slice_get}
+use Rattle.std.specs.Prelude.{◌≡◌, ℕ, zero, suc, ◌+◌, Bool, true, false, List, [], ◌∷◌, ◌++◌, length, map, Option, Some, None, slice_get}
 use Rattle.std.specs.List.{All, AllZip}
 use Rattle.std.proofs.Common.{refl, sym, ap, subst, ◌∙◌, arith}
 use Rattle.std.proofs.lemmas.Bool.{false≢true}
 use Rattle.std.proofs.lemmas.List.{length-map, map-append}
 use Rattle.std.proofs.lemmas.List.Elements.{All-nil, All-cons, All-head, All-tail, All-push}
 use Rattle.std.proofs.lemmas.Option.{none-some, same_Some, get_or_from_slice_get}
+use Rattle.keys.proofs.callers.Lists.{some_at}
 use Rattle.keyspace.specs.declared.batch.Batch.{Batch}
 use Rattle.lane.specs.Lane.{HasEnded}
 use Rattle.wire.specs.declared.error.WireError.{WireError}
@@ -16,7 +17,7 @@ use Rattle.replay_workers.specs.declared.outcome.RunOutcome.{RunOutcome}
 use Rattle.replay_workers.specs.declared.threads.StartedWorkers.{StartedWorkers}
 use Rattle.replay_workers.specs.declared.worker.Finished.{Finished}
 use Rattle.replay_workers.specs.declared.threads.Worked.{Worked}
-use Rattle.replay_workers.specs.Batches.{EndsWith}
+use Rattle.wire.specs.Batches.{EndsWith}
 use Rattle.replay_workers.specs.Worker.{HasWorkedOver, ClientContinues}
 use Rattle.replay_workers.specs.Threads.{Given, finished_of, given_each, given_to, HasWorkedOn, ReturnsBatch, IsOutcomeOf, failure_of}
 use Rattle.replay_workers.specs.Run.{HasCapacity}
@@ -80,11 +81,6 @@ pub started_count : {B : Type 0} (style : Style) (share : ℕ) (clients : List C
 started_count style share clients streams workers same given =
     sym (length-map workers given_to) ∙ ap length given ∙ given_count style share 0 clients streams same ∙ sym same
 
-at_place : {X : Type 0} (xs : List X) (place : ℕ) → place < length xs → (x : X) × (slice_get xs place ≡ Some x)
-at_place [] place inside = absurd (omega (arith, inside))
-at_place (x ∷ xs) zero inside = (x, refl)
-at_place (x ∷ xs) (suc place) inside = at_place xs place (omega (arith, inside))
-
 -- new clients that were handed back have the capacity of their lanes
 pub capacities : (capacity : ℕ) (clients back : List Client) → All (IsNewClient capacity) clients
     → AllZip ClientContinues clients back → All (HasCapacity capacity) back
@@ -102,8 +98,8 @@ capacities capacity (c ∷ clients) (b ∷ back) new goes =
 pub capacities_stay : (capacity : ℕ) (old new : List Client) → SameClients old new → All (HasCapacity capacity) old
     → All (HasCapacity capacity) new
 capacities_stay capacity old new same all place d inside =
-    let c = at_place old place (omega (arith, inside, same.count)) in
-    let e = at_place new place inside in
+    let c = some_at old place (omega (arith, inside, same.count)) in
+    let e = some_at new place inside in
     let has : HasCapacity capacity c.0 =
     subst (HasCapacity capacity) (get_or_from_slice_get old place c.0 d c.1) (all place d (omega (arith, inside, same.count))) in
     let goes = same.each place c.0 e.0 c.1 e.1 in

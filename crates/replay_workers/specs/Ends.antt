@@ -2,8 +2,8 @@
 use Rattle.std.specs.Prelude.{◌≡◌, ℕ, ◌<◌, length}
 use Rattle.keyspace.specs.declared.batch.Batch.{Batch}
 use Rattle.keyspace.specs.declared.answer.Answer.{Answer}
-use Rattle.flow.specs.declared.reported_state.Stand.{Stand}
-use Rattle.flow.specs.Share.{unanswered}
+use Rattle.replay_workers.specs.declared.shares.reported_state.Stand.{Stand}
+use Rattle.replay_workers.specs.Share.{unanswered}
 use Rattle.lane.specs.Lane.{PortView, IntakeView, PortContinues, IntakeContinues}
 use Rattle.replay_workers.specs.declared.ends.Ends.{Ends}
 

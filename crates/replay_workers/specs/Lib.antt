@@ -1,5 +1,7 @@
 -- In reading order.
-pub mod Batches
+pub mod Share
+pub mod NextAdmitted
+pub mod PlaceWords
 pub mod Ends
 pub mod Inbox
 pub mod Worker

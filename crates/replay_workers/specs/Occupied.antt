@@ -7,7 +7,7 @@ use Rattle.keyspace.specs.Writes.{writes}
 use Rattle.stepmap.specs.StepMap.{AreSteps}
 use Rattle.conflict.specs.ConflictSet.{SetState, Remembers}
 use Rattle.replay_summary.specs.declared.occupancy.Occupancy.{Occupancy}
-use Rattle.resolver.specs.declared.stop.Stop.{Stop}
+use Rattle.limits.specs.declared.stop.Stop.{Stop}
 use Rattle.resolver.specs.Observed.{HasSeen}
 use Rattle.resolver.specs.Resolver.{ResolverState, StandsOver}
 use Rattle.replay_workers.specs.Stops.{IsStopOf}

@@ -10,8 +10,8 @@ use Rattle.wire.specs.declared.error.WireError.{WireError}
 use Rattle.wire.specs.NextFrame.{TakesFrame}
 use Rattle.replay_output.specs.declared.options.reports.Reports.{Reports}
 use Rattle.replay_output.specs.declared.options.reports.Reports.TheVariants.{Asked, All}
-use Rattle.replay_workers.specs.Batches.{GivesEach}
-use Rattle.replay_workers.specs.Worker.{IsFaultAt, SendsBatches}
+use Rattle.wire.specs.Batches.{GivesEach, IsFaultAt}
+use Rattle.replay_workers.specs.Worker.{SendsBatches}
 
 -- the same transaction, which asks for its report
 abbrev pub asking : Txn → Txn

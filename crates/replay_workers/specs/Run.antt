@@ -13,7 +13,7 @@ use Rattle.lane.specs.declared.port.TheConstants.{MAX_SENT}
 use Rattle.wire.specs.declared.error.WireError.{WireError}
 use Rattle.wire.specs.declared.error.WireError.TheVariants as wire
 use Rattle.resolver.specs.declared.client.Client.{Client}
-use Rattle.resolver.specs.declared.stop.Stop.{Stop}
+use Rattle.limits.specs.declared.stop.Stop.{Stop}
 use Rattle.resolver.specs.declared.turn.Account.{Account}
 use Rattle.resolver.specs.Core.{IsPrefix}
 use Rattle.resolver.specs.Observed.{HasSeen}
@@ -28,9 +28,8 @@ use Rattle.replay_workers.specs.declared.outcome.RunOutcome.{RunOutcome}
 use Rattle.replay_output.specs.Line.{answers_of, IsLineOf}
 use Rattle.replay_workers.specs.Occupied.{IsOccupancyOf}
 use Rattle.replay_workers.specs.Stops.{IsStopOf}
-use Rattle.replay_workers.specs.Batches.{GivesEach, EndsWith}
+use Rattle.wire.specs.Batches.{GivesEach, EndsWith, IsFaultAt}
 use Rattle.replay_workers.specs.Reporting.{TakesResolved}
-use Rattle.replay_workers.specs.Worker.{IsFaultAt}
 
 -- every answer was taken, and every batch that was read was sent
 abbrev pub is_complete : RunOutcome → Account → Bool

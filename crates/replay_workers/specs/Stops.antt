@@ -8,8 +8,8 @@ use Rattle.keyspace.specs.Run.{Step, Take, State, run, process, admit, leave}
 use Rattle.keyspace.specs.Writes.{writes}
 use Rattle.chain.specs.declared.gate.TheConstants.{MAX_HELD}
 use Rattle.conflict.specs.ConflictSet.{IsOverLimit}
-use Rattle.resolver.specs.declared.stop.Stop.{Stop}
-use Rattle.resolver.specs.declared.stop.Stop.TheVariants as resolver
+use Rattle.limits.specs.declared.stop.Stop.{Stop}
+use Rattle.limits.specs.declared.stop.Stop.TheVariants as resolver
 use Rattle.resolver.specs.Resolver.{ResolverState, StandsOver}
 
 -- the last step of the log takes a batch

@@ -12,7 +12,7 @@ use Rattle.replay_workers.specs.declared.threads.WorkerTask.{WorkerTask}
 use Rattle.replay_workers.specs.declared.threads.Work.{Work}
 use Rattle.replay_workers.specs.declared.threads.StartedWorkers.{StartedWorkers}
 use Rattle.replay_workers.specs.declared.threads.Worked.{Worked}
-use Rattle.replay_workers.specs.Batches.{EndsWith}
+use Rattle.wire.specs.Batches.{EndsWith}
 use Rattle.replay_workers.specs.Worker.{HasWorkedOver}
 
 -- the task of a worker

@@ -1,6 +1,6 @@
 -- What a look at all proxies finds. This project's own.
 use Rattle.std.specs.Prelude.{◌≡◌, ℕ, ◌<◌, List, length, slice_index}
-use Rattle.flow.specs.declared.reported_state.ReportedState.{ReportedState}
+use Rattle.replay_workers.specs.declared.shares.reported_state.ReportedState.{ReportedState}
 use Rattle.resolver.specs.Lanes.{Lanes, sent_to}
 
 -- of each proxy, at its number, what it has told, and how many answers were sent to it

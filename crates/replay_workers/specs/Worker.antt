@@ -7,7 +7,8 @@ use Rattle.lane.specs.declared.port.TheConstants.{MAX_SENT}
 use Rattle.lane.specs.Lane.{PortView, IntakeView, PortContinues, IntakeContinues, HasEnded}
 use Rattle.wire.specs.declared.error.WireError.{WireError}
 use Rattle.wire.specs.declared.error.WireError.TheVariants as wire
-use Rattle.wire.specs.NextFrame.{TakesFrame, IsFaultOf}
+use Rattle.wire.specs.NextFrame.{TakesFrame}
+use Rattle.wire.specs.Batches.{GivesEach, IsFaultAt}
 use Rattle.resolver.specs.declared.client.Client.{Client}
 use Rattle.replay_output.specs.declared.options.style.Style.{Style}
 use Rattle.replay_workers.specs.declared.worker.Assignment.{Assignment}
@@ -16,7 +17,6 @@ use Rattle.replay_workers.specs.declared.worker.FileEnd.{FileEnd}
 use Rattle.replay_workers.specs.declared.worker.FileEnd.TheVariants.{Reached, Fault, Leaves}
 use Rattle.replay_workers.specs.declared.worker.Leftover.{Leftover}
 use Rattle.replay_workers.specs.declared.worker.Leftover.TheVariants.{CutShort, Worn}
-use Rattle.replay_workers.specs.Batches.{GivesEach}
 use Rattle.replay_workers.specs.Inbox.{KeepsLines}
 
 -- the same client later: its ends are of the same lanes
@@ -49,10 +49,6 @@ abbrev pub is_cut_short : FileEnd → Bool
 is_cut_short Reached = false
 is_cut_short (Fault e) = false
 is_cut_short (Leaves leftover) = was_cut_short leftover
-
--- the bytes left begin with this fault, if the reader reports them
-abbrev pub IsFaultAt : Option (List ℕ) → WireError → Type 0
-IsFaultAt left e = IfSome left (IsFaultOf e)
 
 module _ {X : Type 0} (Gives : X → X → Batch → Type 0) (IsEnd : X → Type 0) (IsFault : X → WireError → Type 0) where
   -- What was sent before, and then the batches that a stream in this state gives, in order, is what is sent now. The batch given last may

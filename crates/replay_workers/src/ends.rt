@@ -8,8 +8,8 @@ ghost use Rattle.lane.specs.Refused.{item_of};
 ghost use Rattle.lane.specs.Taken.{items_of, IfEnd};
 
 use crate::gatekeeper::ShareKeeper;
+use crate::shares::{Stand, is_below_share};
 use crate::worker::Assignment;
-use flow::{Stand, is_below_share};
 use keyspace::{Answer, Batch};
 use lane::{Intake, Port, Refused, Taken};
 use resolver::Client;

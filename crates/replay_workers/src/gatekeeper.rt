@@ -1,9 +1,9 @@
 //! When a worker may send.
 
 ghost use Rattle.std.specs.Prelude.{◌≡◌, ℕ, IsTrue};
-ghost use Rattle.flow.specs.declared.reported_state.Stand.{Stand as StandValue};
+ghost use Rattle.replay_workers.specs.declared.shares.reported_state.Stand.{Stand as StandValue};
 
-use flow::{ReportedState, Stand, WaitingRoom};
+use crate::shares::{ReportedState, Stand, WaitingRoom};
 
 /// Says when workers may send their batches. A test holds workers back through another one.
 ///

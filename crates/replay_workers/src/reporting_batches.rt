@@ -6,12 +6,11 @@ ghost use Rattle.std.specs.List.{All};
 ghost use Rattle.replay_output.specs.declared.options.reports.Reports.TheVariants as reports;
 ghost use Rattle.replay_workers.specs.Asking.{asking_reader, asking_refusal, asking_row};
 ghost use Rattle.replay_workers.specs.Reporting.{TakesResolved, all_asking};
-ghost use Rattle.replay_workers.specs.Worker.{IsFaultAt};
+ghost use Rattle.wire.specs.Batches.{IsFaultAt};
 
-use crate::batches::Batches;
 use keyspace::{Batch, Row, UnorderedBatch};
 use std::alloc::{AllocError, Global};
-use wire::{Frames, Source, WireError, read_frames};
+use wire::{Batches, Frames, Source, WireError, read_frames};
 
 /// Iterates over the batches of a reader, frame after frame. All their transactions ask for their
 /// reports, whether or not they do so in the frame.

@@ -5,12 +5,11 @@ ghost use Rattle.std.specs.Prelude.{None};
 ghost use Rattle.std.specs.List.{All, AllZip};
 ghost use Rattle.resolver.specs.Share.{share_of};
 ghost use Rattle.replay_workers.specs.declared.threads.Worked.{Worked as ReturnedWorker};
-ghost use Rattle.replay_workers.specs.Batches.{EndsWith};
+ghost use Rattle.wire.specs.Batches.{EndsWith};
 ghost use Rattle.replay_workers.specs.Worker.{HasWorkedOver};
 ghost use Rattle.replay_workers.specs.Threads.{given_each, given_by, given_to, HasWorkedOn};
 ghost use Rattle.replay_workers.specs.Threads.{IsOutcomeOf, finished_of, streams_of};
 
-use crate::batches::Batches;
 use crate::gatekeeper::{Gatekeeper, ShareKeeper};
 use crate::outcome::RunOutcome;
 use crate::worker::{Assignment, Finished, work_over};
@@ -21,6 +20,7 @@ use std::snapshot::Snapshot;
 use std::sync::{Arc, Wait};
 use std::thread;
 use std::thread::{Promise, PromisedHandle, Threads};
+use wire::Batches;
 
 /// What a worker returns, and the stream that it was given.
 #[derive(Drop)]

@@ -2,11 +2,11 @@
 
 ghost use Rattle.std.specs.Prelude.{◌≡◌, ◌<◌, ◌↔◌, All, length, slice_get, slice_set, IfOk, IfSome};
 ghost use Rattle.std.specs.Prelude.{IsTrue, None, Some};
-ghost use Rattle.flow.specs.Next.{AllWait, IsNext, NoneStands};
+ghost use Rattle.replay_workers.specs.NextAdmitted.{AllWait, IsNext, NoneStands};
 ghost use Rattle.replay_workers.specs.Watch.{SeesSent};
 
 use crate::gatekeeper::ShareKeeper;
-use flow::{ReportedState, next_admitted};
+use crate::shares::{ReportedState, next_admitted};
 use resolver::Resolver;
 use std::alloc::{AllocError, Global};
 use std::marker::Model;

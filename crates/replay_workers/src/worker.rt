@@ -6,7 +6,7 @@ ghost use Rattle.std.specs.Prelude.{None, Some, Err, OnOk, OnErr, IfErr};
 ghost use Rattle.lane.specs.declared.port.TheConstants.{MAX_SENT};
 ghost use Rattle.lane.specs.Lane.{HasEnded};
 ghost use Rattle.lane.specs.Refused.{item_of};
-ghost use Rattle.replay_workers.specs.Batches.{EndsWith};
+ghost use Rattle.wire.specs.Batches.{EndsWith};
 ghost use Rattle.replay_workers.specs.Ends.{EndsContinue};
 ghost use Rattle.replay_workers.specs.Inbox.{Keeps, InboxContinues};
 ghost use Rattle.replay_workers.specs.Worker.{HasWorked, HasWorkedOver, IsWithinShare};
@@ -14,7 +14,6 @@ ghost use Rattle.replay_workers.specs.Worker.{CannotSend, SendsBatches};
 ghost use Rattle.replay_workers.specs.Worker.{IfLeaves, LeavesLane, batch_of, fault_of};
 ghost use Rattle.replay_workers.specs.Worker.{is_cut_short, unsent_of};
 
-use crate::batches::Batches;
 use crate::ends::MostUnanswered;
 use crate::gatekeeper::{Gatekeeper, ShareKeeper};
 use crate::inbox::Inbox;
@@ -25,7 +24,7 @@ use replay_output::{Line, Style};
 use resolver::Client;
 use std::alloc::Global;
 use std::sync::Wait;
-use wire::{Source, WireError, read_frames};
+use wire::{Batches, Source, WireError, read_frames};
 
 /// What a worker is assigned.
 #[derive(Clone, Copy, Debug, PartialEq, Eq)]

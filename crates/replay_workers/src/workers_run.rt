@@ -3,8 +3,8 @@
 ghost use Rattle.std.specs.Prelude.{◌≡◌, ℕ, ◌≤◌, true, length, map, vec_items, vec_len, Some};
 ghost use Rattle.std.specs.Prelude.{[], None, slice_get, IfOk};
 ghost use Rattle.std.specs.List.{All};
-ghost use Rattle.flow.specs.Next.{AllWait, IsNext};
-ghost use Rattle.resolver.specs.declared.resolver_core.TheConstants.{MAX_PROXIES};
+ghost use Rattle.replay_workers.specs.NextAdmitted.{AllWait, IsNext};
+ghost use Rattle.limits.specs.declared.settings.TheConstants.{MAX_PROXIES};
 ghost use Rattle.resolver.specs.Core.{Continues};
 ghost use Rattle.resolver.specs.Lanes.{Lanes, Each, LanesContinue};
 ghost use Rattle.resolver.specs.Resolver.{IsResolving, IsThrough, StandsOver};
@@ -15,21 +15,22 @@ ghost use Rattle.replay_workers.specs.Run.{IsMeasuredRun, IsMeasuredRunOver, IsO
 ghost use Rattle.replay_workers.specs.Run.{IsObservedRunOver, IsRun, IsRunOver};
 ghost use Rattle.replay_workers.specs.Stops.{IsAccountedFor};
 
-use crate::batches::{Batches, frames_each};
 use crate::gatekeeper::{Gatekeeper, ShareKeeper};
+use crate::opening::open_resolver;
 use crate::outcome::RunOutcome;
 use crate::reporting_batches::asking_each;
 use crate::threads::{join_all, start_workers};
 use crate::watch::Watch;
+use limits::Stop;
 use observer::{Observer, Unobserved};
 use replay_output::{Options, Reports, StartError};
 use replay_summary::Occupancy;
-use resolver::{Account, Resolver, Stop, Turn, open};
+use resolver::{Account, Resolver, Turn};
 use std::alloc::Global;
 use std::sync::{Arc, Wait};
 use std::thread;
 use std::thread::Threads;
-use wire::Source;
+use wire::{Batches, Source, frames_each};
 
 /// Runs the workers of these readers, as [`run_observed`] does, and shows the batches to nobody.
 ///
@@ -150,18 +151,11 @@ pub fn run_over<
     ensures setting { O.setting observer.new ≡ O.setting observer.old }
 {
     let proxies = streams.len();
-    let Options {
-        capacity,
-        window,
-        limit,
-        style,
-        ..
-    } = options;
     let outcome = RunOutcome::with_room(alloc, proxies)?;
     let ended = Vec::with_capacity(alloc, proxies)?;
     let mut watch = Watch::new(alloc, proxies)?;
-    let (mut resolver, clients) = open(alloc, proxies, capacity, window, limit)?;
-    let workers = start_workers(rt, alloc, style, streams, clients, gatekeeper)?;
+    let (mut resolver, clients) = open_resolver(alloc, proxies, options)?;
+    let workers = start_workers(rt, alloc, options.style, streams, clients, gatekeeper)?;
     let occupancy = turn_to_end(rt, &mut resolver, &**gatekeeper, &mut watch, observer);
     let (mut outcome, ended) = join_all(rt, workers, outcome, ended);
     outcome.occupancy = occupancy;

@@ -15,7 +15,7 @@ use Rattle.keyspace.specs.Laws.{RunsAreChains, EachBatchIsAnswered, NoneIsHeldAf
 use Rattle.serial.specs.Serial.{ChainsAreSerializable}
 use Rattle.serial.specs.Replies.{IsSent, IsCommittedAt, ReportsCommitted, AnswersReportVerdicts}
 use Rattle.lane.specs.Lane.{Lane, HasEnded}
-use Rattle.resolver.specs.declared.stop.Stop.{Stop}
+use Rattle.limits.specs.declared.stop.Stop.{Stop}
 use Rattle.resolver.specs.declared.turn.Account.{Account}
 use Rattle.resolver.specs.declared.client.Client.{Client}
 use Rattle.resolver.specs.Owed.{owed_to, owed_count}

@@ -4,7 +4,7 @@ use Rattle.std.specs.Prelude.{ℤ}
 use Rattle.std.proofs.lemmas.List.{same_from_push}
 use Rattle.keyspace.specs.Processed.{Processed}
 use Rattle.keyspace.specs.Run.{State, Step, step, run}
-use Rattle.resolver.specs.declared.stop.Stop.{Stop}
+use Rattle.limits.specs.declared.stop.Stop.{Stop}
 use Rattle.resolver.specs.Core.{IsPrefix}
 use Rattle.resolver.specs.Observed.{HasSeenBetween, HasSeen}
 use Rattle.resolver.proofs.Growing.{Grows, begins_itself, begins_then, grows_itself, grows_step}

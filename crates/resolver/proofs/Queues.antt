@@ -35,7 +35,7 @@ use Rattle.std.proofs.lemmas.List.{
 }
 use Rattle.std.proofs.lemmas.List.Sums.{sum_by-set}
 use Rattle.keyspace.specs.declared.answer.Answer.{Answer}
-use Rattle.resolver.specs.declared.resolver_core.TheConstants.{MAX_PROXIES}
+use Rattle.limits.specs.declared.settings.TheConstants.{MAX_PROXIES}
 use Rattle.resolver.specs.Owed.{
   owed_to,
   owed_also,

@@ -2,7 +2,7 @@
 use Rattle.std.proofs.Common.{◌≡◌, ℕ, length, List, [], ◌∷◌, ◌++◌, Option, Some, None, refl, sym, ap, subst, ◌∙◌, inl, inr}
 use Rattle.std.specs.Prelude.{ℤ, ◌⊎◌, IsSome}
 use Rattle.keyspace.specs.Run.{Step, Take, Finish}
-use Rattle.resolver.specs.declared.stop.Stop.{Stop}
+use Rattle.limits.specs.declared.stop.Stop.{Stop}
 use Rattle.resolver.specs.Owed.{owed_to}
 use Rattle.resolver.specs.Core.{CoreState}
 use Rattle.resolver.specs.Stands.{Stands}

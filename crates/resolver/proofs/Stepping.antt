@@ -59,7 +59,7 @@ use Rattle.resolver.specs.Lanes.{
   IsLookedThrough,
 }
 use Rattle.resolver.specs.OpeningLog.{log_from}
-use Rattle.resolver.specs.declared.stop.Stop.{Stop}
+use Rattle.limits.specs.declared.stop.Stop.{Stop}
 use Rattle.resolver.specs.Resolver.{ResolverState, StandsOverFrom, TakesFrom, Finishes, TakesNoStep, IsThrough}
 use Rattle.resolver.specs.Turns.{TurnSteps}
 use Rattle.resolver.specs.Observed.{HasSeen, ObservesStep}

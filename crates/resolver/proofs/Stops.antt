@@ -5,9 +5,9 @@ use Rattle.std.proofs.lemmas.Bool.{false≢true}
 use Rattle.std.proofs.lemmas.Result.{err_from_is_err_and}
 use Rattle.conflict.specs.declared.error.SetStop.{SetStop}
 use Rattle.conflict.specs.declared.error.SetStop.TheVariants as set
-use Rattle.resolver.specs.declared.stop.Stop.{Stop}
-use Rattle.resolver.specs.declared.stop.Stop.TheVariants.{Memory, GateFull, ArenaFull}
-use Rattle.resolver.specs.Stop.{stop_at_set}
+use Rattle.limits.specs.declared.stop.Stop.{Stop}
+use Rattle.limits.specs.declared.stop.Stop.TheVariants.{Memory, GateFull, ArenaFull}
+use Rattle.conflict.specs.Stop.{stop_at_set}
 
 -- the resolver says that the limit is exceeded only if its conflict set does
 pub set_is_full : (stop : SetStop) → stop_at_set stop ≡ ArenaFull → stop ≡ set.ArenaFull

@@ -19,7 +19,7 @@ use Rattle.resolver.specs.OpeningLog.{log_from}
 use Rattle.resolver.specs.Observed.{HasSeen, Observes, ObservesStep}
 use Rattle.resolver.specs.declared.turn.Turn.{Turn}
 use Rattle.resolver.specs.declared.turn.Turn.TheVariants as turn
-use Rattle.resolver.specs.declared.stop.Stop.{Stop}
+use Rattle.limits.specs.declared.stop.Stop.{Stop}
 use Rattle.resolver.specs.Parts.{Parts, AreParts, resolver_of}
 use Rattle.resolver.proofs.AtIndex.{field_same, both_at, lanes_at}
 use Rattle.resolver.proofs.DeliveryStep.{IsDelivery, list_all-same}

@@ -6,7 +6,7 @@ use Rattle.std.proofs.lemmas.List.{length-map}
 use Rattle.keyspace.specs.declared.answer.Answer.{Answer}
 use Rattle.lane.specs.Lane.{Lane, HasEnded}
 use Rattle.resolver.specs.declared.client.Client.{Client}
-use Rattle.resolver.specs.declared.resolver_core.TheConstants.{MAX_PROXIES}
+use Rattle.limits.specs.declared.settings.TheConstants.{MAX_PROXIES}
 use Rattle.resolver.specs.Owed.{owed_count}
 use Rattle.resolver.specs.Lanes.{Lanes, Each, LanesContinue, AreSameLists, all_ended}
 use Rattle.resolver.specs.Resolver.{IsThrough, SameClients}

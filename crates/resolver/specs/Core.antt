@@ -13,7 +13,7 @@ use Rattle.keyspace.specs.Leaving.{Held, next_due}
 use Rattle.keyspace.specs.Run.{State, process, admit, leave, answers_to}
 use Rattle.chain.specs.Replies.{Kept, reply_of}
 use Rattle.conflict.specs.ConflictSet.{SetState, Remembers, IsOverLimit}
-use Rattle.resolver.specs.declared.stop.Stop.{Stop}
+use Rattle.limits.specs.declared.stop.Stop.{Stop}
 use Rattle.resolver.specs.Owed.{OwedView, owed_to}
 
 -- a core

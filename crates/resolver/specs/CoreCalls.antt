@@ -3,12 +3,10 @@ use Rattle.std.specs.Prelude.{◌≡◌, ◌≢◌, ℕ, ℤ, pos, ◌≤◌, �
 use Rattle.keyspace.specs.declared.batch.Batch.{Batch}
 use Rattle.keyspace.specs.Processed.{Processed}
 use Rattle.keyspace.specs.Run.{State, Step, Take, run}
-use Rattle.stepmap.specs.declared.step_map.TheConstants.{MAX_LIMIT}
-use Rattle.conflict.specs.declared.conflict_set.TheConstants.{MAX_WINDOW}
+use Rattle.limits.specs.declared.settings.TheConstants.{MAX_LIMIT, MAX_PROXIES, MAX_WINDOW}
 use Rattle.chain.specs.declared.gate.TheConstants.{MAX_HELD}
-use Rattle.resolver.specs.declared.resolver_core.TheConstants.{MAX_PROXIES}
-use Rattle.resolver.specs.declared.stop.Stop.{Stop}
-use Rattle.resolver.specs.declared.stop.Stop.TheVariants as stop
+use Rattle.limits.specs.declared.stop.Stop.{Stop}
+use Rattle.limits.specs.declared.stop.Stop.TheVariants as stop
 use Rattle.resolver.specs.Core.{CoreState, Given, IsIn, Continues, MadeBetween, StopsIn, StopsAtLimit}
 use Rattle.resolver.specs.Stands.{Stands}
 use Rattle.resolver.specs.Observed.{HasSeenBetween}

@@ -1,5 +1,4 @@
 -- In the order in which one reads them aloud.
-pub mod Stop
 pub mod Owed
 pub mod Core
 pub mod Stands

@@ -5,7 +5,7 @@ use Rattle.keyspace.specs.declared.batch.Batch.{Batch}
 use Rattle.keyspace.specs.declared.answer.Answer.{Answer}
 use Rattle.lane.specs.Lane.{Lane, IntakeContinues, PortContinues, HasEnded}
 use Rattle.resolver.specs.declared.client.Client.{Client}
-use Rattle.resolver.specs.declared.resolver_core.TheConstants.{MAX_PROXIES}
+use Rattle.limits.specs.declared.settings.TheConstants.{MAX_PROXIES}
 use Rattle.resolver.specs.Core.{CoreState, IsPrefix}
 use Rattle.resolver.specs.Lanes.{Lanes, LanesContinue, AreSameLists, all_ended, IsLookedThrough, IsFull}
 use Rattle.resolver.specs.Resolver.{ResolverState, IsThrough, SameClient, AreClients, IsNewClient}

@@ -15,7 +15,7 @@ use Rattle.std.specs.Prelude.{
 }
 use Rattle.keyspace.specs.declared.answer.Answer.{Answer}
 use Rattle.keyspace.specs.Run.{Step, run}
-use Rattle.resolver.specs.declared.stop.Stop.{Stop}
+use Rattle.limits.specs.declared.stop.Stop.{Stop}
 use Rattle.resolver.specs.Core.{CoreState, Given, IsIn, MadeBetween}
 
 -- A stop was met in the last step of the log. All answers of the steps before it were made, and no others than those of

@@ -3,8 +3,8 @@ use Rattle.std.specs.Prelude.{◌≡◌, ◌≢◌, ℕ, ℤ, ◌+◌, ◌<◌, 
 use Rattle.std.specs.Prelude.{Result, Ok, Err, IsOk, IfOk, IfErr, OnOk, IfSome, IfNone, IsSome, slice_get}
 use Rattle.keyspace.specs.Run.{Step, run}
 use Rattle.chain.specs.declared.gate.TheConstants.{MAX_HELD}
-use Rattle.resolver.specs.declared.stop.Stop.{Stop}
-use Rattle.resolver.specs.declared.stop.Stop.TheVariants.{GateFull, ArenaFull}
+use Rattle.limits.specs.declared.stop.Stop.{Stop}
+use Rattle.limits.specs.declared.stop.Stop.TheVariants.{GateFull, ArenaFull}
 use Rattle.resolver.specs.declared.turn.Turn.{Turn}
 use Rattle.resolver.specs.declared.turn.Turn.TheVariants as turn
 use Rattle.resolver.specs.Owed.{owed_to, owed_count}

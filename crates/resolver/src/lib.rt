@@ -24,20 +24,21 @@
 mod all_lanes;
 mod client;
 pub mod laws;
+mod open_error;
 mod owed;
 mod proxy_lanes;
 mod resolver;
 mod resolver_core;
 mod resolver_opening;
 mod shares;
-mod stop;
 mod turn;
 
 pub use client::Client;
+pub use limits::{MAX_PROXIES, Stop};
 pub use observer::{Observer, Unobserved};
+pub use open_error::OpenError;
 pub use resolver::Resolver;
-pub use resolver_core::{Core, MAX_PROXIES};
+pub use resolver_core::Core;
 pub use resolver_opening::{open, open_at};
 pub use shares::share;
-pub use stop::{OpenError, Stop};
 pub use turn::{Account, Turn};

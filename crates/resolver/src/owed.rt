@@ -4,10 +4,10 @@ ghost use Rattle.std.specs.Prelude.{◌≡◌, ◌+◌, ◌^◌, ◌<◌, ◌↔
 ghost use Rattle.std.specs.Prelude.{IfOk, OnOk, IfNone, IfSome};
 ghost use Rattle.std.specs.Prelude.{IsTrue, option_to_list};
 ghost use Rattle.resolver.specs.Owed.{owed_to, owed_also, given_oldest, owed_count, HasRoomFor};
-ghost use Rattle.resolver.specs.declared.resolver_core.TheConstants.{MAX_PROXIES};
+ghost use Rattle.limits.specs.declared.settings.TheConstants.{MAX_PROXIES};
 
-use crate::resolver_core::MAX_PROXIES;
 use keyspace::Answer;
+use limits::MAX_PROXIES;
 use std::alloc::{AllocError, Global};
 use std::collections::VecDeque;
 use std::marker::Model;

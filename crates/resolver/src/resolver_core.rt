@@ -4,6 +4,7 @@ ghost use Rattle.std.specs.Prelude.{◌≡◌, ◌≢◌, ◌<◌, ◌≤◌, �
 ghost use Rattle.std.specs.Prelude.{◌∷◌, ◌++◌, length};
 ghost use Rattle.std.specs.Prelude.{Some, None, Err};
 ghost use Rattle.std.specs.Prelude.{◌+◌, ◌^◌, IfOk, IfErr, IfSome, IsTrue, option_to_list};
+ghost use Rattle.limits.specs.declared.settings.TheConstants.{MAX_PROXIES};
 ghost use Rattle.keyspace.specs.Run.{Step, Take, Finish, run};
 ghost use Rattle.resolver.specs.Owed.{owed_to, given_oldest, owed_count};
 ghost use Rattle.resolver.specs.Core.{Given, IsCore};
@@ -15,20 +16,16 @@ ghost use Rattle.resolver.specs.OpeningLog.{opening_log};
 mod core_answers;
 mod opened;
 
+use crate::open_error::OpenError;
 use crate::owed::Owed;
-use crate::stop::{OpenError, Stop};
 use chain::{Gate, Replies};
 use conflict::ConflictSet;
 use keyspace::{Answer, Batch};
+use limits::Stop;
 use observer::{Observer, Unobserved};
 use opened::replies_at;
 use std::alloc::Global;
 use std::marker::Model;
-
-/// The greatest number of proxies: this project's own.
-pub const MAX_PROXIES: usize = 64;
-
-const _: () = prove!(MAX_PROXIES == 64);
 
 /// The resolver over values: `Resolver` of FoundationDB 7.1, without its network. It takes batches
 /// one after another, and owes each proxy the answers of the reference resolver.

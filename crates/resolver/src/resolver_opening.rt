@@ -1,17 +1,18 @@
 //! The opening of a resolver and its clients.
 
 ghost use Rattle.std.specs.Prelude.{◌≡◌, ◌≢◌, ◌≤◌, ◌≤ℤ◌, ◌<◌, ◌↔◌, pos, negsuc, IfOk, Err};
-ghost use Rattle.lane.specs.declared.ends.TheConstants.{MAX_CAPACITY};
+ghost use Rattle.limits.specs.declared.settings.TheConstants.{MAX_CAPACITY};
 ghost use Rattle.resolver.specs.CoreCalls.{AreSettings};
 ghost use Rattle.resolver.specs.Opens.{Opens};
 ghost use Rattle.resolver.specs.Parts.{AreConnected};
 
 use crate::client::Client;
+use crate::open_error::OpenError;
 use crate::proxy_lanes::ProxyLanes;
 use crate::resolver::Resolver;
 use crate::resolver_core::Core;
-use crate::stop::{OpenError, Stop};
-use lane::{MAX_CAPACITY, lane};
+use lane::lane;
+use limits::{MAX_CAPACITY, Stop};
 use std::alloc::Global;
 
 /// Opens a resolver for this number of proxies, and a client for each, at its number. A lane holds

@@ -2,7 +2,7 @@
 
 ghost use Rattle.std.specs.Prelude.{◌≡◌, ◌↔◌, true, None};
 
-use crate::stop::Stop;
+use limits::Stop;
 
 /// What a turn of the resolver did.
 #[derive(Clone, Copy, Debug, PartialEq, Eq)]

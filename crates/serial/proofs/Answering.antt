@@ -33,6 +33,7 @@ use Rattle.std.specs.Prelude.{◌==◌, Some, map, filter, slice_get, IsSomeAnd,
 use Rattle.std.proofs.lemmas.Bool.{eqb-true, eq-eqb, false≢true}
 use Rattle.std.proofs.lemmas.Option.{slice_get_within}
 use Rattle.std.proofs.lemmas.List.Elements.{All-nil, All-cons, All-head, All-tail, All-contains, Contains-append_right}
+use Rattle.keys.proofs.callers.Lists.{some_at}
 use Rattle.keyspace.specs.declared.batch.Batch.{Batch}
 use Rattle.keyspace.specs.declared.reply.Entry.{Entry}
 use Rattle.keyspace.specs.declared.reply.Reply.{Reply}
@@ -55,12 +56,6 @@ first_or_other : {X : Type 0} (y : X) (ys : List X) (x : X) (k : ℕ) → k < le
     → (y ≡ x) ⊎ Contains ys x
 first_or_other y ys x zero inside at = inl at
 first_or_other y ys x (suc k) inside at = inr (k, omega (arith, inside), at)
-
--- at an index inside a list there is an element
-element_at : {X : Type 0} (xs : List X) (k : ℕ) → k < length xs → (x : X) × (slice_get xs k ≡ Some x)
-element_at [] k inside = absurd (omega (arith, inside))
-element_at (x ∷ xs) zero inside = (x, refl)
-element_at (x ∷ xs) (suc k) inside = element_at xs k (omega (arith, inside))
 
 -- what holds of all answers, each with its proxy, holds of those to one proxy
 of_proxy : (P : ℕ → Answer → Type 0) (proxy : ℕ) (answered : List (ℕ × Answer))
@@ -181,7 +176,7 @@ module _ (window : ℤ) (log : List Step) (chains : RunsAreChains) where
       let found = the_value IsCommit (slice_get to.entry.reply.entries j) verdict in
       let inside = slice_get_within to.entry.reply.entries j found.0 found.1 in
       let count = (judged to.index to.entry to.there).count in
-      let txn = element_at to.entry.batch.txns j (omega (arith, inside, count)) in
+      let txn = some_at to.entry.batch.txns j (omega (arith, inside, count)) in
       record {
         index = to.index;
         entry = to.entry;

@@ -8,8 +8,8 @@
 //!
 //! A transaction is a plan that changes no key outside its write ranges. Index look-ups, atomic
 //! additions and versionstamps are plans. A reader of keys that it doesn't declare is one too: the
-//! laws then say nothing about its reads, and everything about those of the others. Batches that were answered
-//! `Never` or `Held`, and batches after a stop, are not specified.
+//! laws then say nothing about its reads, and everything about those of the others. Batches that
+//! were answered `Never` or `Held`, and batches after a stop, are not specified.
 #![tactic(auto)]
 
 pub mod laws;

@@ -7,9 +7,9 @@ use Rattle.std.proofs.lemmas.Option.{get_or_from_slice_get, slice_get-get_or, sl
 use Rattle.keys.specs.declared.range.Range.{Range}
 use Rattle.keys.proofs.callers.Lists.{some_at}
 use Rattle.keyspace.specs.declared.span.Span.{Span}
-use Rattle.keyspace.specs.Fields.{RangeFields, range_fields}
-use Rattle.keyspace.specs.Tables.{bytes_at, range_of_span, LiesWithin}
-use Rattle.keyspace.specs.Putting.{ArePut}
+use Rattle.keyspace.specs.storage.Fields.{RangeFields, range_fields}
+use Rattle.keyspace.specs.storage.Tables.{bytes_at, range_of_span, LiesWithin}
+use Rattle.keyspace.specs.storage.Putting.{ArePut}
 use Rattle.keyspace.proofs.callers.Putting.{slice_range-append, put_then}
 use Rattle.serial.specs.Shards.{Shard}
 use Rattle.shards.specs.Clips.{goes_to}

@@ -1,5 +1,5 @@
 -- Tables of a shard with one transaction more, and the reaches of what is left.
-use Rattle.std.proofs.Common.{◌≡◌, ℕ, zero, suc, ◌+◌, ◌≤◌, ◌<◌, List, [], ◌∷◌, ◌++◌, length, map, take, drop, refl, sym, ap, ap₂, ◌∙◌, subst, subst₂, arith}
+use Rattle.std.proofs.Common.{◌≡◌, ℕ, zero, suc, ◌+◌, ◌≤◌, ◌<◌, List, [], ◌∷◌, ◌++◌, length, map, drop, refl, sym, ap, ap₂, ◌∙◌, subst, subst₂, arith}
 use Rattle.std.specs.Prelude.{All, Some, slice_get}
 use Rattle.std.specs.List.{AllZip}
 use Rattle.std.proofs.lemmas.List.{map-append}
@@ -8,10 +8,10 @@ use Rattle.keys.specs.declared.range.Range.{Range}
 use Rattle.keyspace.specs.declared.txn.Txn.{Txn}
 use Rattle.keyspace.specs.declared.span.Span.{Span}
 use Rattle.keyspace.specs.declared.row.Row.{Row}
-use Rattle.keyspace.specs.Fields.{TxnLimits}
-use Rattle.keyspace.specs.Tables.{LiesWithin, txns_of_tables, AreTables}
-use Rattle.keyspace.specs.Putting.{ArePut}
-use Rattle.keyspace.specs.BatchRanges.{ranges_in}
+use Rattle.keyspace.specs.storage.Fields.{TxnLimits}
+use Rattle.keyspace.specs.storage.Tables.{LiesWithin, txns_of_tables, AreTables}
+use Rattle.keyspace.specs.storage.Putting.{ArePut}
+use Rattle.keyspace.specs.storage.BatchRanges.{ranges_in}
 use Rattle.keyspace.proofs.callers.Putting.{txn_put}
 use Rattle.serial.specs.Shards.{Shard}
 use Rattle.shards.specs.Clips.{goes_to, read_indices}
@@ -40,14 +40,6 @@ built_none shard m tables proper bounds no_spans no_rows no_indices no_ends = re
   indices = rw (no_indices, no_ends) (record { ends_fit = refl; below = All-nil (λ index. index < 1024) });
   reads = rw no_ends refl;
 }
-
--- pairs of two lists, those of each
-pub zip_split : {A B : Type 0} (R : A → B → Type 0) (xs ys : List A) (zs : List B) → AllZip R (xs ++ ys) zs
-    → AllZip R xs (take (length xs) zs) × AllZip R ys (drop (length xs) zs)
-zip_split R [] ys zs zipped = (tt, zipped)
-zip_split R (x ∷ xs) ys [] zipped = absurd zipped
-zip_split R (x ∷ xs) ys (z ∷ zs) zipped =
-    let rest = zip_split R xs ys zs zipped.1 in ((zipped.0, rest.0), rest.1)
 
 -- the elements from an index on are the one there and those after it
 pub drop_next : {X : Type 0} (xs : List X) (i : ℕ) (x : X) → slice_get xs i ≡ Some x → drop i xs ≡ x ∷ drop (i + 1) xs

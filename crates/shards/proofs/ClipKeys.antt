@@ -6,7 +6,7 @@ use Rattle.keys.specs.Key.{IsKey, is_before, IsAtMost}
 use Rattle.keys.specs.Range.{IsEmpty}
 use Rattle.keys.proofs.callers.Booleans.{and_left, and_right, true_or_false, not_both_ways}
 use Rattle.keys.proofs.callers.KeyOrder.{before_trans, before_at_most, at_most_trans, before_at_most_same, not_before_itself, not_before_if, before_or_same}
-use Rattle.keyspace.specs.Fields.{RangeFields, range_fields, RangeHolds}
+use Rattle.keyspace.specs.storage.Fields.{RangeFields, range_fields, RangeHolds}
 use Rattle.serial.specs.Shards.{Shard, ends_above, has_key}
 use Rattle.shards.specs.Clips.{goes_to, IsClip}
 use Rattle.shards.specs.Reach.{ends_below}

@@ -6,7 +6,7 @@ use Rattle.std.proofs.lemmas.List.{length-map}
 use Rattle.std.proofs.lemmas.List.Elements.{All-head, All-tail, All-map, All-weaker, filter_passes}
 use Rattle.keys.specs.declared.range.Range.{Range}
 use Rattle.keyspace.specs.declared.txn.Txn.{Txn}
-use Rattle.keyspace.specs.Fields.{TxnFields, range_fields, txn_fields, RangeHolds, TxnLimits}
+use Rattle.keyspace.specs.storage.Fields.{TxnFields, range_fields, txn_fields, RangeHolds, TxnLimits}
 use Rattle.serial.specs.Shards.{Shard}
 use Rattle.shards.specs.Clips.{goes_to, IsClip, AreClips, IsTxnClip}
 use Rattle.shards.specs.Built.{IsProper, clip_fields, clips_of, clip_txn}

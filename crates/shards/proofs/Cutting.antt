@@ -4,8 +4,8 @@ use Rattle.keys.specs.declared.range.Range.{Range}
 use Rattle.keys.specs.Key.{is_before}
 use Rattle.keys.proofs.callers.KeyOrder.{at_most_before, before_at_most_same, before_or_same, not_before_if, not_before_itself}
 use Rattle.keyspace.specs.declared.span.Span.{Span}
-use Rattle.keyspace.specs.Fields.{RangeFields, range_fields}
-use Rattle.keyspace.specs.Tables.{range_of_span, LiesWithin}
+use Rattle.keyspace.specs.storage.Fields.{RangeFields, range_fields}
+use Rattle.keyspace.specs.storage.Tables.{range_of_span, LiesWithin}
 use Rattle.serial.specs.Shards.{Shard, ends_above, has_key}
 use Rattle.shards.specs.Built.{LiesAt, HasBounds, end_or_empty, clip_fields}
 use Rattle.shards.specs.Clips.{goes_to}

@@ -4,8 +4,8 @@ use Rattle.std.specs.Prelude.{Some, slice_get}
 use Rattle.keyspace.specs.declared.txn.Txn.{Txn}
 use Rattle.keyspace.specs.declared.span.Span.{Span}
 use Rattle.keyspace.specs.declared.row.Row.{Row}
-use Rattle.keyspace.specs.Fields.{txn_fields}
-use Rattle.keyspace.specs.Tables.{txn_of_row, txns_from}
+use Rattle.keyspace.specs.storage.Fields.{txn_fields}
+use Rattle.keyspace.specs.storage.Tables.{txn_of_row, txns_from}
 use Rattle.keyspace.proofs.callers.Rows.{rows_rise}
 use Rattle.shards.specs.Built.{AreLeft}
 use Rattle.shards.proofs.BuiltTables.{drop_next}

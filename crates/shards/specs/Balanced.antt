@@ -17,7 +17,7 @@ use Rattle.std.specs.Prelude.{
 }
 use Rattle.keys.specs.Key.{is_before}
 use Rattle.keyspace.specs.declared.batch.Batch.{Batch}
-use Rattle.keyspace.specs.BatchRanges.{ranges_in}
+use Rattle.keyspace.specs.storage.BatchRanges.{ranges_in}
 use Rattle.serial.specs.Shards.{Shard, ends_above, shards}
 
 -- where the ranges of a batch begin, read and write ranges: a key comes once per range

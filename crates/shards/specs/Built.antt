@@ -20,8 +20,8 @@ use Rattle.keys.specs.Key.{IsKey, is_before}
 use Rattle.keyspace.specs.declared.txn.Txn.{Txn}
 use Rattle.keyspace.specs.declared.span.Span.{Span}
 use Rattle.keyspace.specs.declared.row.Row.{Row}
-use Rattle.keyspace.specs.Fields.{RangeFields, TxnFields, txn_fields}
-use Rattle.keyspace.specs.Tables.{bytes_at, txns_from, txns_of_tables, AreRows, AreTables}
+use Rattle.keyspace.specs.storage.Fields.{RangeFields, TxnFields, txn_fields}
+use Rattle.keyspace.specs.storage.Tables.{bytes_at, txns_from, txns_of_tables, AreRows, AreTables}
 use Rattle.serial.specs.Shards.{Shard, ends_above}
 use Rattle.shards.specs.Clips.{goes_to, read_indices}
 use Rattle.shards.specs.Reach.{ends_below}

@@ -2,7 +2,7 @@
 
 ghost use Rattle.std.specs.Prelude.{◌≡◌, ◌<◌, length, slice_get, IfOk, IsSomeAnd};
 ghost use Rattle.std.specs.List.{AllZip};
-ghost use Rattle.keyspace.specs.BatchRanges.{ranges_in};
+ghost use Rattle.keyspace.specs.storage.BatchRanges.{ranges_in};
 ghost use Rattle.serial.specs.Shards.{shards};
 ghost use Rattle.shards.specs.Clips.{IsClipped};
 ghost use Rattle.shards.specs.Reach.{shard_at, IsReach};

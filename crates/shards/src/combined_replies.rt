@@ -95,8 +95,8 @@ fn least_verdict(each: &[ShardReply], index: usize) -> Verdict
     least
 }
 
-// Returns the lesser of two verdicts.
-fn lesser(a: Verdict, b: Verdict) -> Verdict
+/// Returns the lesser of two verdicts, in the order conflict, too old, committed.
+pub fn lesser(a: Verdict, b: Verdict) -> Verdict
     ensures one { (result ≡ a) ⊎ (result ≡ b) }
     ensures first { rank result ≤ rank a }
     ensures second { rank result ≤ rank b }

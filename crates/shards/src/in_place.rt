@@ -2,8 +2,8 @@
 
 ghost use Rattle.std.specs.Prelude.{◌≡◌, ◌<◌, ◌≤◌, List, length, map, slice_get};
 ghost use Rattle.std.specs.Prelude.{IfOk, IsSomeAnd};
-ghost use Rattle.keyspace.specs.Fields.{txn_fields};
-ghost use Rattle.keyspace.specs.Tables.{txns_of_tables, AreTables};
+ghost use Rattle.keyspace.specs.storage.Fields.{txn_fields};
+ghost use Rattle.keyspace.specs.storage.Tables.{txns_of_tables, AreTables};
 ghost use Rattle.keyspace.specs.declared.batch.TheConstants.{MAX_TXNS};
 ghost use Rattle.keyspace.specs.declared.txn.Txn.{Txn};
 ghost use Rattle.serial.specs.Shards.{shards};

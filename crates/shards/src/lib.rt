@@ -30,7 +30,7 @@ mod split_points;
 pub use balanced_points::balanced;
 pub use clip_calls::{clip, clip_all};
 pub use clipped::Clipped;
-pub use combined_replies::combine;
+pub use combined_replies::{combine, lesser};
 pub use error::{BalanceError, CombineError, Misfit, SplitPointsError};
 pub use in_place::clip_in_place;
 pub use read_indices::ReadIndices;

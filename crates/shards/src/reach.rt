@@ -2,7 +2,7 @@
 
 ghost use Rattle.std.specs.Prelude.{◌≡◌, IfOk};
 ghost use Rattle.std.specs.List.{AllZip};
-ghost use Rattle.keyspace.specs.BatchRanges.{ranges_in};
+ghost use Rattle.keyspace.specs.storage.BatchRanges.{ranges_in};
 ghost use Rattle.shards.specs.Reach.{is_reached, IsReach};
 
 use crate::split_points::SplitPoints;

@@ -2,7 +2,7 @@
 
 ghost use Rattle.std.specs.Prelude.{◌≡◌, [], ◌∷◌, ◌++◌, length, IfOk, OnOk};
 ghost use Rattle.std.specs.List.{AllZip};
-ghost use Rattle.keyspace.specs.BatchRanges.{ranges_in};
+ghost use Rattle.keyspace.specs.storage.BatchRanges.{ranges_in};
 ghost use Rattle.serial.specs.Shards.{Shard, shards};
 ghost use Rattle.shards.specs.Clips.{read_indices};
 ghost use Rattle.shards.specs.Numbered.{AreNumbered};

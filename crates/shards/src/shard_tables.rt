@@ -9,10 +9,10 @@ ghost use Rattle.keys.specs.declared.range.Range.{Range};
 ghost use Rattle.keyspace.specs.declared.batch.TheConstants.{MAX_TXNS};
 ghost use Rattle.keyspace.specs.declared.txn.TheConstants.{MAX_RANGES};
 ghost use Rattle.keyspace.specs.declared.txn.Txn.{Txn};
-ghost use Rattle.keyspace.specs.Fields.{range_fields, txn_fields};
+ghost use Rattle.keyspace.specs.storage.Fields.{range_fields, txn_fields};
 ghost use Rattle.keyspace.specs.Judge.{places_from};
-ghost use Rattle.keyspace.specs.Putting.{ArePut};
-ghost use Rattle.keyspace.specs.Tables.{bytes_at, range_of_span, txn_of_row, LiesWithin};
+ghost use Rattle.keyspace.specs.storage.Putting.{ArePut};
+ghost use Rattle.keyspace.specs.storage.Tables.{range_of_span, txn_of_row, LiesWithin};
 ghost use Rattle.serial.specs.Shards.{Shard, shards};
 ghost use Rattle.shards.specs.Built.{AreLeft, LiesAt, HasBounds, IsBuilt, clip_fields, clips_of};
 ghost use Rattle.shards.specs.Clips.{goes_to, read_indices, IsClipped, IsTxnClip};
@@ -25,7 +25,7 @@ use crate::read_indices::ReadIndices;
 use crate::shard_ends::{Cut, ShardEnds};
 use crate::split_points::SplitPoints;
 use keys::RangeRef;
-use keyspace::{Batch, RangesRef, Row, Span, TxnRef, Txns};
+use keyspace::{Batch, RangesRef, Row, Span, TxnRef, Txns, bytes_at};
 use std::alloc::{AllocError, Global};
 
 /// The location of a key in a buffer, in bytes.
@@ -384,15 +384,6 @@ fn keep_clip(
     };
     kept.push(bounds.clip(span, cut))?;
     Ok(true)
-}
-
-// Returns n bytes of the buffer, from an index on.
-fn bytes_at(buffer: &[u8], from: u32, count: u16) -> &[u8]
-    requires within { from + count ≤ length buffer.now }
-    ensures bytes { result.now ≡ bytes_at buffer.now from count }
-{
-    let from = from as usize;
-    &buffer[from..from + count as usize]
 }
 
 // Appends the clips of those ranges that go to the shard: their keys to the buffer, and their spans

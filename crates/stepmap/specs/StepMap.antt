@@ -19,7 +19,7 @@ use Rattle.std.specs.Prelude.{
 }
 use Rattle.keys.specs.Key.{IsKey}
 use Rattle.keys.specs.declared.range.Range.{Range}
-use Rattle.stepmap.specs.declared.step_map.TheConstants.{MAX_LIMIT}
+use Rattle.limits.specs.declared.settings.TheConstants.{MAX_LIMIT}
 use Rattle.stepmap.specs.Boundary.{Boundary, AreBoundaries}
 
 -- a round of the sweep that is under way: the key at which it continues, and the edge with which it began

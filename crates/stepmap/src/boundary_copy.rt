@@ -7,14 +7,14 @@ ghost use Rattle.keys.specs.declared.key.TheConstants.{MAX_KEY_LENGTH};
 ghost use Rattle.stepmap.specs.Boundary.{AreBoundaries, last_version, value_at};
 ghost use Rattle.stepmap.specs.Copying.{following, greatest_of_length, IsCopiedTo};
 ghost use Rattle.stepmap.specs.Stored.{first_key};
-ghost use Rattle.stepmap.specs.declared.step_map.TheConstants.{MAX_LIMIT};
+ghost use Rattle.limits.specs.declared.settings.TheConstants.{MAX_LIMIT};
 
 use crate::boundaries::Boundaries;
 use crate::boundary_sweep::move_to;
 use crate::key_bound::KeyBound;
 use crate::key_lengths::KeyLengths;
-use crate::step_map::MAX_LIMIT;
 use keys::{HashedRange, MAX_KEY_LENGTH, RangeRef};
+use limits::MAX_LIMIT;
 use std::alloc::{AllocError, Global};
 use std::mem;
 

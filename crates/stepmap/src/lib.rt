@@ -31,5 +31,6 @@ mod step_map;
 
 pub use error::StepError;
 pub use key_lengths::KeyLengths;
+pub use limits::MAX_LIMIT;
 pub use query::{QueryList, RangeQuery};
-pub use step_map::{MAX_LIMIT, StepMap, SweepEnd};
+pub use step_map::{StepMap, SweepEnd};

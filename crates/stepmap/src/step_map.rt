@@ -5,6 +5,7 @@ ghost use Rattle.std.specs.Prelude.{IfOk, OnOk, OnErr, IfErr, IsTrue};
 ghost use Rattle.std.specs.List.{AllZip};
 ghost use Rattle.keys.specs.Key.{IsBytes};
 ghost use Rattle.keys.specs.Range.{Holds, IsEmpty};
+ghost use Rattle.limits.specs.declared.settings.TheConstants.{MAX_LIMIT};
 ghost use Rattle.keyspace.specs.Writes.{Write, with_write};
 ghost use Rattle.stepmap.specs.Boundary.{value_at, AreUpTo};
 ghost use Rattle.stepmap.specs.StepMap.{lengths, new_map, AreSteps};
@@ -29,11 +30,6 @@ use keys::{HashedRange, MAX_KEY_LENGTH, Range};
 use std::alloc::{AllocError, Global};
 use std::collections::VecDeque;
 use std::marker::Model;
-
-/// The greatest limit on the boundaries of a step map: this project's own.
-pub const MAX_LIMIT: usize = 16_777_216;
-
-const _: () = prove!(MAX_LIMIT == 16_777_216);
 
 // How many entries a node of the tree has at most.
 const FAN_OUT: usize = 128;

@@ -5,7 +5,7 @@ use Rattle.std.proofs.lemmas.List.{take-append-le, drop-append-le, take-append-d
 use Rattle.std.proofs.lemmas.Option.{slice_get_within, get_or_from_slice_get}
 use Rattle.keyspace.specs.declared.span.Span.{Span}
 use Rattle.keyspace.specs.declared.row.Row.{Row}
-use Rattle.keyspace.specs.Tables.{AreRows}
+use Rattle.keyspace.specs.storage.Tables.{AreRows}
 use Rattle.keyspace.proofs.callers.Rows.{rows_rise}
 use Rattle.wire.specs.Lying.{txn_read, txns_read, IsBetween, AreApart}
 

@@ -14,11 +14,11 @@ pub short_length : (bytes : List ℕ) → length bytes < 4 → frame_length byte
 unfolding frame_length
 short_length bytes lt = let a = lt-ltb _ _ lt in rw a refl
 
-long_length : (bytes : List ℕ) → 4 ≤ length bytes → 4194304 < big_number 4 bytes → frame_length bytes ≡ 4
+pub long_length : (bytes : List ℕ) → 4 ≤ length bytes → 4194304 < big_number 4 bytes → frame_length bytes ≡ 4
 unfolding frame_length
 long_length bytes le lt = let a = le-ltb _ _ le in let b = lt-ltb _ _ lt in rw (a, b) refl
 
-entire_length : (bytes : List ℕ) → 4 ≤ length bytes → big_number 4 bytes ≤ 4194304
+pub entire_length : (bytes : List ℕ) → 4 ≤ length bytes → big_number 4 bytes ≤ 4194304
     → frame_length bytes ≡ 4 + big_number 4 bytes
 unfolding frame_length
 entire_length bytes le low = let a = le-ltb _ _ le in let b = le-ltb _ _ low in rw (a, b) refl

@@ -4,8 +4,8 @@ use Rattle.std.specs.List.{All, AllByRecursion, slice_range}
 use Rattle.std.proofs.lemmas.List.Elements.{All-nil, All-cons}
 use Rattle.keyspace.specs.declared.span.Span.{Span}
 use Rattle.keyspace.specs.declared.row.Row.{Row}
-use Rattle.keyspace.specs.Fields.{TxnLimits}
-use Rattle.keyspace.specs.Tables.{range_of_span, txn_of_row, txns_from, LiesWithin, AreRows, AreTables}
+use Rattle.keyspace.specs.storage.Fields.{TxnLimits}
+use Rattle.keyspace.specs.storage.Tables.{range_of_span, txn_of_row, txns_from, LiesWithin, AreRows, AreTables}
 use Rattle.wire.specs.declared.tables.FrameTables.{FrameTables}
 use Rattle.wire.specs.Fields.{RangeFields, TxnFields}
 use Rattle.wire.specs.Spelling.{RangeHolds, TxnHolds, BatchHolds}

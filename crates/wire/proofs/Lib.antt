@@ -8,7 +8,7 @@ pub mod Rests
 pub mod Sealing
 pub mod Parts
 pub mod Heads
-pub mod Batches
+pub mod BatchFrames
 pub mod Keeping
 pub mod Again
 pub mod PlaceLists

@@ -60,16 +60,16 @@ nothing_yet left before = record {
   written = appends_none before;
 }
 
-one_frame_more : (bytes first : List ℕ) (batches : List Batch) (batch : Batch) → AreFrames bytes batches
+pub frames_last : (bytes first : List ℕ) (batches : List Batch) (batch : Batch) → AreFrames bytes batches
     → IsFrameOf first batch → AreFrames (bytes ++ first) (batches ++ batch ∷ [])
-one_frame_more bytes first [] batch none is_frame =
+frames_last bytes first [] batch none is_frame =
     (first, [], ap (λ (x : List ℕ). x ++ first) none ∙ sym (append-nil first), is_frame, refl)
-one_frame_more bytes first (b ∷ batches) batch frames is_frame =
+frames_last bytes first (b ∷ batches) batch frames is_frame =
     let front = frames.0 in
     let rest = frames.1 in
     let parts : bytes ++ first ≡ front ++ (rest ++ first) =
     ap (λ (x : List ℕ). x ++ first) frames.2 ∙ append_assoc front rest first in
-    (front, rest ++ first, parts, frames.3, one_frame_more rest first batches batch frames.4 is_frame)
+    (front, rest ++ first, parts, frames.3, frames_last rest first batches batch frames.4 is_frame)
 
 new_frames_more : (batches : List Batch) (batch : Batch)
     → new_frames (batches ++ batch ∷ []) ≡ new_frames batches ++ new_frame batch
@@ -85,7 +85,7 @@ one_more left now next before after later count batch so_far takes writes = reco
   batches = so_far.batches ++ batch ∷ [];
   counted = omega (arith, length-append so_far.batches (batch ∷ []), so_far.counted);
   bytes = so_far.bytes ++ takes.0;
-  frames = one_frame_more so_far.bytes takes.0 so_far.batches batch so_far.frames takes.1;
+  frames = frames_last so_far.bytes takes.0 so_far.batches batch so_far.frames takes.1;
   taken = consumes_then left now next so_far.bytes takes.0 so_far.taken takes.2;
   written = rw (new_frames_more so_far.batches batch)
       (appends_then before after later (new_frames so_far.batches) (new_frame batch) so_far.written writes);
@@ -156,7 +156,7 @@ pub breaks : (left now next before after later : Option (List ℕ)) (count : ℕ
 breaks left now next before after later count batch so_far takes part = record {
   batches = so_far.batches ++ batch ∷ [];
   read = begin_with left next (so_far.bytes ++ takes.0) (so_far.batches ++ batch ∷ []) (λ _. Unit {0})
-      (one_frame_more so_far.bytes takes.0 so_far.batches batch so_far.frames takes.1)
+      (frames_last so_far.bytes takes.0 so_far.batches batch so_far.frames takes.1)
       (consumes_then left now next so_far.bytes takes.0 so_far.taken takes.2) (anything next);
   written = rw (new_frames_more so_far.batches batch)
       (break_here before after later (new_frames so_far.batches) (new_frame batch) so_far.written part);

@@ -14,7 +14,7 @@ use Rattle.wire.specs.FrameLength.{frame_length}
 use Rattle.wire.specs.NextFrame.{TakesFrame, IsFaultOf}
 use Rattle.wire.specs.Reading.{read_batch, batch_fault, refusal, version_at_front}
 use Rattle.wire.proofs.Taken.{AreBytes}
-use Rattle.wire.proofs.Batches.{batch_is_spelled}
+use Rattle.wire.proofs.BatchFrames.{batch_is_spelled}
 use Rattle.wire.proofs.FrameLengths.{at_most_entire, same_read}
 
 -- what is held is no more than its first frame

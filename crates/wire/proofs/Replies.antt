@@ -14,7 +14,7 @@ use Rattle.wire.specs.Reading.{◌>>=◌, Gives, number_at, version_at, count_at
 use Rattle.wire.proofs.Steps.{bind_ok, ok_is}
 use Rattle.wire.proofs.Taken.{AreBytes, Takes, Takes-then, back_1, number_takes, version_takes}
 use Rattle.wire.proofs.Parts.{at_most, count_takes, kind_takes, many_take}
-use Rattle.wire.proofs.Batches.{body_is_at, all_taken}
+use Rattle.wire.proofs.BatchFrames.{body_is_at, all_taken}
 use Rattle.wire.proofs.Again.{number_again, version_again, count_again, kind_again, many_again, at_least, body_again, all_again}
 use Rattle.wire.proofs.PlaceLists.{are_places, rise, places_take, places_again}
 

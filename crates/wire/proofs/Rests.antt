@@ -1,7 +1,7 @@
 -- What is still to be read, and where in the frame it begins.
 use Rattle.std.proofs.Common.{◌≡◌, ℕ, ◌+◌, ◌-◌, List, ◌++◌, length, take, drop, sym, ap, ◌∙◌, append_assoc, arith}
 use Rattle.std.proofs.lemmas.List.{length-append, drop-take}
-use Rattle.keyspace.specs.Tables.{bytes_at}
+use Rattle.keyspace.specs.storage.Tables.{bytes_at}
 use Rattle.wire.specs.Lying.{IsRestOf, index_of}
 use Rattle.wire.proofs.Taken.{Takes}
 

@@ -5,7 +5,7 @@ use Rattle.std.proofs.lemmas.Bool.{eq-eqb, ne_eqb}
 use Rattle.std.proofs.lemmas.List.{length-append, length-take, take-take, drop-drop, take-set, take_more_set, take-set-le, drop-set-lt, length-set, drop-append-le, take-append-le, drop_all}
 use Rattle.std.proofs.Math.Seq.{drop-cons}
 use Rattle.keyspace.specs.declared.span.Span.{Span}
-use Rattle.keyspace.specs.Tables.{bytes_at, range_of_span}
+use Rattle.keyspace.specs.storage.Tables.{bytes_at, range_of_span}
 use Rattle.wire.specs.Fields.{RangeFields}
 use Rattle.wire.specs.Spelling.{single_key}
 use Rattle.wire.specs.Lying.{range_read, IsBetween, HasSingleKey, AreApart}

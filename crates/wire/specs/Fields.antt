@@ -1,6 +1,6 @@
 -- What a frame says: ranges, transactions, batches, entries and replies, without the facts that their types carry.
 use Rattle.std.specs.Prelude.{ℕ, ℤ, List, map}
-pub use Rattle.keyspace.specs.Fields.{RangeFields, TxnFields, range_fields, txn_fields}
+pub use Rattle.keyspace.specs.storage.Fields.{RangeFields, TxnFields, range_fields, txn_fields}
 use Rattle.keyspace.specs.declared.batch.Batch.{Batch}
 use Rattle.keyspace.specs.declared.reply.Verdict.{Verdict}
 use Rattle.keyspace.specs.declared.reply.Entry.{Entry}

@@ -7,6 +7,7 @@ pub mod Filling
 pub mod FrameLength
 pub mod NextFrame
 pub mod Frames
+pub mod Batches
 pub mod Sink
 pub mod Upgrade
 pub mod NextReply

@@ -2,7 +2,7 @@
 use Rattle.std.specs.Prelude.{◌≡◌, ◌⊎◌, ℕ, ◌+◌, ◌-◌, ◌<◌, ◌≤◌, List, [], ◌∷◌, ◌++◌, length, map, slice_range, ◌==◌, if◌then◌else◌}
 use Rattle.keyspace.specs.declared.span.Span.{Span}
 use Rattle.keyspace.specs.declared.row.Row.{Row}
-use Rattle.keyspace.specs.Tables.{bytes_at, range_of_span}
+use Rattle.keyspace.specs.storage.Tables.{bytes_at, range_of_span}
 use Rattle.wire.specs.declared.tables.FrameTables.{FrameTables}
 use Rattle.wire.specs.Fields.{RangeFields, TxnFields, BatchFields}
 use Rattle.wire.specs.Spelling.{single_key}

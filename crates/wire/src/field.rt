@@ -3,7 +3,7 @@
 
 ghost use Rattle.std.specs.Prelude.{◌≡◌, ◌⊎◌, ◌+◌, ◌*◌, ◌<◌, ◌≤◌, IfOk, length};
 ghost use Rattle.byteorder.specs.Endian.{big_number};
-ghost use Rattle.keyspace.specs.Tables.{bytes_at};
+ghost use Rattle.keyspace.specs.storage.Tables.{bytes_at};
 ghost use Rattle.wire.specs.Lying.{IsRestOf, index_of};
 ghost use Rattle.wire.specs.Reading.{Gives, number_at, signed_at, count_at, marks_at, kind_at};
 ghost use Rattle.wire.specs.Reading.{key_at, body_at};

@@ -97,9 +97,10 @@ fn fill<R: Source>(reader: &mut R, buffer: &mut Vec<u8>, target: usize) -> Resul
     Ok(())
 }
 
-// Returns how many bytes of the frame at the front settle what it says.
+/// Returns how many bytes of the frame at the front settle what it says: all of them, or the four
+/// of its length if a body is never so long.
 #[tactic(auto, unfolding(crate::specs::FrameLength::frame_length))]
-fn settled_by(front: &[u8]) -> usize
+pub fn frame_length(front: &[u8]) -> usize
     ensures exact { result ≡ frame_length front.now }
 {
     if front.len() < 4 {
@@ -131,7 +132,7 @@ pub fn fill_frame<R: Source>(reader: &mut R, buffer: &mut Vec<u8>) -> Result<(),
 {
     buffer.clear();
     fill(reader, buffer, 4)?;
-    let length = settled_by(buffer);
+    let length = frame_length(buffer);
     if length > 4 {
         fill(reader, buffer, length)?;
     }

@@ -2,10 +2,10 @@
 //!
 //! `specs/` holds what has to be believed, to be read in this order: `Fields` (what a frame says),
 //! `Spelling` (how each value is spelled, and what must hold of it), `Reading` (the fault that
-//! reading meets first) and, for a stream of frames, `Source`, `NextFrame`, `Frames`, `Sink` and
-//! `Upgrade`. Beside these, `Rows` and `Lying` say what a frame is while it is read: the tables of
-//! a batch, whose keys lie in the frame. The form has two versions, which differ in the kind of a
-//! batch and in the text of a range.
+//! reading meets first) and, for a stream of frames, `Source`, `NextFrame`, `Frames`, `Batches`,
+//! `Sink` and `Upgrade`. Beside these, `Rows` and `Lying` say what a frame is while it is read: the
+//! tables of a batch, whose keys lie in the frame. The form has two versions, which differ in the
+//! kind of a batch and in the text of a range.
 //!
 //! No key is copied: a batch keeps the frame that it was read from. If a range is spelled by a
 //! single key, the byte after that key is set to zero once the complete frame is read, so that the
@@ -14,12 +14,13 @@
 //! The layers above use [`decode_batch`] and [`decode_reply`], which decode exactly the frames that
 //! spell a value and name the first fault of any other; [`encode_batch`], [`encode_batch_1`] and
 //! [`encode_reply`], which encode them; [`Frames`], which iterates over the batches of a reader,
-//! however it cuts its bytes; [`read_reply`], which reads the next reply of a reader; [`upgrade`],
-//! which writes batches of either version anew in version 2; and [`write_all`], which gives a
-//! [`Sink`] a complete slice.
+//! however it cuts its bytes, and is a stream of [`Batches`]; [`read_reply`], which reads the next
+//! reply of a reader; [`upgrade`], which writes batches of either version anew in version 2; and
+//! [`write_all`], which gives a [`Sink`] a complete slice.
 #![tactic(auto)]
 
 mod batch;
+mod batches;
 mod encode;
 mod error;
 mod field;
@@ -41,10 +42,11 @@ mod version;
 mod version_upgrade;
 
 pub use batch::decode_batch;
+pub use batches::{Batches, frames_each};
 pub use encode::{encode_batch, encode_batch_1, encode_reply};
 pub use error::WireError;
 pub use field::MAX_BODY_LENGTH;
-pub use fill::fill_frame;
+pub use fill::{fill_frame, frame_length};
 pub use frames::{Frames, read_frames};
 pub use reply::decode_reply;
 pub use reply_frames::read_reply;

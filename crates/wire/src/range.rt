@@ -1,7 +1,6 @@
 //! The reading of ranges, in either wire version.
 
 ghost use Rattle.std.specs.Prelude.{◌≡◌, ◌+◌, ◌<◌, ◌≤◌, OnOk, IfOk, length, map, take, drop};
-ghost use Rattle.keyspace.specs.Tables.{bytes_at};
 ghost use Rattle.wire.specs.Lying.{IsRestOf, IsBetween, AreApart, index_of, range_read};
 ghost use Rattle.wire.specs.Reading.{Gives, ends_at, form_at, formed_at, range_at, many_at};
 ghost use Rattle.wire.specs.declared.field.TheConstants.{MAX_BODY_LENGTH};
@@ -11,7 +10,7 @@ use crate::field::{key_of, room_for, u8_at};
 use crate::single::{MAX_SINGLE_KEY_LENGTH, is_single_key};
 use crate::version::WireVersion;
 use keys::MAX_KEY_LENGTH;
-use keyspace::Span;
+use keyspace::{Span, bytes_at};
 
 // The fewest bytes that a range takes in either version: in version 2, a form and the length of a
 // key.
@@ -53,8 +52,8 @@ fn form_0_of<'a>(frame: &[u8], bytes: &'a [u8]) -> Result<(Span, &'a [u8]), Wire
     ensures rest { IfOk result (λ x. IsRestOf frame.now x.1.now) }
 {
     let (span, rest) = ends_of(frame, bytes)?;
-    let begin = part_of(frame, span.begin, span.begin_length);
-    let end = part_of(frame, span.end, span.end_length);
+    let begin = bytes_at(frame, span.begin, span.begin_length);
+    let end = bytes_at(frame, span.end, span.end_length);
     if is_single_key(begin, end) {
         return Err(WireError::Spelling);
     }
@@ -147,13 +146,4 @@ pub fn push_ranges<'a>(
         rest = after;
     }
     Ok(rest)
-}
-
-// Returns n bytes of the frame, from an index on.
-fn part_of(frame: &[u8], from: u32, count: u16) -> &[u8]
-    requires within { from + count ≤ length frame.now }
-    ensures bytes { result.now ≡ bytes_at frame.now from count }
-{
-    let from = from as usize;
-    &frame[from..from + count as usize]
 }

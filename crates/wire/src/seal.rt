@@ -1,7 +1,7 @@
 //! Puts the end of each single key into the frame that its key lies in.
 
 ghost use Rattle.std.specs.Prelude.{◌≡◌, ◌+◌, OnOk, vec_len, map};
-ghost use Rattle.keyspace.specs.Tables.{range_of_span};
+ghost use Rattle.keyspace.specs.storage.Tables.{range_of_span};
 ghost use Rattle.wire.specs.Lying.{AreApart, range_read};
 
 use keyspace::Span;

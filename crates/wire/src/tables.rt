@@ -1,7 +1,7 @@
 //! The tables that a frame of a batch fills.
 
 ghost use Rattle.std.specs.Prelude.{vec_len};
-ghost use Rattle.keyspace.specs.Tables.{AreRows, AreRows-prop};
+ghost use Rattle.keyspace.specs.storage.Tables.{AreRows, AreRows-prop};
 
 use keyspace::{Row, Span};
 

@@ -1,7 +1,7 @@
 //! The reading of transactions.
 
 ghost use Rattle.std.specs.Prelude.{◌≡◌, ◌+◌, ◌≤◌, [], ◌∷◌, IfOk, OnOk, length, vec_len, take};
-ghost use Rattle.keyspace.specs.Tables.{AreRows};
+ghost use Rattle.keyspace.specs.storage.Tables.{AreRows};
 ghost use Rattle.wire.specs.Lying.{IsRestOf, AreApart, index_of, txn_read, txns_read};
 ghost use Rattle.wire.specs.Reading.{Gives, txn_at, many_at};
 ghost use Rattle.wire.specs.declared.field.TheConstants.{MAX_BODY_LENGTH};

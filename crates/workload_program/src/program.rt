@@ -13,7 +13,7 @@ use crate::fault::{Fault, fail};
 use crate::generate::write_batches;
 use crate::words::{USAGE, asked_text, read_words, refuse};
 use std::alloc::Global;
-use wire::{Failed, Sink, write_all};
+use wire::{Failed, Sink, write_and_flush};
 
 // Prints the text.
 fn show<W: Sink>(out: &mut W, text: &str) -> Result<(), Failed>
@@ -21,8 +21,7 @@ fn show<W: Sink>(out: &mut W, text: &str) -> Result<(), Failed>
     ensures ok { OnOk result (W.failures out.new ≡ W.failures out.old) }
     ensures failed { OnErr result (W.failures out.old < W.failures out.new) }
 {
-    write_all(out, text.as_bytes())?;
-    out.flush()
+    write_and_flush(out, text.as_bytes())
 }
 
 // Writes what the words ask for, or how the program is used where there are none but its name.

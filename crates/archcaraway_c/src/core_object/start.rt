@@ -12,7 +12,8 @@ use super::CoreObject;
 use crate::numbers::are_set_numbers;
 use crate::refusal::Refusal;
 use crate::waiting_answers::nothing_waits;
-use resolver::{Core, MAX_PROXIES, Stop};
+use limits::{MAX_PROXIES, Stop};
+use resolver::Core;
 use std::alloc::Global;
 
 impl CoreObject {

@@ -3,7 +3,7 @@
 ghost use Rattle.std.specs.Prelude.{◌≡◌, ◌≤◌, ◌<ℤ◌, ◌≤ℤ◌, ◌⊎◌, ◌↔◌, pos, length, take, Err, None};
 ghost use Rattle.std.specs.Prelude.{IsTrue, IfOk, IfErr, IfSome, OnOk};
 ghost use Rattle.conflict.specs.declared.error.SetStop.{SetStop as SetStopValue};
-ghost use Rattle.resolver.specs.Stop.{stop_at_set};
+ghost use Rattle.conflict.specs.Stop.{stop_at_set};
 ghost use Rattle.archcaraway_c.specs.SetObject.{StopsAt};
 ghost use Rattle.archcaraway_c.specs.Judging.{Judges, JudgesBatch, JudgeRefuses, verdict_number};
 ghost use Rattle.archcaraway_c.specs.Judging.{verdict_numbers};
@@ -13,7 +13,7 @@ use crate::batch_object::BatchObject;
 use crate::refusal::Refusal;
 use conflict::WhenFull;
 use keyspace::{Batch, Entry, Verdict};
-use resolver::Stop;
+use limits::Stop;
 use wire::WireError;
 
 impl SetObject {

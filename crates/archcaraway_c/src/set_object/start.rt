@@ -9,7 +9,7 @@ use super::SetObject;
 use crate::numbers::are_set_numbers;
 use crate::refusal::Refusal;
 use conflict::ConflictSet;
-use resolver::Stop;
+use limits::Stop;
 use std::alloc::Global;
 
 impl SetObject {

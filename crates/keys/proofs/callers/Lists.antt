@@ -1,10 +1,10 @@
 -- Lemmas for callers: a part of a list with one element more.
-use Rattle.std.proofs.Common.{◌≡◌, ℕ, zero, suc, ◌+◌, ◌-◌, ◌<◌, ◌≤◌, List, [], ◌∷◌, ◌++◌, length, get_or, take, drop, refl, ap, sym, subst, ◌∙◌, arith, length-drop, length-take}
+use Rattle.std.proofs.Common.{◌≡◌, ℕ, zero, suc, ◌+◌, ◌-◌, ◌<◌, ◌≤◌, List, [], ◌∷◌, ◌++◌, length, get_or, take, drop, refl, ap, sym, subst, ◌∙◌, arith, length-drop, length-take, map}
 use Rattle.std.specs.Prelude.{Some, slice_get, slice_range}
 use Rattle.std.specs.List.{AllZip}
 use Rattle.std.proofs.Math.Seq.{take-suc}
 use Rattle.std.proofs.lemmas.List.{get_or-drop, get_or-take}
-use Rattle.std.proofs.lemmas.Option.{get_or_from_slice_get, slice_get-get_or, slice_get_within}
+use Rattle.std.proofs.lemmas.Option.{get_or_from_slice_get, none-some, same_Some, slice_get-get_or, slice_get_within}
 use Rattle.std.proofs.lemmas.Slice.Zip.{all_zipped_more}
 
 -- by the first index and the number of the elements
@@ -32,6 +32,30 @@ pub AllZip-more : {X Y : Type 0} (R : X → Y → Type 0) (xs : List X) (i : ℕ
 AllZip-more R xs i ys x y is all it =
     let at : 0 + i ≡ i = omega arith in
     subst (λ front. AllZip R front (ys ++ y ∷ [])) (sym (part_more xs 0 i x (ap (slice_get xs) at ∙ is))) (all_zipped_more R (take i xs) ys x y all it)
+
+-- what the relation says at an index
+pub AllZip-get : {X Y : Type 0} (R : X → Y → Type 0) (xs : List X) (ys : List Y) (i : ℕ) (x : X) (y : Y)
+    → AllZip R xs ys → slice_get xs i ≡ Some x → slice_get ys i ≡ Some y → R x y
+AllZip-get R [] ys i x y all at there = absurd (none-some x at)
+AllZip-get R (first ∷ xs) [] i x y all at there = absurd all
+AllZip-get {X = X} {Y = Y} R (first ∷ xs) (other ∷ ys) zero x y all at there =
+    subst (λ (pair : X × Y). R pair.0 pair.1) (λ i. (same_Some first x at i, same_Some other y there i)) all.0
+AllZip-get R (first ∷ xs) (other ∷ ys) (suc i) x y all at there = AllZip-get R xs ys i x y all.1 at there
+
+-- what goes with each of two lists
+pub AllZip-split : {X Y : Type 0} (R : X → Y → Type 0) (xs others : List X) (ys : List Y) → AllZip R (xs ++ others) ys
+    → AllZip R xs (take (length xs) ys) × AllZip R others (drop (length xs) ys)
+AllZip-split R [] others ys all = (tt, all)
+AllZip-split R (x ∷ xs) others [] all = absurd all
+AllZip-split R (x ∷ xs) others (y ∷ ys) all =
+    let rest = AllZip-split R xs others ys all.1 in ((all.0, rest.0), rest.1)
+
+-- the element that another one was made from
+pub element_of_map : {X Y : Type 0} (f : X → Y) (xs : List X) (i : ℕ) (y : Y) → slice_get (map f xs) i ≡ Some y
+    → (x : X) × (slice_get xs i ≡ Some x) × (f x ≡ y)
+element_of_map f [] i y at = absurd (none-some y at)
+element_of_map f (x ∷ xs) zero y at = (x, refl, same_Some (f x) y at)
+element_of_map f (x ∷ xs) (suc i) y at = element_of_map f xs i y at
 
 -- something stands at each index
 pub some_at : {X : Type 0} (xs : List X) (i : ℕ) → i < length xs → (x : X) × (slice_get xs i ≡ Some x)

@@ -1,7 +1,7 @@
 -- Lemmas for callers: rows whose spans lie one after the other.
 use Rattle.std.proofs.Common.{ℕ, ◌+◌, ◌≤◌, List, [], ◌∷◌, ◌++◌, refl, arith}
 use Rattle.keyspace.specs.declared.row.Row.{Row}
-use Rattle.keyspace.specs.Tables.{AreRows}
+use Rattle.keyspace.specs.storage.Tables.{AreRows}
 
 -- the last ones end behind where the first ones begin
 pub rows_rise : (from : ℕ) (rows : List Row) (to : ℕ) → AreRows from rows to → from ≤ to

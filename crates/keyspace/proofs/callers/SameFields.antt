@@ -8,7 +8,7 @@ use Rattle.keys.specs.Key.{IsKey, IsAtMost}
 use Rattle.keys.specs.declared.range.Range.{Range}
 use Rattle.keyspace.specs.declared.batch.Batch.{Batch}
 use Rattle.keyspace.specs.declared.txn.Txn.{Txn}
-use Rattle.keyspace.specs.Fields.{RangeFields, range_fields, TxnFields, txn_fields}
+use Rattle.keyspace.specs.storage.Fields.{RangeFields, range_fields, TxnFields, txn_fields}
 
 is_key_prop : (key : List ℕ) → IsProp (IsKey key)
 is_key_prop key = hlevel le_prop

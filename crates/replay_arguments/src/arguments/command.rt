@@ -16,10 +16,8 @@ use crate::arguments::details::MAX_TOP;
 use crate::arguments::shard_options::MAX_RESOLVERS;
 use clap::builder::ValueParser;
 use clap::{Arg, ArgAction, Command};
-use conflict::MAX_WINDOW;
-use lane::MAX_CAPACITY;
+use limits::{MAX_CAPACITY, MAX_LIMIT, MAX_WINDOW};
 use std::alloc::{AllocError, Global};
-use stepmap::MAX_LIMIT;
 
 /// The version, and the toolchain and the logic that prove it, as `rt version` prints them.
 const VERSION: &str = "0.2.0 (rattle-kit-13f logic dac8208d650f15bf)";

@@ -14,8 +14,8 @@ use crate::arguments::mistake::Mistake;
 use crate::arguments::print_options::Printing;
 use crate::arguments::summary_file::{SummaryFile, summary_file};
 use clap::ArgMatches;
+use limits::MAX_PROXIES;
 use replay_output::Form;
-use resolver::MAX_PROXIES;
 
 /// The names of files that the arguments give.
 #[derive(Clone, Copy, Debug)]
@@ -92,14 +92,14 @@ fn files_of<'m, 'a>(matches: &'m ArgMatches<'a>) -> Option<&'m [&'a str]>
 fn replies_of<'m, 'a>(
     matches: &'m ArgMatches<'a>,
     form: Form,
-    files: usize,
+    file_count: usize,
 ) -> Result<&'m [&'a str], Mistake>
     ensures replies { IfOk result (λ replies. form ≡ Form.Kept
         → all_of (codes "check") (rows_of (found_of matches.entry.now))
         ≡ Some (map (λ name. name.now) replies.now)) }
-    ensures as_many { IfOk result (λ replies. form ≡ Form.Kept → length replies.now ≡ files) }
+    ensures as_many { IfOk result (λ replies. form ≡ Form.Kept → length replies.now ≡ file_count) }
     ensures none { OnErr result ((form ≡ Form.Kept)
-        × ¬ HasReplies files (rows_of (found_of matches.entry.now))) }
+        × ¬ HasReplies file_count (rows_of (found_of matches.entry.now))) }
 {
     if form != Form::Kept {
         return Ok(no_names());
@@ -107,7 +107,7 @@ fn replies_of<'m, 'a>(
     let Some(replies) = matches.get_strs("check") else {
         return Err(Mistake::Replies);
     };
-    if replies.len() != files {
+    if replies.len() != file_count {
         return Err(Mistake::Replies);
     }
     Ok(replies)
@@ -117,18 +117,18 @@ fn replies_of<'m, 'a>(
 fn records_of<'m, 'a>(
     matches: &'m ArgMatches<'a>,
     is_streamed: bool,
-    files: usize,
+    file_count: usize,
 ) -> Result<&'m [&'a str], Mistake>
     ensures records { IfOk result (λ records. map (λ name. name.now) records.now
         ≡ named (all_of (codes "replies") (rows_of (found_of matches.entry.now)))) }
     ensures each { IfOk result (λ records. (length records.now ≡ 0)
-        ⊎ (length records.now ≡ files)) }
+        ⊎ (length records.now ≡ file_count)) }
     ensures streamed { OnOk result (
         is_some (all_of (codes "replies") (rows_of (found_of matches.entry.now))) ≡ true
         → is_streamed ≡ true) }
     ensures none { OnErr result (HoldsStream (rows_of (found_of matches.entry.now)) is_streamed
         → (is_some (all_of (codes "replies") (rows_of (found_of matches.entry.now))) ≡ true)
-        × ¬ HasRecords files (rows_of (found_of matches.entry.now))) }
+        × ¬ HasRecords file_count (rows_of (found_of matches.entry.now))) }
 {
     let Some(names) = matches.get_strs("replies") else {
         return Ok(no_names());
@@ -136,7 +136,7 @@ fn records_of<'m, 'a>(
     if !is_streamed {
         return Err(Mistake::RecordsAlone);
     }
-    if names.len() != files {
+    if names.len() != file_count {
         return Err(Mistake::Records);
     }
     Ok(names)

@@ -10,7 +10,7 @@ ghost use Rattle.replay_output.specs.declared.start.StartError.TheVariants as st
 use clap::error::ErrorKind;
 use replay_output::{StartError, Status, fail_to_start};
 use std::alloc::{AllocError, Global};
-use wire::{Failed, Sink, write_all};
+use wire::{Failed, Sink, write_all, write_and_flush};
 
 /// Why nothing is replayed.
 #[derive(Debug, Drop)]
@@ -88,6 +88,5 @@ fn show<W: Sink>(out: &mut W, text: &str) -> Result<(), Failed>
     ensures text { OnOk result (Appends (W.given out.old) (W.given out.new) text.now) }
     ensures failed { IsErr result ↔ (W.failures out.old < W.failures out.new) }
 {
-    write_all(out, text.as_bytes())?;
-    out.flush()
+    write_and_flush(out, text.as_bytes())
 }

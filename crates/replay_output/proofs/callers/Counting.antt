@@ -5,7 +5,7 @@ use Rattle.std.proofs.Common.{refl, ap, ap₂, ◌∙◌, arith, get_or}
 use Rattle.std.proofs.lemmas.List.Elements.{All-cons, All-head, All-tail}
 use Rattle.keyspace.specs.declared.answer.Answer.{Answer}
 use Rattle.keyspace.specs.Answer.{version_of_answer}
-use Rattle.checking.specs.InOrder.{in_order_by, Rise}
+use Rattle.keyspace.specs.storage.InOrder.{in_order_by, Rise}
 use Rattle.replay_summary.specs.declared.counted.Counted.{Counted}
 use Rattle.replay_summary.specs.Counted.{counted_of}
 use Rattle.replay_output.specs.declared.options.style.Style.{Style}

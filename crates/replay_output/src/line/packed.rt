@@ -57,7 +57,7 @@ impl PackedText {
     }
 
     /// Makes room for n letters more, and for no others.
-    pub fn reserve(&mut self, additional: usize) -> Result<(), AllocError>
+    pub fn reserve_more(&mut self, additional: usize) -> Result<(), AllocError>
         ensures same { self.new ≡ self.old }
     {
         self.units.reserve_exact(additional)

@@ -3,7 +3,7 @@
 ghost use Rattle.std.specs.Prelude.{◌≡◌, ℤ, Option};
 ghost use Rattle.std.specs.List.{list_any};
 ghost use Rattle.replay_output.specs.LineFilter.{all_lines, has_verdict, is_below, is_shown};
-ghost use Rattle.replay_output.specs.LineFilter.{is_verdict};
+ghost use Rattle.checking.specs.Difference.{is_same_verdict};
 
 use crate::version::version_of;
 use keyspace::{Answer, Entry, Verdict};
@@ -60,7 +60,7 @@ fn has_verdict(only: Option<Verdict>, answer: &Answer) -> bool
 
 // Returns whether some transaction has this verdict.
 fn any_has(verdict: Verdict, entries: &[Entry]) -> bool
-    ensures any { result ≡ list_any (λ entry. is_verdict verdict entry.verdict) entries.now }
+    ensures any { result ≡ list_any (λ entry. is_same_verdict verdict entry.verdict) entries.now }
 {
     for entry in entries {
         if entry.verdict == verdict {

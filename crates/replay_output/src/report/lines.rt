@@ -6,10 +6,10 @@ ghost use Rattle.std.specs.Io.KnownBytes.{Appends};
 ghost use Rattle.replay_output.specs.Line.{AreLinesBy, TakesToSort, answers_of, text_of, texts};
 ghost use Rattle.replay_output.specs.Line.{version_of_line};
 ghost use Rattle.replay_output.specs.Lines.{Print, lines_by};
-ghost use Rattle.checking.specs.InOrder.{in_order_by};
+ghost use Rattle.keyspace.specs.storage.InOrder.{in_order_by};
 
 use crate::line::Line;
-use checking::sort_by_version;
+use keyspace::sort_by_version;
 use std::alloc::{AllocError, Global};
 use wire::{Failed, Sink};
 
@@ -72,7 +72,9 @@ pub fn sort_lines(alloc: Global, received: &mut [Vec<Line>]) -> Result<(), usize
     Ok(())
 }
 
-fn print_sorted<W: Sink>(out: &mut W, sorted: &[Vec<Line>]) -> Result<(), Failed>
+/// Prints lines that are sorted, those of each proxy in turn. After an error a prefix of the text
+/// is written.
+pub fn print_sorted<W: Sink>(out: &mut W, sorted: &[Vec<Line>]) -> Result<(), Failed>
     ensures entire { OnOk result (Appends (W.given out.old) (W.given out.new)
         (texts (map vec_items sorted.now))) }
     ensures prefix { OnErr result (IfSome (W.given out.new) (λ _.

@@ -7,10 +7,10 @@ ghost use Rattle.replay_program.specs.Program.{ChecksFiles, FailsToCheck, named_
 ghost use Rattle.replay_tasks.specs.Replayed.{written};
 
 use crate::program::opened::Opened;
+use limits::MAX_PROXIES;
 use replay_arguments::Files;
 use replay_output::{Form, Options, Status};
 use replay_tasks::{Ended, check_over, fail_to_read_replies, read_replies};
-use resolver::MAX_PROXIES;
 use std::alloc::Global;
 use std::sync::Wait;
 use std::thread::Threads;

@@ -5,8 +5,8 @@ ghost use Rattle.std.specs.List.{All};
 ghost use Rattle.replay_arguments.specs.Opening.{IsFirstRefused, contents_each};
 ghost use Rattle.replay_program.specs.Program.{texts};
 
-use flow::WaitingRoom;
 use replay_arguments::{CommandLine, Extent, Files, OpeningError, open_files};
+use replay_workers::WaitingRoom;
 use std::alloc::{AllocError, Global};
 use std::sync::Arc;
 

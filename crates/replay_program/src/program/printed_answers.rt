@@ -9,10 +9,10 @@ ghost use Rattle.replay_stream.specs.Sinks.{state_by};
 
 use crate::program::opened::Opened;
 use crate::report::RunReport;
+use limits::MAX_PROXIES;
 use replay_arguments::{CommandLine, Files, WrittenFile, fail_to_create_file};
 use replay_output::Status;
 use replay_tasks::{SummaryWriter, replay_and_summarize_over, replay_over};
-use resolver::MAX_PROXIES;
 use std::alloc::Global;
 use std::sync::Wait;
 use std::thread::Threads;

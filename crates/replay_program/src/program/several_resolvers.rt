@@ -17,11 +17,11 @@ ghost use Rattle.replay_stream.specs.Sinks.{state_by};
 
 use crate::program::line::say_more;
 use crate::report::RunReport;
-use flow::WaitingRoom;
 use opened::{ShardingError, fail_to_shard, open_sharded};
 use replay_arguments::{CommandLine, Files, WrittenFile, fail_to_create_file};
 use replay_output::Status;
 use replay_sharded::ShardedReaders;
+use replay_workers::WaitingRoom;
 use std::alloc::Global;
 use std::sync::Wait;
 use std::thread::Threads;

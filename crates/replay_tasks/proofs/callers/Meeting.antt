@@ -4,7 +4,7 @@ use Rattle.std.proofs.Common.{append_assoc, inl, inr, refl, sym, subst, ◌∙�
 use Rattle.std.proofs.lemmas.Bool.{false≢true}
 use Rattle.keyspace.specs.Processed.{Processed, version_of}
 use Rattle.keyspace.specs.Run.{Step}
-use Rattle.resolver.specs.declared.stop.Stop.{Stop}
+use Rattle.limits.specs.declared.stop.Stop.{Stop}
 use Rattle.resolver.specs.Observed.{HasSeen}
 use Rattle.replay_output.specs.declared.failures.Ending.{Ending}
 use Rattle.replay_output.specs.declared.failures.Ending.TheVariants.{Stopped}

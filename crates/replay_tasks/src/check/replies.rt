@@ -6,11 +6,10 @@ ghost use Rattle.std.specs.Io.KnownBytes.{Appends};
 ghost use Rattle.std.specs.List.{AllZip};
 ghost use Rattle.replay_arguments.specs.Opening.{contents_each};
 ghost use Rattle.replay_tasks.specs.Replies.{HasReplyFault, IsCauseOf, IsFaultIn, IsReplyFile};
-ghost use Rattle.replay_tasks.specs.Replies.{replies_line, replies_of};
+ghost use Rattle.replay_tasks.specs.Replies.{replies_line};
 
-use itoa::Buffer;
 use keyspace::Reply;
-use replay_arguments::{Extent, Files, OpeningError, open_files};
+use replay_arguments::{Extent, Files, OpeningError, begin_replies, open_files};
 use replay_output::{StartError, Status, fault_text, print_start_error};
 use std::alloc::Global;
 use wire::{Failed, Sink, Source, WireError, read_reply, write_all};
@@ -130,16 +129,4 @@ fn print_fault<W: Sink>(error: &mut W, proxy: usize, fault: WireError) -> Result
     write_all(error, b": wire ")?;
     write_all(error, fault_text(fault).as_bytes())?;
     write_all(error, b"\n")
-}
-
-// Writes `replay: replies ` and the number of the proxy.
-fn begin_replies<W: Sink>(error: &mut W, proxy: usize) -> Result<(), Failed>
-    ensures text { OnOk result (Appends (W.given error.old) (W.given error.new)
-        (replies_of proxy)) }
-    ensures ok { OnOk result (W.failures error.new ≡ W.failures error.old) }
-    ensures failed { OnErr result (W.failures error.old < W.failures error.new) }
-{
-    let mut buffer = Buffer::new();
-    write_all(error, b"replay: replies ")?;
-    write_all(error, buffer.format(proxy).as_bytes())
 }

@@ -149,7 +149,7 @@ fn print_differences<W: Sink>(
         Err(proxy) => return Err(PrintError::Memory(proxy)),
     };
     match write_and_flush(out, &checked.text) {
-        Ok(()) => Ok(checked.differences),
+        Ok(()) => Ok(checked.difference_count),
         Err(Failed) => Err(PrintError::Write),
     }
 }
@@ -168,7 +168,7 @@ fn check_received(
         (map answers_of (map vec_items received.items))) }
     ensures differences { KeepReplies (map vec_items received.items)
         → IfOk result (λ checked.
-        checked.differences ≡ differences_of (map vec_items recorded.items)
+        checked.difference_count ≡ differences_of (map vec_items recorded.items)
         (map answers_of (map vec_items received.items))) }
     ensures proxy { IfErr result (λ proxy. proxy < vec_len received) }
     ensures takes { IfErr result (TakesToCompare (map vec_items recorded.items)

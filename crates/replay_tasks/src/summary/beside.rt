@@ -5,7 +5,7 @@ ghost use Rattle.std.specs.Prelude.{◌≡◌, ◌≢◌, ◌↔◌, ◌<◌, �
 ghost use Rattle.std.specs.Prelude.{length, map, take, true, vec_items};
 ghost use Rattle.std.specs.Io.KnownBytes.{Appends, Keeps};
 ghost use Rattle.replay_output.specs.Failures.{NothingFailed};
-ghost use Rattle.replay_output.specs.Line.{AreLines, answers_of, text_of as text_of_lines, texts};
+ghost use Rattle.replay_output.specs.Line.{AreLines, answers_of, texts};
 ghost use Rattle.replay_output.specs.Lines.{lines};
 ghost use Rattle.replay_output.specs.declared.options.style.Style.{Style};
 ghost use Rattle.replay_tasks.specs.Replayed.{written};
@@ -13,7 +13,9 @@ ghost use Rattle.replay_tasks.specs.Summarized.{BothFailed, run_summary};
 
 use super::report::text_of;
 use crate::explain::report_loss;
-use replay_output::{Ending, Line, ProxyFailure, Status, nothing_failed, print_failures};
+use replay_output::{
+    Ending, Line, ProxyFailure, Status, nothing_failed, print_failures, print_sorted,
+};
 use replay_summary::{Occupancy, SummaryForm};
 use std::alloc::Global;
 use wire::{Failed, Sink, write_and_flush};
@@ -120,34 +122,4 @@ fn print_and_flush<W: Sink>(out: &mut W, sorted: &[Vec<Line>]) -> Result<(), Fai
 {
     print_sorted(out, sorted)?;
     out.flush()
-}
-
-fn print_sorted<W: Sink>(out: &mut W, sorted: &[Vec<Line>]) -> Result<(), Failed>
-    ensures entire { OnOk result (Appends (W.given out.old) (W.given out.new)
-        (texts (map vec_items sorted.now))) }
-    ensures prefix { OnErr result (IfSome (W.given out.new) (λ _.
-        (n : ℕ) × Appends (W.given out.old) (W.given out.new)
-        (take n (texts (map vec_items sorted.now))))) }
-    ensures ok { OnOk result (W.failures out.new ≡ W.failures out.old) }
-    ensures failed { OnErr result (W.failures out.old < W.failures out.new) }
-{
-    for lines in sorted {
-        print_proxy(out, lines)?;
-    }
-    Ok(())
-}
-
-fn print_proxy<W: Sink>(out: &mut W, lines: &[Line]) -> Result<(), Failed>
-    ensures entire { OnOk result
-        (Appends (W.given out.old) (W.given out.new) (text_of_lines lines.now)) }
-    ensures prefix { OnErr result (IfSome (W.given out.new) (λ _.
-        (n : ℕ) × Appends (W.given out.old) (W.given out.new)
-        (take n (text_of_lines lines.now)))) }
-    ensures ok { OnOk result (W.failures out.new ≡ W.failures out.old) }
-    ensures failed { OnErr result (W.failures out.old < W.failures out.new) }
-{
-    for line in lines {
-        line.text.print(out)?;
-    }
-    Ok(())
 }

@@ -3,7 +3,7 @@
 ghost use Rattle.std.specs.Prelude.{◌≡◌, ◌≢◌, ◌↔◌, ◌<◌, ◌≤◌, ℕ, map, take, length, vec_items};
 ghost use Rattle.std.specs.Prelude.{All, IfErr, IfOk, IfSome, IsErr, IsOk, OnOk};
 ghost use Rattle.std.specs.Io.KnownBytes.{Appends, Keeps};
-ghost use Rattle.checking.specs.InOrder.{Rise, in_order_by};
+ghost use Rattle.keyspace.specs.storage.InOrder.{Rise, in_order_by};
 ghost use Rattle.replay_output.specs.Failures.{failure_lines, with_loss, NothingFailed};
 ghost use Rattle.replay_output.specs.Line.{AreLines, answers_of, counted_of_line, version_of_line};
 ghost use Rattle.replay_output.specs.declared.options.style.Style.{Style};

@@ -14,10 +14,10 @@ use Rattle.replay_output.specs.declared.options.style.Style.{Style}
 use Rattle.replay_workers.specs.declared.worker.FileEnd.{FileEnd}
 use Rattle.replay_workers.specs.declared.worker.FileEnd.TheVariants.{Reached, Fault, Leaves}
 use Rattle.replay_workers.specs.declared.worker.Leftover.TheVariants.{CutShort, Worn}
-use Rattle.replay_workers.specs.Batches.{GivesEach}
+use Rattle.wire.specs.Batches.{GivesEach, IsFaultAt}
 use Rattle.replay_workers.specs.Inbox.{KeepsLines}
 use Rattle.replay_workers.specs.Reporting.{SendsFrames, TakesResolved}
-use Rattle.replay_workers.specs.Worker.{CannotSend, IfLeaves, IsFaultAt, LeavesLane, SendsBatches, is_cut_short, unsent_of}
+use Rattle.replay_workers.specs.Worker.{CannotSend, IfLeaves, LeavesLane, SendsBatches, is_cut_short, unsent_of}
 
 abbrev pub GivesUp : FileEnd → PortView Batch → IntakeView Answer → Type 0
 GivesUp end requests replies = IfLeaves end (λ leftover. CannotSend leftover requests replies)

@@ -3,7 +3,7 @@ use Rattle.std.proofs.Common.{List, [], ◌∷◌, ◌++◌, refl, ap, subst}
 use Rattle.std.specs.Prelude.{Option}
 use Rattle.keyspace.specs.declared.batch.Batch.{Batch}
 use Rattle.wire.specs.declared.error.WireError.{WireError}
-use Rattle.replay_workers.specs.Batches.{GivesEach}
+use Rattle.wire.specs.Batches.{GivesEach}
 use Rattle.replay_workers.specs.Worker.{SendsBatches}
 
 -- one batch more

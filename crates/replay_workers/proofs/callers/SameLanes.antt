@@ -1,9 +1,8 @@
 -- The ends of lanes, later.
-use Rattle.std.proofs.Common.{◌≡◌, ℕ, zero, suc, List, [], ◌∷◌, sym, subst, ◌∙◌, arith}
-use Rattle.std.specs.Prelude.{Some, slice_get}
+use Rattle.std.proofs.Common.{List, sym, ◌∙◌, arith}
 use Rattle.std.specs.List.{AllZip}
 use Rattle.std.proofs.lemmas.Slice.Zip.{AllZip-long}
-use Rattle.std.proofs.lemmas.Option.{none-some, same_Some}
+use Rattle.keys.proofs.callers.Lists.{AllZip-get}
 use Rattle.lane.specs.Lane.{PortView, IntakeView, PortContinues, IntakeContinues}
 use Rattle.resolver.specs.declared.client.Client.{Client}
 use Rattle.resolver.specs.Lanes.{Lanes, Each, LanesContinue}
@@ -39,14 +38,6 @@ ends_continue a b c first second = record {
   share = second.share ∙ first.share;
 }
 
-zipped_at : {X Y : Type 0} (R : X → Y → Type 0) (xs : List X) (ys : List Y) (place : ℕ) (x : X) (y : Y)
-    → AllZip R xs ys → slice_get xs place ≡ Some x → slice_get ys place ≡ Some y → R x y
-zipped_at R [] ys place x y all at there = absurd (none-some x at)
-zipped_at R (first ∷ xs) [] place x y all at there = absurd all
-zipped_at {X = X} {Y = Y} R (first ∷ xs) (other ∷ ys) zero x y all at there =
-    subst (λ (pair : X × Y). R pair.0 pair.1) (λ i. (same_Some first x at i, same_Some other y there i)) all.0
-zipped_at R (first ∷ xs) (other ∷ ys) (suc place) x y all at there = zipped_at R xs ys place x y all.1 at there
-
 pub lanes_continue : (a b c : List Lanes) → Each (λ _ l m. LanesContinue l m) a b → Each (λ _ l m. LanesContinue l m) b c
     → Each (λ _ l m. LanesContinue l m) a c
 lanes_continue a b c first second = record {
@@ -72,7 +63,7 @@ clients_continue lanes later clients back of_lanes turned all_returned = record 
       let c = found back clients proxy d (sym (AllZip-long ClientContinues clients back all_returned)) there in
       let lane = of_lanes.requests proxy l.0 c.0 l.1 c.1 in
       let turns = (turned.each proxy l.0 m l.1 at).requests in
-      let goes = (zipped_at ClientContinues clients back proxy c.0 d all_returned c.1 there).requests in
+      let goes = (AllZip-get ClientContinues clients back proxy c.0 d all_returned c.1 there).requests in
       record {
         lane = goes.lane ∙ lane.lane ∙ sym turns.lane;
         capacity = goes.capacity ∙ lane.capacity ∙ sym turns.capacity;
@@ -82,7 +73,7 @@ clients_continue lanes later clients back of_lanes turned all_returned = record 
       let c = found back clients proxy d (sym (AllZip-long ClientContinues clients back all_returned)) there in
       let lane = of_lanes.replies proxy l.0 c.0 l.1 c.1 in
       let turns = (turned.each proxy l.0 m l.1 at).replies in
-      let goes = (zipped_at ClientContinues clients back proxy c.0 d all_returned c.1 there).replies in
+      let goes = (AllZip-get ClientContinues clients back proxy c.0 d all_returned c.1 there).replies in
       record {
         lane = turns.lane ∙ lane.lane ∙ sym goes.lane;
         capacity = turns.capacity ∙ lane.capacity ∙ sym goes.capacity;

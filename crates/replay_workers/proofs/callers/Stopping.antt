@@ -4,8 +4,8 @@ use Rattle.std.proofs.Common.{refl, sym, ap, subst, ◌∙◌, inl, inr}
 use Rattle.keyspace.specs.declared.batch.Batch.{Batch}
 use Rattle.keyspace.specs.Run.{Step, Take, Finish, run}
 use Rattle.chain.specs.declared.gate.TheConstants.{MAX_HELD}
-use Rattle.resolver.specs.declared.stop.Stop.{Stop}
-use Rattle.resolver.specs.declared.stop.Stop.TheVariants as resolver
+use Rattle.limits.specs.declared.stop.Stop.{Stop}
+use Rattle.limits.specs.declared.stop.Stop.TheVariants as resolver
 use Rattle.resolver.specs.declared.turn.Turn.{Turn}
 use Rattle.resolver.specs.declared.turn.Turn.TheVariants as turn
 use Rattle.resolver.specs.Core.{CoreState, Given, Continues, StopsAtLimit}

@@ -13,7 +13,7 @@ ghost use Rattle.resolver.specs.Observed.{ObservesStep};
 
 use super::Resolver;
 use crate::all_lanes;
-use crate::stop::Stop;
+use limits::Stop;
 use observer::Observer;
 
 impl Resolver {

@@ -12,9 +12,9 @@ ghost use Rattle.resolver.specs.Core.{Given, IsIn, StopsAsTheyLeave, StopsAtLimi
 ghost use Rattle.resolver.specs.CoreCalls.{Advances, AdvancesByOne, Answers, Shows, ShowsOne};
 
 use super::Core;
-use crate::stop::Stop;
 use chain::Replies;
 use keyspace::{Answer, Batch, Reply, laws};
+use limits::Stop;
 use observer::Observer;
 use std::alloc::Global;
 

@@ -9,9 +9,9 @@ ghost use Rattle.keyspace.specs.Run.{run};
 ghost use Rattle.chain.specs.Replies.{reply_of};
 ghost use Rattle.resolver.specs.OpeningLog.{opening_log};
 
-use crate::stop::Stop;
 use chain::Replies;
 use keyspace::{Entry, Places, Reply, Sequence, Verdict};
+use limits::Stop;
 use std::alloc::{AllocError, Global};
 
 /// Returns the replies that a resolver with this many proxies keeps when it starts at the version:

@@ -12,10 +12,11 @@ ghost use Rattle.stepmap.specs.Rooted.{Rooted};
 ghost use Rattle.stepmap.specs.Counting.{live_count};
 ghost use Rattle.stepmap.specs.Stored.{spare_in, each_length};
 
-use super::{FAN_OUT, MAX_LIMIT, StepMap};
+use super::{FAN_OUT, StepMap};
 use crate::boundaries::Boundaries;
 use crate::key_lengths::{KeyLengths, keep};
 use filter::Filter;
+use limits::MAX_LIMIT;
 use std::alloc::AllocError;
 use std::collections::VecDeque;
 

@@ -2,7 +2,8 @@
 
 ghost use Rattle.std.specs.Prelude.{◌≡◌};
 
-use super::{MAX_LIMIT, StepMap};
+use super::StepMap;
+use limits::MAX_LIMIT;
 use std::alloc::{AllocError, Global};
 use std::collections::VecDeque;
 

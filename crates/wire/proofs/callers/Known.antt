@@ -1,6 +1,6 @@
 -- Lemmas for callers: bytes that a reader tells, from one read to the next.
-use Rattle.std.proofs.Common.{◌≡◌, ℕ, Bool, true, false, List, [], ◌++◌, Option, Some, None, refl, sym, ap, ◌∙◌, append_assoc}
-use Rattle.std.specs.Prelude.{if◌then◌else◌}
+use Rattle.std.proofs.Common.{◌≡◌, ℕ, Bool, true, false, List, [], ◌++◌, Option, Some, None, refl, sym, ap, ◌∙◌, append_assoc, append-nil}
+use Rattle.std.specs.Prelude.{if◌then◌else◌, IfSome}
 use Rattle.std.specs.Io.KnownBytes.{Keeps, Consumes, IsAtEnd}
 
 pub keeps_same : (a : Option (List ℕ)) → Keeps a a
@@ -48,3 +48,9 @@ pub none_before : (a b : Option (List ℕ)) (bs : List ℕ) → Consumes a b bs 
 none_before None b bs h e end = tt
 none_before (Some xs) None bs h e end = absurd h
 none_before (Some xs) (Some ys) bs h e end = h ∙ ap (λ (x : List ℕ). x ++ ys) e ∙ end
+
+-- the bytes that were taken are all, if nothing is left
+pub all_taken : (left now : Option (List ℕ)) (bytes : List ℕ) → Consumes left now bytes → IsAtEnd now → IfSome left (λ all. all ≡ bytes)
+all_taken None now bytes taken end = tt
+all_taken (Some xs) None bytes taken end = absurd taken
+all_taken (Some xs) (Some ys) bytes taken end = taken ∙ ap (λ (t : List ℕ). bytes ++ t) end ∙ append-nil bytes

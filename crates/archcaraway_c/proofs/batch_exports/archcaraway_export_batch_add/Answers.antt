@@ -1,6 +1,6 @@
 use Rattle.std.proofs.Common.{rules, ◌∙◌, ℤ, List, FitsSigned, w64, subst₂}
 use Rattle.std.proofs.lemmas.Int.{to_z-of_z}
-use Rattle.keyspace.specs.Fields.{TxnFields}
+use Rattle.keyspace.specs.storage.Fields.{TxnFields}
 use Rattle.archcaraway_c.specs.BatchObject.{AddRefuses}
 use Rattle.archcaraway_c.proofs.batch_exports.archcaraway_export_batch_add.Goals as goal
 

@@ -1,7 +1,7 @@
 use Rattle.std.proofs.Common.{◌≡◌, ◌+◌, ◌-◌, ◌<◌, ℕ, pos, false, length, get_or, take, subst, arith}
 use Rattle.keyspace.specs.declared.row.Row.{Row}
-use Rattle.keyspace.specs.Tables.{AreRows}
-use Rattle.archcaraway_c.proofs.Dropping.{rows_up_to}
+use Rattle.keyspace.specs.storage.Tables.{AreRows}
+use Rattle.keyspace.proofs.callers.Putting.{rows_up_to}
 use Rattle.archcaraway_c.proofs.batch_tables.first_span.Goals as goal
 
 abbrev no_row : Row

@@ -1,6 +1,6 @@
 use Rattle.std.proofs.Common.{rules, ◌∙◌, ℤ, List, FitsSigned, w64, to_z, of_z, subst, subst₂}
 use Rattle.std.proofs.lemmas.Int.{to_z-of_z}
-use Rattle.keyspace.specs.Fields.{TxnFields}
+use Rattle.keyspace.specs.storage.Fields.{TxnFields}
 use Rattle.archcaraway_c.specs.CoreObject.{CoreParts}
 use Rattle.archcaraway_c.specs.Judging.{AdmitRefuses}
 use Rattle.archcaraway_c.proofs.judge_exports.archcaraway_export_core_admit_batch.Goals as goal

@@ -1,6 +1,6 @@
 use Rattle.std.proofs.Common.{rules, ◌∙◌, ℤ, List, length, take, FitsSigned, w64, to_z, of_z, subst, subst₂}
 use Rattle.std.proofs.lemmas.Int.{to_z-of_z}
-use Rattle.keyspace.specs.Fields.{TxnFields}
+use Rattle.keyspace.specs.storage.Fields.{TxnFields}
 use Rattle.conflict.specs.ConflictSet.{SetState}
 use Rattle.archcaraway_c.specs.Judging.{AreVerdicts}
 use Rattle.archcaraway_c.proofs.judge_exports.archcaraway_export_set_judge.Goals as goal

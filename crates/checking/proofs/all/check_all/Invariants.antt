@@ -12,7 +12,7 @@ invariant-loop-replies l = record {
       ++ lines_from l.proxy (map vec_items (into_iter_items l.replies-iterator)) (map vec_items (into_iter_items l.recorded))
       ≡ lines_from 0 (map vec_items l.fn.expected.items) (map vec_items l.fn.recorded.items);
   counted :
-      l.checked.differences
+      l.checked.difference_count
       + count_differences (map vec_items (into_iter_items l.replies-iterator)) (map vec_items (into_iter_items l.recorded))
       ≡ count_differences (map vec_items l.fn.expected.items) (map vec_items l.fn.recorded.items);
   passed : l.proxy + into_iter_len l.replies-iterator ≡ vec_len l.fn.expected;

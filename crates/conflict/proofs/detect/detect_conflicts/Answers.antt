@@ -1,9 +1,12 @@
-use Rattle.std.proofs.Common.{rules, w64, to_z, of_z, SFits, ◌≡◌, ◌+◌, ◌*◌, ◌<◌, ◌≤◌, ◌⊎◌, List, [], ◌++◌, length, map, Err, ap, sym, subst, ◌∙◌, inl, inr, arith}
-use Rattle.std.specs.Prelude.{ℤ, ◌≤ℤ◌}
+use Rattle.std.proofs.Common.{rules, w64, to_z, of_z, SFits, ◌≡◌, ◌+◌, ◌*◌, ◌<◌, ◌≤◌, ◌⊎◌, List, [], ◌++◌, length, map, Err, true, refl, ap, sym, subst, ◌∙◌, inl, inr, arith}
+use Rattle.std.specs.Prelude.{◌≤ℤ◌}
+use denote.Enum.Bare.{sameb}
+use Rattle.conflict.specs.contracts.when_full.WhenFull.{the_type}
+use Rattle.conflict.specs.declared.when_full.WhenFull.{WhenFull}
 use Rattle.std.proofs.lemmas.Bool.{cases_lt}
 use Rattle.std.proofs.lemmas.Int.{to_z-of_z}
 use Rattle.keys.proofs.callers.Booleans.{not_both_ways}
-use Rattle.keyspace.specs.BatchRanges.{ranges_in}
+use Rattle.keyspace.specs.storage.BatchRanges.{ranges_in}
 use Rattle.keyspace.specs.Writes.{Write, at_version, committed, writes_of}
 use Rattle.keyspace.specs.Judge.{judge_txns}
 use Rattle.keyspace.specs.Judged.{edge}
@@ -15,7 +18,7 @@ use Rattle.stepmap.specs.Laws.{IsWriting}
 use Rattle.stepmap.specs.Limit.{HasRoomFor, made_room, prepared}
 use Rattle.stepmap.specs.Sweeping.{rest, after_sweep}
 use Rattle.stepmap.specs.declared.error.StepError.TheVariants as step
-use Rattle.stepmap.specs.declared.step_map.TheConstants.{MAX_LIMIT}
+use Rattle.limits.specs.declared.settings.TheConstants.{MAX_LIMIT}
 use Rattle.conflict.specs.declared.when_full.WhenFull.TheVariants.{Refuse}
 use Rattle.conflict.specs.ConflictSet.{IsSwept, raised, HasRoomToWrite}
 use Rattle.conflict.specs.InBatch.{in_batches}
@@ -27,7 +30,12 @@ use Rattle.conflict.proofs.JudgedBatch.{length-in_batches, changed_entire}
 use Rattle.conflict.proofs.Paced.{written_all}
 use Rattle.conflict.proofs.Swept.{since_raised, swept_on}
 use Rattle.conflict.proofs.UnionWritten.{count, each_count, apart, ready_same}
-use Rattle.conflict.proofs.detect.detect_conflicts.Goals.{After-spans-spans, After-write_spans}
+use Rattle.conflict.proofs.detect.detect_conflicts.Goals.{
+  After-spans-spans,
+  After-write_spans,
+  else-eq-via-then-eq+else-not-can_make_room,
+  else-eq-via-else-eq,
+}
 use Rattle.conflict.proofs.detect.detect_conflicts.Goals as goal
 
 pub judge_by_history-requires : goal.judge_by_history-requires
@@ -136,9 +144,9 @@ gather-requires c =
           ∙ long;
     }
 
-pub is_refused-requires : goal.is_refused-requires
-is_refused-requires c = record {
-  raised = subst (λ e. c.args.steps.now.edge ≤ℤ e) (sym (edge_is (goal.at.is_refused-requires c).After-spans-spans))
+pub can_make_room-requires : goal.can_make_room-requires
+can_make_room-requires c = record {
+  late = subst (λ e. c.args.steps.now.edge ≤ℤ e) (sym (edge_is (goal.at.can_make_room-requires c).After-spans-spans))
       c.requires.raised;
 }
 
@@ -148,16 +156,18 @@ raise-requires c = record {
       c.requires.raised;
 }
 
-pub returns-then-is_refused-clause-fails : goal.returns-then-is_refused-clause-fails
-returns-then-is_refused-clause-fails c =
-    let here = (goal.at.returns-then-is_refused-clause-fails c).After-spans-spans in
+pub returns-then-not-can_make_room-clause-fails : goal.returns-then-not-can_make_room-clause-fails
+returns-then-not-can_make_room-clause-fails c =
+    let here = (goal.at.returns-then-not-can_make_room-clause-fails c).After-spans-spans in
     let n = length c.spans-spans.result.now in
     let is = edge_is here in
+    let none = c.if-not-can_make_room.true in
     refuses c.args.window c.args.batch.now c.args.steps.now c.judge_in_batch.new.entries (judged here) c.one_reply.ensures.only
     c.counts.ensures.along (late here) c.spans-spans.result.now c.gather.new.self.lengths.items (union here) c.args.when_full
-    (subst (λ e. ¬ HasRoomFor n (made_room n (raised e c.args.steps.now))) is (c.is_refused.ensures.full c.if-is_refused.true))
+    (λ room. not_both_ways c.can_make_room.result (c.can_make_room.ensures.room.1
+    (subst (λ e. HasRoomFor n (made_room n (raised e c.args.steps.now))) (sym is) room)) none)
     (λ ws rooted. subst (λ e. c.args.steps.now.limit < 1 + 2 * (live_count e ws + n)) is
-    (c.is_refused.ensures.bound c.if-is_refused.true ws rooted))
+    (c.can_make_room.ensures.bound (λ some. not_both_ways c.can_make_room.result some none) ws rooted))
 
 pub returns-in_err-prepare-clause-fails : goal.returns-in_err-prepare-clause-fails
 returns-in_err-prepare-clause-fails c =
@@ -183,8 +193,13 @@ returns-in_err-prepare-clause-fails c =
     (subst (λ (m : Steps). ¬ HasRoomFor n (made_room n m)) (sym up) none)) in
     cc in
     let fits : c.args.when_full ≡ Refuse → HasRoomFor n (made_room n (raised e steps)) = λ refuse.
-    subst (λ e. HasRoomFor n (made_room n (raised e steps))) is
-    (c.is_refused.ensures.fits refuse (λ refused. not_both_ways c.is_refused.result refused c.if-is_refused.false)) in
+    let equal : sameb the_type c.args.when_full Refuse ≡ true =
+    subst (λ (w : WhenFull). sameb the_type w Refuse ≡ true) (sym refuse) refl in
+    elim c.else-eq.branch [
+      | else-eq-via-then-eq+else-not-can_make_room w ↦
+          subst (λ e. HasRoomFor n (made_room n (raised e steps))) is (w.can_make_room.ensures.room.0 w.if-not-can_make_room.false)
+      | else-eq-via-else-eq w ↦ absurd (not_both_ways c.eq.result (c.eq.ensures ∙ equal) w.if-eq.false)
+    ] in
     if_err _ _ c.from_residual-in_err-prepare.result c.from_residual-in_err-prepare.ensures.1
     (λ stop same. stops c.args.window b steps entries (judged here) c.one_reply.ensures.only c.counts.ensures.along (late here)
     spans each (union here) c.args.when_full c.prepare.new.self error stop same

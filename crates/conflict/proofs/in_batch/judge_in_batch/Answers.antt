@@ -5,7 +5,7 @@ use Rattle.std.specs.Prelude.{Contains}
 use Rattle.keys.specs.declared.range.Range.{Range}
 use Rattle.keyspace.specs.declared.txn.Txn.{Txn}
 use Rattle.keyspace.specs.declared.reply.Verdict.TheVariants.{Committed}
-use Rattle.keyspace.specs.BatchRanges.{ranges_in, ranges_of_txn, writes_in}
+use Rattle.keyspace.specs.storage.BatchRanges.{ranges_in, ranges_of_txn, writes_in}
 use Rattle.conflict.specs.InBatch.{in_batches}
 use Rattle.conflict.specs.Written.{AreRunsOf}
 use Rattle.conflict.proofs.Parts.{lent_at}

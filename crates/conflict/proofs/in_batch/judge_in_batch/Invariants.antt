@@ -1,6 +1,6 @@
 use Rattle.std.proofs.Common.{◌≡◌, ℕ, List, [], length}
 use Rattle.keys.specs.declared.range.Range.{Range}
-use Rattle.keyspace.specs.BatchRanges.{ranges_in}
+use Rattle.keyspace.specs.storage.BatchRanges.{ranges_in}
 use Rattle.conflict.specs.Written.{AreRunsOf}
 use Rattle.conflict.specs.InBatch.{in_batches}
 use Rattle.conflict.proofs.JudgedTo.{JudgedBelow}

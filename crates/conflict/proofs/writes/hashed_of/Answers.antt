@@ -2,7 +2,7 @@ use Rattle.std.proofs.Common.{◌≡◌, ◌∙◌, ◌<◌, List, length, refl,
 use Rattle.std.specs.Prelude.{Some, slice_get}
 use Rattle.std.proofs.lemmas.Option.{slice_get_within}
 use Rattle.keys.specs.declared.range.Range.{Range}
-use Rattle.keyspace.specs.BatchRanges.{ranges_in}
+use Rattle.keyspace.specs.storage.BatchRanges.{ranges_in}
 use Rattle.conflict.proofs.writes.hashed_of.Goals as goal
 
 pub returns-then-span : goal.returns-then-span

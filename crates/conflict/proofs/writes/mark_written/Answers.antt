@@ -3,7 +3,7 @@ use Rattle.std.proofs.lemmas.Grind.{common_steps}
 use Rattle.std.proofs.lemmas.List.{take_at}
 use denote.Enum.Bare.{sameb}
 use Rattle.keyspace.specs.contracts.reply.Verdict.{the_type}
-use Rattle.keyspace.specs.BatchRanges.{write_marks}
+use Rattle.keyspace.specs.storage.BatchRanges.{write_marks}
 use Rattle.keyspace.specs.declared.reply.Verdict.{Verdict}
 use Rattle.keyspace.specs.declared.reply.Verdict.TheVariants.{Conflict, TooOld, Committed}
 use Rattle.keyspace.specs.declared.txn.Txn.{Txn}

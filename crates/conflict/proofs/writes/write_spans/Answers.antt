@@ -4,7 +4,7 @@ use Rattle.std.proofs.lemmas.Int.{to_z-of_z}
 use Rattle.std.proofs.lemmas.Option.{slice_get_within}
 use Rattle.keys.specs.declared.range.Range.{Range}
 use Rattle.stepmap.specs.Laws.{MayBeNext}
-use Rattle.keyspace.specs.BatchRanges.{ranges_in}
+use Rattle.keyspace.specs.storage.BatchRanges.{ranges_in}
 use Rattle.conflict.specs.declared.union.UnitedSpan.{UnitedSpan}
 use Rattle.stepmap.specs.Writing.{after_write}
 use Rattle.conflict.specs.Union.{Spans}

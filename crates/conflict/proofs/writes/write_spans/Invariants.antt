@@ -2,7 +2,7 @@ use Rattle.std.proofs.Common.{◌≡◌, ◌≤◌, ◌-◌, List, length, take}
 use Rattle.std.specs.Prelude.{MatchOption, Some, slice_get}
 use Rattle.keys.specs.declared.range.Range.{Range}
 use Rattle.stepmap.specs.Laws.{IsWriting}
-use Rattle.keyspace.specs.BatchRanges.{ranges_in}
+use Rattle.keyspace.specs.storage.BatchRanges.{ranges_in}
 use Rattle.conflict.specs.declared.union.UnitedSpan.{UnitedSpan}
 use Rattle.conflict.specs.Union.{Spans, AreSpanned}
 use Rattle.conflict.specs.Pace.{after_writes}

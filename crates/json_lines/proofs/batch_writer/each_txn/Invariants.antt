@@ -2,7 +2,7 @@ use Rattle.std.proofs.Common.{◌≡◌, ◌++◌, map, take}
 use Rattle.std.specs.Int.{w64}
 use Rattle.std.specs.Int.RustNames.{FitsSigned}
 use Rattle.std.specs.List.{All}
-use Rattle.keyspace.specs.Fields.{txn_fields}
+use Rattle.keyspace.specs.storage.Fields.{txn_fields}
 use Rattle.json_lines.specs.Written.{all_tokens, txn_json}
 use Rattle.json_lines.proofs.batch_writer.each_txn.Given as goal
 

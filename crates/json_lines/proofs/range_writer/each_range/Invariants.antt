@@ -1,5 +1,5 @@
 use Rattle.std.proofs.Common.{◌≡◌, ◌++◌, map, take}
-use Rattle.keyspace.specs.Fields.{range_fields}
+use Rattle.keyspace.specs.storage.Fields.{range_fields}
 use Rattle.json_lines.specs.Written.{all_tokens, range_json}
 use Rattle.json_lines.proofs.range_writer.each_range.Given as goal
 

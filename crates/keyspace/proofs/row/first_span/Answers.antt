@@ -1,5 +1,5 @@
 use Rattle.std.proofs.Common.{◌≡◌, ◌+◌, ◌-◌, ◌<◌, ℕ, length, get_or, take, subst, arith}
-use Rattle.keyspace.specs.Tables.{AreRows}
+use Rattle.keyspace.specs.storage.Tables.{AreRows}
 use Rattle.keyspace.proofs.RowsInTurn.{no_row, rows_up_to}
 use Rattle.keyspace.proofs.row.first_span.Goals as goal
 

@@ -1,7 +1,7 @@
 use Rattle.std.proofs.Common.{◌≡◌, ◌++◌, ◌∷◌, [], map, take, get_or, sym, ap, ◌∙◌, subst, arith}
 use Rattle.std.proofs.lemmas.List.{map_more}
-use Rattle.keyspace.specs.Fields.{range_fields}
-use Rattle.keyspace.specs.Putting.{ArePut}
+use Rattle.keyspace.specs.storage.Fields.{range_fields}
+use Rattle.keyspace.specs.storage.Putting.{ArePut}
 use Rattle.keyspace.proofs.Putting.{put_none, put_then}
 use Rattle.keyspace.proofs.tables.put_ranges.Goals as goal
 

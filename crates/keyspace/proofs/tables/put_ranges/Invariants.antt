@@ -1,6 +1,6 @@
 use Rattle.std.proofs.Common.{map, take}
-use Rattle.keyspace.specs.Fields.{range_fields}
-use Rattle.keyspace.specs.Putting.{ArePut}
+use Rattle.keyspace.specs.storage.Fields.{range_fields}
+use Rattle.keyspace.specs.storage.Putting.{ArePut}
 use Rattle.keyspace.proofs.tables.put_ranges.Given as goal
 
 abbrev pub invariant-loop-range : goal.invariant-loop-range

@@ -1,6 +1,6 @@
 use Rattle.std.proofs.Common.{◌≡◌, length, take}
-use Rattle.keyspace.specs.RowMarks.{marks_of_rows}
-use Rattle.keyspace.specs.Tables.{AreRows}
+use Rattle.keyspace.specs.storage.RowMarks.{marks_of_rows}
+use Rattle.keyspace.specs.storage.Tables.{AreRows}
 use Rattle.keyspace.proofs.write_order.mark_writes.Given as goal
 
 abbrev pub invariant-loop-row : goal.invariant-loop-row

@@ -10,11 +10,11 @@ ghost use Rattle.replay_program.specs.ShardedProgram.{ChecksFilesByShards};
 ghost use Rattle.replay_program.specs.ShardedProgram.{FailsToCheckFilesByShards};
 ghost use Rattle.replay_sharded.specs.Files.{ReadTheFiles};
 
-use flow::WaitingRoom;
 use replay_arguments::Files;
 use replay_output::{Form, Options, Status};
 use replay_sharded::ShardedReaders;
 use replay_tasks::{Ended, check_sharded_over, fail_to_read_replies, read_replies};
+use replay_workers::WaitingRoom;
 use std::alloc::Global;
 use std::sync::Wait;
 use std::thread::Threads;

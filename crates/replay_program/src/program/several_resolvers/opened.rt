@@ -11,13 +11,13 @@ ghost use Rattle.replay_program.specs.ShardedProgram.{ArePointsOf, IsWhyNotShard
 ghost use Rattle.replay_program.specs.ShardedProgram.{ReportsCause};
 ghost use Rattle.replay_sharded.specs.Files.{ReadTheFiles};
 
-use flow::WaitingRoom;
 use replay_arguments::{
     CommandLine, Extent, Files, OpeningError, fail_to_open, first_irregular, open_files,
 };
 use replay_output::{StartError, Status, begin_line, fail_to_start};
 use replay_sharded::ShardedReaders;
 use replay_shards::{PointsError, fail_to_read_points, points_of_sample, read_points};
+use replay_workers::WaitingRoom;
 use shards::SplitPoints;
 use std::alloc::{AllocError, Global};
 use std::sync::Arc;

@@ -11,11 +11,11 @@ ghost use Rattle.replay_sharded.specs.Files.{ReadTheFiles};
 ghost use Rattle.replay_stream.specs.Sinks.{state_by};
 
 use crate::report::RunReport;
-use flow::WaitingRoom;
 use replay_arguments::{CommandLine, Files, WrittenFile, fail_to_create_file};
 use replay_output::Status;
 use replay_sharded::ShardedReaders;
 use replay_tasks::{SummaryWriter, replay_and_summarize_sharded_over, replay_sharded_over};
+use replay_workers::WaitingRoom;
 use std::alloc::Global;
 use std::sync::Wait;
 use std::thread::Threads;

@@ -7,12 +7,12 @@ use Rattle.std.proofs.Common.{Global}
 use Rattle.std.proofs.lemmas.Grind.{common_steps}
 use Rattle.std.proofs.lemmas.List.{map-append, take_all}
 use Rattle.std.proofs.lemmas.List.Elements.{All-head, All-tail, All-push}
+use Rattle.keys.proofs.callers.Lists.{some_at}
 use Rattle.serial.specs.Shards.{Shard, shards}
 use Rattle.shards.proofs.callers.Combining.{take_next}
 use Rattle.replay_workers.proofs.callers.Lists.{AllZip-also}
 use Rattle.replay_shards.specs.declared.clips.Clips.{Clips}
 use Rattle.replay_sharded.specs.Files.{AreClipsOf, AreFresh, ReadTheFiles}
-use Rattle.replay_sharded.proofs.Readings.{there}
 use Rattle.replay_sharded.proofs.readers.clips_of_shards.Goals as goal
 
 pub loop-own-preserved : goal.loop-own-preserved
@@ -28,7 +28,7 @@ loop-own-preserved g c =
     let rest = into_iter_items c.next.new.self in
     let inside : i < length all = grind (arith, common_steps) in
     let longer : vec_len c.push_reserved.new.self ≡ i + 1 = grind (arith, common_steps) in
-    let shard = there all i inside in
+    let shard = some_at all i inside in
     let points = c.in_ok-points.points.value in
     let here : slice_get (shards points) c.len-shard.result ≡ Some shard.0 =
     ap (λ (p : List (List ℕ)). slice_get (shards p) c.len-shard.result) c.in_ok-points.ensures.ok

@@ -8,7 +8,7 @@ use Rattle.std.proofs.lemmas.List.{map-append}
 use Rattle.std.proofs.lemmas.List.Elements.{All-head, All-tail}
 use Rattle.std.proofs.lemmas.Result.{IfOk-weaker}
 use Rattle.serial.specs.Shards.{shards}
-use Rattle.resolver.specs.declared.resolver_core.TheConstants.{MAX_PROXIES}
+use Rattle.limits.specs.declared.settings.TheConstants.{MAX_PROXIES}
 use Rattle.replay_output.specs.declared.options.Options.{Options}
 use Rattle.replay_shards.specs.declared.clips.Clips.{Clips}
 use Rattle.replay_sharded.specs.declared.runs.StartedShards.{StartedShards}

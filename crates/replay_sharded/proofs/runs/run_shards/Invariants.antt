@@ -2,7 +2,7 @@ use Rattle.std.proofs.Common.{◌≡◌, ◌≤◌, ◌+◌, ◌++◌}
 use Rattle.std.specs.Prelude.{map, vec_capacity, vec_items, vec_len}
 use Rattle.std.specs.List.{All}
 use Rattle.std.specs.Vec.Iter.{into_iter_items, into_iter_len}
-use Rattle.resolver.specs.declared.resolver_core.TheConstants.{MAX_PROXIES}
+use Rattle.limits.specs.declared.settings.TheConstants.{MAX_PROXIES}
 use Rattle.replay_sharded.specs.Files.{AreFresh}
 use Rattle.replay_sharded.specs.Runs.{given_to, keeping}
 use Rattle.replay_sharded.proofs.Works.{given_by}

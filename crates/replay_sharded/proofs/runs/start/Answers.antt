@@ -5,7 +5,7 @@ use denote.Param.Send.{IsSend, AllSend, sendable, param_send, struct_send, recor
 use Rattle.replay_sharded.proofs.runs.start.Lts.{arg-1-3}
 use denote.Struct.Declared.{shape}
 use Rattle.keyspace.proofs.reply.Reply.TheSendSync as reply
-use Rattle.resolver.proofs.stop.Stop.TheSendSync as stop
+use Rattle.limits.proofs.stop.Stop.TheSendSync as stop
 use Rattle.replay_output.proofs.failures.ProxyFailure.TheSendSync as failure
 use Rattle.replay_output.proofs.start.StartError.TheSendSync as cause
 use Rattle.replay_output.specs.contracts.line.Line as Line

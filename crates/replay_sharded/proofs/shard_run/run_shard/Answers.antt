@@ -4,7 +4,7 @@ use Rattle.std.specs.Prelude.{Bool, map, vec_items}
 use Rattle.std.specs.Io.KnownBytes.{IsAtEnd}
 use Rattle.replay_output.specs.declared.line.Line.{Line}
 use Rattle.replay_workers.specs.Run.{EndsAt, IsRunOver}
-use Rattle.replay_workers.specs.Worker.{IsFaultAt}
+use Rattle.wire.specs.Batches.{IsFaultAt}
 use Rattle.replay_shards.specs.Clips.{GivesClip, GivesNoClip, bytes_left}
 use Rattle.replay_sharded.specs.declared.shard_run.ShardRun.{ShardRun}
 use Rattle.replay_sharded.specs.Runs.{lines_by}

@@ -1,6 +1,6 @@
 use Rattle.std.proofs.Common.{◌≡◌, ◌++◌, length, take, drop, sym, subst, All, rules, arith}
 use Rattle.std.proofs.lemmas.Grind.{common_steps}
-use Rattle.checking.specs.InOrder.{in_order_by}
+use Rattle.keyspace.specs.storage.InOrder.{in_order_by}
 use Rattle.replay_output.specs.Line.{version_of_line}
 use Rattle.replay_shards.specs.Answered.{IsKept}
 use Rattle.replay_shards.proofs.Sorted.{kept_in_order}

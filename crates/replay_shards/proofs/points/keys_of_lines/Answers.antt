@@ -2,7 +2,8 @@ use Rattle.std.proofs.Common.{◌≡◌, ◌<◌, ◌∙◌, ◌++◌, [], ℕ, 
 use Rattle.std.proofs.lemmas.Grind.{common_steps}
 use Rattle.std.proofs.lemmas.List.{nil_from_length}
 use Rattle.std.specs.Io.BufRead.{take_through}
-use Rattle.replay_shards.specs.Points.{ArePointLines, IsPointLine}
+use Rattle.json_lines.specs.Ranges.{IsKeyLine}
+use Rattle.replay_shards.specs.Points.{ArePointLines}
 use Rattle.replay_shards.proofs.Lines.{Completes, completes_more}
 use Rattle.replay_shards.proofs.points.keys_of_lines.Goals as goal
 
@@ -17,7 +18,7 @@ loop-rest-preserved c =
     let some : 0 < length rest = first_of (search rules, grind (arith, common_steps)) in
     let parts : rest ≡ take_through 10 rest ++ after =
     sym (take-append-drop n rest) ∙ ap₂ (λ (a b : List ℕ). a ++ b) c.line_length.ensures.line (sym c.split_at.ensures.back) in
-    let is = subst (λ (line : List ℕ). IsPointLine line key) (c.split_at.ensures.front ∙ c.line_length.ensures.line)
+    let is = subst (λ (line : List ℕ). IsKeyLine line key) (c.split_at.ensures.front ∙ c.line_length.ensures.line)
     c.in_ok-key_of_line.ensures.key in
     subst (λ (all : List (List ℕ)). Completes bytes after all) (sym c.in_ok-push.ensures.items)
     (completes_more bytes rest after key keys c.loop-rest.invariant some parts is)

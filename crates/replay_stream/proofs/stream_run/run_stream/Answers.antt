@@ -1,13 +1,12 @@
-use Rattle.std.proofs.Common.{◌≡◌, ℕ, List, ap, refl, sym, subst, ◌∙◌, arith, rules, ℤ, length, w64, to_z, of_z}
+use Rattle.std.proofs.Common.{◌≡◌, ℕ, List, ap, refl, sym, subst, ◌∙◌, arith, rules, ℤ, length}
 use Rattle.std.proofs.lemmas.Grind.{common_steps}
-use Rattle.std.proofs.lemmas.Int.{ints, to_z-of_z}
 use Rattle.std.proofs.lemmas.List.{length-map}
 use Rattle.std.proofs.lemmas.Simd.{map-map}
 use Rattle.std.proofs.lemmas.List.Elements.{All-same}
 use Rattle.std.specs.Prelude.{negsuc, ◌&&◌, Bool, true, false, is_some, map, Option, None, IfSome, slice_get}
 use Rattle.std.specs.List.{AllZip}
 use Rattle.resolver.specs.declared.client.Client.{Client}
-use Rattle.resolver.specs.declared.stop.Stop.{Stop}
+use Rattle.limits.specs.declared.stop.Stop.{Stop}
 use Rattle.resolver.specs.Resolver.{AreClients}
 use Rattle.resolver.specs.Settled.{Settled}
 use Rattle.resolver.proofs.callers.Lists.{written_back}
@@ -205,9 +204,7 @@ returns g c =
     let account = c.settle-account.result in
     let reported = c.turn_to_end.ensures.accounted
     (accounted_new c.in_ok-resolver.resolver c.in_ok-resolver.ensures.opens.stands c.in_ok-resolver.ensures.opens.no_stop) in
-    let kept : to_z w64 (of_z w64 c.args.options.window) ≡ c.args.options.window =
-    first_of (search rules, grind (arith, ints, to_z-of_z)) in
-    let window_is = c.turn_to_end.ensures.continues.window ∙ c.in_ok-resolver.ensures.opens.window ∙ kept in
+    let window_is = c.turn_to_end.ensures.continues.window ∙ c.in_ok-resolver.ensures.opens.window in
     let limit_is = c.turn_to_end.ensures.continues.limit ∙ c.in_ok-resolver.ensures.opens.limit in
     let returned = c.as_mut_slice.ensures.value ∙ joined.2.clients in
     let windowed = subst (λ (window : ℤ). Settled window reported.log resolver.lanes c.as_mut_slice.result.now account) window_is

@@ -1,5 +1,5 @@
 use Rattle.std.proofs.Common.{ℤ, List, map, vec_items, sym, subst, arith}
-use Rattle.checking.specs.InOrder.{Rise}
+use Rattle.keyspace.specs.storage.InOrder.{Rise}
 use Rattle.replay_summary.specs.Counted.{version_of}
 use Rattle.replay_summary.specs.Summary.{Fits, summary_of}
 use Rattle.replay_summary.proofs.CountedItems.{holds_at}

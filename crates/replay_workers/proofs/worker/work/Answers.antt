@@ -4,7 +4,8 @@ use Rattle.std.specs.Prelude.{Option, List, ℕ}
 use Rattle.wire.specs.declared.frames.Frames.{Frames}
 use Rattle.wire.specs.Frames.{frames_reader}
 use Rattle.wire.specs.NextFrame.{TakesFrame}
-use Rattle.replay_workers.specs.Worker.{HasWorked, IsFaultAt}
+use Rattle.wire.specs.Batches.{IsFaultAt}
+use Rattle.replay_workers.specs.Worker.{HasWorked}
 use Rattle.replay_workers.proofs.Seen.{worked_seen}
 use Rattle.replay_workers.proofs.worker.work.Goals as goal
 

@@ -8,12 +8,12 @@ use Rattle.resolver.specs.Observed.{HasSeen}
 use Rattle.wire.specs.declared.frames.Frames.{Frames}
 use Rattle.wire.specs.Frames.{frames_reader}
 use Rattle.wire.specs.NextFrame.{TakesFrame}
+use Rattle.wire.specs.Batches.{IsFaultAt}
 use Rattle.replay_output.specs.declared.options.reports.Reports.{Reports}
 use Rattle.replay_output.specs.declared.options.reports.Reports.TheVariants.{Asked, All}
 use Rattle.replay_workers.specs.declared.reporting_batches.AskingFrames.{AskingFrames}
 use Rattle.replay_workers.specs.Asking.{asking_reader}
 use Rattle.replay_workers.specs.Reporting.{TakesResolved, resolved_for}
-use Rattle.replay_workers.specs.Worker.{IsFaultAt}
 use Rattle.replay_workers.specs.Occupied.{IsOccupancyOf}
 use Rattle.replay_workers.specs.Run.{IsMeasuredRun, IsRun, IsObservedRun, is_complete}
 use Rattle.replay_workers.proofs.Seen.{map_twice, run_seen, run_seen_log}

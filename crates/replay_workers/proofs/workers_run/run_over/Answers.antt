@@ -1,12 +1,11 @@
 use Rattle.std.proofs.lemmas.Bool.{false≢true}
-use Rattle.std.proofs.Common.{◌≡◌, ℕ, Global, List, [], ap, sym, subst, ◌∙◌, arith, rules, ℤ, length, w64, to_z, of_z}
+use Rattle.std.proofs.Common.{◌≡◌, ℕ, Global, List, [], ap, sym, subst, ◌∙◌, arith, rules, ℤ, length}
 use Rattle.std.proofs.lemmas.Grind.{common_steps}
-use Rattle.std.proofs.lemmas.Int.{ints, to_z-of_z}
 use Rattle.std.specs.Prelude.{negsuc, map, vec_items, true, Option, None, IfSome, slice_get, vec_len}
 use Rattle.std.specs.List.{All, AllZip}
 use Rattle.std.proofs.lemmas.List.{length-map}
 use Rattle.resolver.specs.declared.client.Client.{Client}
-use Rattle.resolver.specs.declared.stop.Stop.{Stop}
+use Rattle.limits.specs.declared.stop.Stop.{Stop}
 use Rattle.keyspace.specs.Run.{Step}
 use Rattle.resolver.specs.Observed.{HasSeen}
 use Rattle.resolver.specs.Resolver.{AreClients, SameClients, StandsOver}
@@ -101,9 +100,7 @@ returns g c =
     let resolver = c.turn_to_end-occupancy.new.resolver in
     let account = c.settle-account.result in
     let back = map (λ (f : Finished). f.client) (finished_of worked.0) in
-    let kept : to_z w64 (of_z w64 c.args.options.window) ≡ c.args.options.window =
-    first_of (search rules, grind (arith, ints, to_z-of_z)) in
-    let window_is = c.turn_to_end-occupancy.ensures.continues.window ∙ c.in_ok-resolver.ensures.opens.window ∙ kept in
+    let window_is = c.turn_to_end-occupancy.ensures.continues.window ∙ c.in_ok-resolver.ensures.opens.window in
     let limit_is = c.turn_to_end-occupancy.ensures.continues.limit ∙ c.in_ok-resolver.ensures.opens.limit in
     let returned = c.as_mut_slice.ensures.value ∙ worked.2.clients in
     let settled : (log : List Step) → StandsOver resolver log → Settled c.args.options.window log resolver.lanes back account =

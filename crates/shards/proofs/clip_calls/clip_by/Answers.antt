@@ -3,16 +3,17 @@ use Rattle.std.specs.Prelude.{Some, slice_get}
 use Rattle.std.specs.List.{AllZip}
 use Rattle.std.proofs.lemmas.Result.{IfOk-weaker}
 use Rattle.std.proofs.lemmas.Slice.Zip.{AllZip-long}
+use Rattle.keys.proofs.callers.Lists.{AllZip-split}
 use Rattle.keys.specs.declared.range.Range.{Range}
 use Rattle.keyspace.specs.declared.txn.Txn.{Txn}
-use Rattle.keyspace.specs.BatchRanges.{ranges_in}
+use Rattle.keyspace.specs.storage.BatchRanges.{ranges_in}
 use Rattle.serial.specs.Shards.{shards}
 use Rattle.shards.specs.declared.clipped.Clipped.{Clipped}
 use Rattle.shards.specs.declared.reach.Reach.{Reach}
 use Rattle.shards.specs.Built.{IsBuilt}
 use Rattle.shards.specs.Clips.{IsClipped}
 use Rattle.shards.specs.Reach.{shard_at, IsReported}
-use Rattle.shards.proofs.BuiltTables.{zip_split, ranges_next, reported_of_shard}
+use Rattle.shards.proofs.BuiltTables.{ranges_next, reported_of_shard}
 use Rattle.shards.proofs.Leasts.{take_next}
 use Rattle.shards.proofs.ShardList.{length-shards, shard_get}
 use Rattle.shards.proofs.clip_calls.clip_by.Goals.{Start, After-len-in-loop-index, After-txn-1}
@@ -77,7 +78,7 @@ own c =
     let t = c.txn-txn.result in
     let R = IsReported (shard_at c.args.points.now c.args.shard) c.args.shard in
     let later = ranges_in (drop (c.loop-index.index + 1) c.args.batch.now.txns) in
-    let both = zip_split R (t.reads ++ t.writes) later c.loop-index.rest.now (left at.After-len-in-loop-index) in
+    let both = AllZip-split R (t.reads ++ t.writes) later c.loop-index.rest.now (left at.After-len-in-loop-index) in
     subst (λ (reaches : List Reach). AllZip R (t.reads ++ t.writes) reaches)
     (ap (λ n. take n c.loop-index.rest.now) (sym (count at.After-len-in-loop-index)) ∙ sym c.split_at.ensures.front) both.0
 
@@ -105,7 +106,7 @@ loop-index-preserved c =
     let shard = shard_at c.args.points.now m in
     let R = IsReported shard m in
     let later = ranges_in (drop (i + 1) txns) in
-    let both = zip_split R (t.reads ++ t.writes) later c.loop-index.rest.now (left at.After-len-in-loop-index) in
+    let both = AllZip-split R (t.reads ++ t.writes) later c.loop-index.rest.now (left at.After-len-in-loop-index) in
     record {
       built = subst (λ (front : List Txn). IsBuilt shard m front c.put.new.self) (sym (take_next txns i t c.txn-txn.ensures.txn))
           (c.in_ok-put.ensures.built shard m (take i txns) c.loop-index.invariant.built (few at.After-len-in-loop-index) (own at.After-txn-1));

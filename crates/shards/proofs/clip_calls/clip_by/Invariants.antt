@@ -1,6 +1,6 @@
 use Rattle.std.proofs.Common.{take, drop}
 use Rattle.std.specs.List.{AllZip}
-use Rattle.keyspace.specs.BatchRanges.{ranges_in}
+use Rattle.keyspace.specs.storage.BatchRanges.{ranges_in}
 use Rattle.shards.specs.Built.{IsBuilt}
 use Rattle.shards.specs.Reach.{shard_at, IsReported}
 use Rattle.shards.proofs.clip_calls.clip_by.Given as goal

@@ -1,7 +1,7 @@
 use Rattle.std.proofs.Common.{◌≡◌, ◌∙◌, ℕ, List, [], length, map, sym, ap, subst, All}
 use Rattle.keyspace.specs.declared.txn.Txn.{Txn}
-use Rattle.keyspace.specs.Fields.{txn_fields}
-use Rattle.keyspace.specs.Tables.{txns_of_tables, LiesWithin}
+use Rattle.keyspace.specs.storage.Fields.{txn_fields}
+use Rattle.keyspace.specs.storage.Tables.{txns_of_tables, LiesWithin}
 use Rattle.keyspace.proofs.callers.Putting.{reported_kept, within_kept}
 use Rattle.serial.specs.Shards.{Shard}
 use Rattle.shards.specs.Built.{AreLeft, IsBuilt}

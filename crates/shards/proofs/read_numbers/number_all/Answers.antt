@@ -1,7 +1,7 @@
 use Rattle.std.proofs.Common.{◌≤◌, ◌+◌, ℕ, List, [], length, take, sym, subst, arith}
 use Rattle.std.specs.List.{AllZip}
 use Rattle.keys.proofs.callers.Lists.{AllZip-more}
-use Rattle.keyspace.specs.BatchRanges.{ranges_in}
+use Rattle.keyspace.specs.storage.BatchRanges.{ranges_in}
 use Rattle.serial.specs.Shards.{Shard, shards}
 use Rattle.shards.specs.Numbered.{AreNumbered}
 use Rattle.shards.specs.Reach.{shard_at, IsReach}

@@ -1,6 +1,6 @@
 use Rattle.std.proofs.Common.{◌≡◌, map, take, drop}
 use Rattle.std.specs.List.{AllZip}
-use Rattle.keyspace.specs.BatchRanges.{ranges_in}
+use Rattle.keyspace.specs.storage.BatchRanges.{ranges_in}
 use Rattle.serial.specs.Shards.{Shard}
 use Rattle.shards.specs.Clips.{read_indices}
 use Rattle.shards.specs.ReadIndices.{parts_from, AreIndices}

@@ -1,7 +1,7 @@
 use Rattle.std.proofs.Common.{◌≡◌, ◌∙◌, sym, ap}
 use Rattle.keys.specs.declared.range.Range.{Range}
-use Rattle.keyspace.specs.Fields.{RangeFields, range_fields}
-use Rattle.keyspace.specs.Tables.{range_of_span}
+use Rattle.keyspace.specs.storage.Fields.{RangeFields, range_fields}
+use Rattle.keyspace.specs.storage.Tables.{range_of_span}
 use Rattle.keyspace.proofs.callers.Putting.{put_none}
 use Rattle.shards.specs.Built.{clip_fields}
 use Rattle.shards.specs.Cut.{shard_of_ends}

@@ -2,10 +2,10 @@ use Rattle.std.proofs.Common.{◌≡◌, ◌≤◌, ◌++◌, ◌∷◌, ◌∙�
 use Rattle.std.proofs.lemmas.List.{length-map}
 use Rattle.keys.specs.declared.range.Range.{Range}
 use Rattle.keyspace.specs.declared.span.Span.{Span}
-use Rattle.keyspace.specs.Fields.{range_fields}
+use Rattle.keyspace.specs.storage.Fields.{range_fields}
 use Rattle.keyspace.specs.Judge.{places_from}
-use Rattle.keyspace.specs.Putting.{ArePut}
-use Rattle.keyspace.specs.Tables.{range_of_span}
+use Rattle.keyspace.specs.storage.Putting.{ArePut}
+use Rattle.keyspace.specs.storage.Tables.{range_of_span}
 use Rattle.keyspace.proofs.callers.Putting.{put_none}
 use Rattle.shards.specs.Built.{clips_of}
 use Rattle.shards.specs.Clips.{goes_to}

@@ -1,8 +1,8 @@
 use Rattle.std.proofs.Common.{◌≡◌, ℕ, List, map, take}
 use Rattle.keys.specs.declared.range.Range.{Range}
-use Rattle.keyspace.specs.Fields.{range_fields}
-use Rattle.keyspace.specs.Putting.{ArePut}
-use Rattle.keyspace.specs.Tables.{range_of_span}
+use Rattle.keyspace.specs.storage.Fields.{range_fields}
+use Rattle.keyspace.specs.storage.Putting.{ArePut}
+use Rattle.keyspace.specs.storage.Tables.{range_of_span}
 use Rattle.shards.specs.Built.{HasBounds, clips_of}
 use Rattle.shards.specs.Cut.{shard_of_ends}
 use Rattle.shards.proofs.shard_tables.keep_writes.Given as goal

@@ -3,8 +3,8 @@ use Rattle.std.specs.Prelude.{Some}
 use Rattle.std.proofs.lemmas.Option.{get_or_from_slice_get}
 use Rattle.keys.specs.declared.range.Range.{Range}
 use Rattle.keys.proofs.callers.Lists.{some_at, AllZip-at}
-use Rattle.keyspace.specs.Fields.{RangeFields}
-use Rattle.keyspace.specs.Putting.{ArePut}
+use Rattle.keyspace.specs.storage.Fields.{RangeFields}
+use Rattle.keyspace.specs.storage.Putting.{ArePut}
 use Rattle.keyspace.proofs.callers.Putting.{put_none, put_then}
 use Rattle.shards.specs.Built.{clip_fields, clips_of}
 use Rattle.shards.specs.Reach.{is_reached, IsReported}

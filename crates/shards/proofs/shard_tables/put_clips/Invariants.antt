@@ -1,6 +1,6 @@
 use Rattle.std.proofs.Common.{ℕ, take}
 use Rattle.std.specs.List.{AllZip}
-use Rattle.keyspace.specs.Putting.{ArePut}
+use Rattle.keyspace.specs.storage.Putting.{ArePut}
 use Rattle.serial.specs.Shards.{Shard}
 use Rattle.shards.specs.Built.{HasBounds, clips_of}
 use Rattle.shards.specs.Reach.{IsReported}

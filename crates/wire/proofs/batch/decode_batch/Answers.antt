@@ -5,7 +5,7 @@ use Rattle.wire.specs.Fields.{BatchFields, batch_fields}
 use Rattle.wire.specs.Spelling.{BatchHolds}
 use Rattle.wire.specs.Lying.{AreApart, batch_of_tables}
 use Rattle.wire.specs.Reading.{read_batch}
-use Rattle.wire.proofs.Batches.{batch_is_spelled}
+use Rattle.wire.proofs.BatchFrames.{batch_is_spelled}
 use Rattle.wire.proofs.batch.decode_batch.Goals as goal
 
 pub batch_of-requires-clause-apart : goal.batch_of-requires-clause-apart

@@ -1,6 +1,6 @@
 use Rattle.std.proofs.Common.{length, arith}
 use Rattle.byteorder.specs.Endian.{big_bytes}
-use Rattle.wire.proofs.Batches.{body_is_at}
+use Rattle.wire.proofs.BatchFrames.{body_is_at}
 use Rattle.wire.proofs.batch.frame_of.Goals as goal
 
 pub returns-clause-body : goal.returns-clause-body

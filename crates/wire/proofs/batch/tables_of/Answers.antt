@@ -1,7 +1,7 @@
 use Rattle.std.proofs.Common.{◌≡◌, Ok, rules, arith}
 use Rattle.wire.specs.Lying.{batch_of_tables}
 use Rattle.wire.specs.Reading.{read_batch}
-use Rattle.wire.proofs.Batches.{read_holds}
+use Rattle.wire.proofs.BatchFrames.{read_holds}
 use Rattle.wire.proofs.batch.tables_of.Goals as goal
 
 pub returns-clause-holds : goal.returns-clause-holds

@@ -1,6 +1,6 @@
 use Rattle.std.proofs.Common.{◌≡◌, ℕ, ◌+◌, List, length, vec_len, map, ap, subst, ◌∙◌, rules, arith, w64}
 use Rattle.std.proofs.lemmas.Int.{to_z-of_z}
-use Rattle.keyspace.specs.Tables.{range_of_span}
+use Rattle.keyspace.specs.storage.Tables.{range_of_span}
 use Rattle.wire.specs.Lying.{AreApart, range_read}
 use Rattle.wire.proofs.Keeping.{are_tables, txns_sealed}
 use Rattle.wire.proofs.batch.unordered_of.Goals as goal

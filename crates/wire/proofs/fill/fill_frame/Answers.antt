@@ -23,8 +23,8 @@ returns-in_err-fill-2-clause-part g c =
     let front = c.fill.new.buffer.items in
     let moved : MovesInto old now [] front =
     subst (λ (held : List ℕ). MovesInto old now held front) c.clear.ensures.items c.in_ok-fill.ensures.bytes in
-    let reported : c.settled_by-length.result ≡ frame_length front =
-    c.settled_by-length.ensures.exact ∙ ap frame_length c.deref.ensures.value in
+    let reported : c.frame_length-length.result ≡ frame_length front =
+    c.frame_length-length.ensures.exact ∙ ap frame_length c.deref.ensures.value in
     let len : length front ≡ vec_len c.fill.new.buffer = search rules in
     let more : 4 < frame_length front = omega (arith, reported, c.if-length-gt4.true) in
     at_any_err c.from_residual-in_err-fill-2.result
@@ -37,8 +37,8 @@ returns-in_ok-fill-2-clause-within g c =
     let new = g.R.Source.remaining c.fill-then-length-gt4.new.reader in
     let front = c.fill.new.buffer.items in
     let all = c.fill-then-length-gt4.new.buffer.items in
-    let reported : c.settled_by-length.result ≡ frame_length front =
-    c.settled_by-length.ensures.exact ∙ ap frame_length c.deref.ensures.value in
+    let reported : c.frame_length-length.result ≡ frame_length front =
+    c.frame_length-length.ensures.exact ∙ ap frame_length c.deref.ensures.value in
     let same = longer_front now new front all c.in_ok-fill-2.ensures.bytes (omega (arith, reported, c.if-length-gt4.true)) in
     omega (arith, same, reported, c.in_ok-fill-2.ensures.within)
 
@@ -48,8 +48,8 @@ returns-in_ok-fill-2-clause-end g c less =
     let new = g.R.Source.remaining c.fill-then-length-gt4.new.reader in
     let front = c.fill.new.buffer.items in
     let all = c.fill-then-length-gt4.new.buffer.items in
-    let reported : c.settled_by-length.result ≡ frame_length front =
-    c.settled_by-length.ensures.exact ∙ ap frame_length c.deref.ensures.value in
+    let reported : c.frame_length-length.result ≡ frame_length front =
+    c.frame_length-length.ensures.exact ∙ ap frame_length c.deref.ensures.value in
     let same = longer_front now new front all c.in_ok-fill-2.ensures.bytes (omega (arith, reported, c.if-length-gt4.true)) in
     c.in_ok-fill-2.ensures.end (omega (arith, same, reported, less))
 

@@ -1,5 +1,5 @@
 use Rattle.std.proofs.Common.{◌∙◌, sym}
-use Rattle.wire.proofs.Batches.{reported_again}
+use Rattle.wire.proofs.BatchFrames.{reported_again}
 use Rattle.wire.proofs.OneSpelling.{one_batch, no_batch_fault, one_reply, no_reply_fault, kinds_apart}
 use Rattle.wire.proofs.laws.one_spelling.Goals as goal
 

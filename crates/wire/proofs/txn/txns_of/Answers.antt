@@ -1,6 +1,6 @@
 use Rattle.std.proofs.Common.{[], ◌∷◌, ◌++◌, length, subst}
 use Rattle.std.proofs.lemmas.Result.{err_from_is_err_and}
-use Rattle.keyspace.specs.Tables.{AreRows}
+use Rattle.keyspace.specs.storage.Tables.{AreRows}
 use Rattle.keyspace.proofs.callers.Rows.{rows_more}
 use Rattle.wire.specs.Lying.{txn_read, txns_read}
 use Rattle.wire.specs.Reading.{txn_at, many_at}

@@ -1,5 +1,5 @@
 use Rattle.std.proofs.Common.{◌≡◌, ◌-◌, length}
-use Rattle.keyspace.specs.Tables.{AreRows}
+use Rattle.keyspace.specs.storage.Tables.{AreRows}
 use Rattle.wire.specs.Lying.{txns_read, IsRestOf, AreApart, index_of}
 use Rattle.wire.specs.Reading.{txn_at, many_at}
 use Rattle.wire.proofs.Loop.{with_front}

@@ -1,6 +1,6 @@
 use Rattle.std.proofs.Common.{arith, ◌≡◌, ◌-◌, List, length, take, ap, ◌∙◌}
-use Rattle.keyspace.specs.Fields.{TxnFields}
-use Rattle.keyspace.specs.Tables.{txns_of_tables}
+use Rattle.keyspace.specs.storage.Fields.{TxnFields}
+use Rattle.keyspace.specs.storage.Tables.{txns_of_tables}
 use Rattle.keyspace.proofs.callers.Putting.{length-reported}
 use Rattle.archcaraway_c.proofs.batch_object.BatchObject.drop_last.Goals as goal
 

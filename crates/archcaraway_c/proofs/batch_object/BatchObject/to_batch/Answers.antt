@@ -1,6 +1,6 @@
 use Rattle.std.proofs.Common.{arith, ap, length}
 use Rattle.std.proofs.lemmas.List.{length-map}
-use Rattle.keyspace.specs.Fields.{txn_fields}
+use Rattle.keyspace.specs.storage.Fields.{txn_fields}
 use Rattle.keyspace.proofs.callers.Putting.{length-reported}
 use Rattle.archcaraway_c.proofs.batch_object.BatchObject.to_batch.Goals as goal
 

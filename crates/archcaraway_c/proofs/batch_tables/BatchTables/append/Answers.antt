@@ -2,9 +2,9 @@ use Rattle.std.proofs.Common.{rules, arith, ◌≡◌, ◌≤◌, ◌+◌, List,
 use Rattle.std.proofs.lemmas.Int.{to_z-of_z}
 use Rattle.std.proofs.lemmas.List.{length-map}
 use Rattle.keyspace.specs.declared.row.Row.{Row}
-use Rattle.keyspace.specs.Fields.{TxnLimits}
-use Rattle.keyspace.specs.Putting.{ArePut}
-use Rattle.keyspace.specs.Tables.{txns_of_tables, AreTables}
+use Rattle.keyspace.specs.storage.Fields.{TxnLimits}
+use Rattle.keyspace.specs.storage.Putting.{ArePut}
+use Rattle.keyspace.specs.storage.Tables.{txns_of_tables, AreTables}
 use Rattle.keyspace.proofs.callers.Putting.{length-put, few_spans, txn_put}
 use Rattle.archcaraway_c.specs.BatchObject.{range_given, txn_given, span_after}
 use Rattle.archcaraway_c.proofs.Appending.{hold_given, put_first, put_second}

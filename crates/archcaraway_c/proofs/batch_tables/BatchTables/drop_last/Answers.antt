@@ -1,7 +1,7 @@
 use Rattle.std.proofs.Common.{arith, ◌≡◌, ◌-◌, List, length, take, refl, ap, subst, ◌∙◌}
 use Rattle.std.proofs.lemmas.Grind.{common_steps}
 use Rattle.keyspace.specs.declared.row.Row.{Row}
-use Rattle.keyspace.specs.Tables.{txns_of_tables, AreRows}
+use Rattle.keyspace.specs.storage.Tables.{txns_of_tables, AreRows}
 use Rattle.archcaraway_c.proofs.Dropping.{tables_front, reported_front}
 use Rattle.archcaraway_c.proofs.Joining.{tables_same, reported_same}
 use Rattle.archcaraway_c.proofs.batch_tables.BatchTables.drop_last.Goals as goal

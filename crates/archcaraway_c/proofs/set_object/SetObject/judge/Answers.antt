@@ -1,7 +1,7 @@
 use Rattle.std.proofs.Common.{rules, arith, ◌≡◌, ℕ, negsuc, length, take, FitsSigned, w64, inr, refl, sym, ap, subst, ◌∙◌}
 use Rattle.std.proofs.lemmas.Int.{to_z-of_z}
 use Rattle.std.proofs.lemmas.List.{length-map}
-use Rattle.keyspace.specs.Fields.{txn_fields}
+use Rattle.keyspace.specs.storage.Fields.{txn_fields}
 use Rattle.archcaraway_c.specs.BatchObject.{IsBatchOf}
 use Rattle.archcaraway_c.specs.Judging.{JudgesBatch, JudgeRefuses}
 use Rattle.archcaraway_c.specs.declared.refusal.Refusal.{Refusal}

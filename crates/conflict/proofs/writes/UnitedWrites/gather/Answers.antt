@@ -3,7 +3,7 @@ use Rattle.std.specs.Prelude.{ℕ, Bool, true, false, slice_index_or}
 use Rattle.keys.specs.GapRuns.{AreChosenInOrder}
 use Rattle.keys.specs.Singles.{AreRankedFor}
 use Rattle.keys.specs.declared.range.Range.{Range}
-use Rattle.keyspace.specs.BatchRanges.{is_write_in, writes_in}
+use Rattle.keyspace.specs.storage.BatchRanges.{is_write_in, writes_in}
 use Rattle.keyspace.specs.Writes.{committed}
 use Rattle.stepmap.specs.Uniting.{Unites}
 use Rattle.conflict.specs.Union.{AreSpanned, picked}

@@ -1,5 +1,5 @@
 use Rattle.std.proofs.Common.{map}
-use Rattle.keyspace.specs.Tables.{range_of_span}
+use Rattle.keyspace.specs.storage.Tables.{range_of_span}
 use Rattle.keyspace.proofs.FieldsBack.{fields_of_ranges}
 use Rattle.keyspace.proofs.ranges_ref.RangesRef.new.Goals as goal
 

@@ -1,6 +1,6 @@
 use Rattle.std.proofs.Common.{◌≡◌, map, take}
-use Rattle.keyspace.specs.Fields.{txn_fields}
-use Rattle.keyspace.specs.Tables.{txns_of_tables, AreTables}
+use Rattle.keyspace.specs.storage.Fields.{txn_fields}
+use Rattle.keyspace.specs.storage.Tables.{txns_of_tables, AreTables}
 use Rattle.keyspace.proofs.tables.Tables.of.Given as goal
 
 abbrev pub invariant-loop-txn : goal.invariant-loop-txn

@@ -1,9 +1,9 @@
 use Rattle.std.proofs.Common.{rules, arith, ◌≡◌, [], ◌∷◌, ◌++◌, ◌≤◌, ◌+◌, length, map, FitsSigned, w64, refl, sym, ◌∙◌, subst}
 use Rattle.std.proofs.lemmas.Int.{to_z-of_z}
 use Rattle.std.proofs.lemmas.List.{length-map}
-use Rattle.keyspace.specs.Fields.{range_fields, txn_fields}
-use Rattle.keyspace.specs.Putting.{ArePut}
-use Rattle.keyspace.specs.Tables.{txns_of_tables, AreTables}
+use Rattle.keyspace.specs.storage.Fields.{range_fields, txn_fields}
+use Rattle.keyspace.specs.storage.Putting.{ArePut}
+use Rattle.keyspace.specs.storage.Tables.{txns_of_tables, AreTables}
 use Rattle.keyspace.proofs.FieldsBack.{limits_of_txn}
 use Rattle.keyspace.proofs.Putting.{length-put}
 use Rattle.keyspace.proofs.TablesRanges.{few_spans}

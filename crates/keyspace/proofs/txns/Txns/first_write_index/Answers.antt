@@ -1,7 +1,7 @@
 use Rattle.std.proofs.Common.{arith, ◌≡◌, ◌+◌, ◌-◌, ◌<◌, List, length, slice_get, sym, ap, ◌∙◌, Some}
 use Rattle.keys.proofs.callers.Lists.{some_at}
 use Rattle.keyspace.specs.declared.txn.Txn.{Txn}
-use Rattle.keyspace.specs.BatchRanges.{ranges_in}
+use Rattle.keyspace.specs.storage.BatchRanges.{ranges_in}
 use Rattle.keyspace.proofs.ReadHashes.{row_within, write_at, writes_fit}
 use Rattle.keyspace.proofs.txns.Txns.first_write_index.Goals.{After-self}
 use Rattle.keyspace.proofs.txns.Txns.first_write_index.Goals as goal

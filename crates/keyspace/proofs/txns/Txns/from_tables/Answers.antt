@@ -6,10 +6,10 @@ use Rattle.keys.specs.GapRuns.{AreChosenInOrder, AreRanked, GapRunsView}
 use Rattle.keys.specs.Singles.{is_marked, picked, AreRankedFor, HaveInOrder}
 use Rattle.keys.specs.declared.range.Range.{Range}
 use Rattle.keys.proofs.callers.GapRuns.{among_within}
-use Rattle.keyspace.specs.BatchRanges.{is_write_in, ranges_in, writes_in}
-use Rattle.keyspace.specs.Fields.{range_fields, txns_with, TxnLimits}
-use Rattle.keyspace.specs.RowMarks.{marks_of_rows}
-use Rattle.keyspace.specs.Tables.{range_of_span, txns_of_tables, AreTables}
+use Rattle.keyspace.specs.storage.BatchRanges.{is_write_in, ranges_in, writes_in}
+use Rattle.keyspace.specs.storage.Fields.{range_fields, txns_with, TxnLimits}
+use Rattle.keyspace.specs.storage.RowMarks.{marks_of_rows}
+use Rattle.keyspace.specs.storage.Tables.{range_of_span, txns_of_tables, AreTables}
 use Rattle.keyspace.specs.declared.row.Row.{Row}
 use Rattle.keyspace.specs.declared.span.Span.{Span}
 use Rattle.keyspace.specs.declared.txn.Txn.{Txn}

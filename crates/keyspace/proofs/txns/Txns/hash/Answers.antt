@@ -1,9 +1,9 @@
 use Rattle.std.proofs.Common.{arith, ◌≡◌, ◌<◌, ◌≤◌, ℕ, List, length, get_or, ap, ◌∙◌}
 use Rattle.std.specs.Prelude.{Option, slice_get}
 use Rattle.keyspace.specs.declared.txn.Txn.{Txn}
-use Rattle.keyspace.specs.BatchRanges.{ranges_in}
-use Rattle.keyspace.specs.Fields.{txns_with}
-use Rattle.keyspace.specs.Tables.{txns_of_tables}
+use Rattle.keyspace.specs.storage.BatchRanges.{ranges_in}
+use Rattle.keyspace.specs.storage.Fields.{txns_with}
+use Rattle.keyspace.specs.storage.Tables.{txns_of_tables}
 use Rattle.keyspace.proofs.ReadHashes.{hash_found, hash_missing}
 use Rattle.keyspace.proofs.txns.Txns.hash.Goals as goal
 

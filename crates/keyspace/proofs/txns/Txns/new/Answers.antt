@@ -1,7 +1,7 @@
 use Rattle.std.proofs.Common.{◌≡◌, List, ap, map, ◌∙◌}
 use Rattle.std.proofs.lemmas.Result.{IfOk-weaker}
 use Rattle.keyspace.specs.declared.txn.Txn.{Txn}
-use Rattle.keyspace.specs.Fields.{txn_fields}
+use Rattle.keyspace.specs.storage.Fields.{txn_fields}
 use Rattle.keyspace.proofs.callers.SameFields.{same_txns}
 use Rattle.keyspace.proofs.txns.Txns.new.Goals as goal
 

@@ -1,5 +1,5 @@
 use Rattle.std.proofs.Common.{ap, ◌∙◌}
-use Rattle.keyspace.specs.BatchRanges.{ranges_in}
+use Rattle.keyspace.specs.storage.BatchRanges.{ranges_in}
 use Rattle.keyspace.proofs.TablesRanges.{spans_hold, ranges_are}
 use Rattle.keyspace.proofs.txns.Txns.ranges.Goals as goal
 

@@ -5,8 +5,8 @@ use Rattle.keys.specs.declared.range.Range.{Range}
 use Rattle.keys.proofs.callers.Lists.{some_at}
 use Rattle.keyspace.specs.declared.txn.Txn.{Txn}
 use Rattle.keyspace.specs.declared.row.Row.{Row}
-use Rattle.keyspace.specs.BatchRanges.{ranges_in}
-use Rattle.keyspace.specs.Tables.{AreRows}
+use Rattle.keyspace.specs.storage.BatchRanges.{ranges_in}
+use Rattle.keyspace.specs.storage.Tables.{AreRows}
 use Rattle.keyspace.proofs.ReadHashes.{row_within, read_at, few_ranges}
 use Rattle.keyspace.proofs.txns.Txns.read_index.Goals.{After-first_span}
 use Rattle.keyspace.proofs.txns.Txns.read_index.Goals as goal

@@ -3,9 +3,9 @@ use Rattle.std.specs.Prelude.{◌≤ℤ◌, pos}
 use Rattle.std.proofs.lemmas.Int.{to_z-of_z}
 use Rattle.std.proofs.lemmas.List.{length-map}
 use Rattle.keyspace.specs.declared.row.Row.{Row}
-use Rattle.keyspace.specs.BatchRanges.{ranges_in}
-use Rattle.keyspace.specs.Fields.{range_fields, TxnLimits}
-use Rattle.keyspace.specs.Tables.{range_of_span, txn_of_row, AreRows}
+use Rattle.keyspace.specs.storage.BatchRanges.{ranges_in}
+use Rattle.keyspace.specs.storage.Fields.{range_fields, TxnLimits}
+use Rattle.keyspace.specs.storage.Tables.{range_of_span, txn_of_row, AreRows}
 use Rattle.keyspace.proofs.RangesReported.{part_reported}
 use Rattle.keyspace.proofs.RowsInTurn.{row_at}
 use Rattle.keyspace.proofs.TablesRanges.{ranges_reported}

@@ -1,7 +1,7 @@
 use Rattle.std.proofs.Common.{map, sym, ap, ◌∙◌}
 use Rattle.keyspace.specs.declared.batch.Batch.{Batch}
-use Rattle.keyspace.specs.Fields.{txn_fields}
-use Rattle.keyspace.specs.Tables.{txns_of_tables}
+use Rattle.keyspace.specs.storage.Fields.{txn_fields}
+use Rattle.keyspace.specs.storage.Tables.{txns_of_tables}
 use Rattle.keyspace.proofs.FieldsBack.{fields_of_txns}
 use Rattle.keyspace.proofs.unordered.UnorderedBatch.into_tables.Goals as goal
 

@@ -1,4 +1,4 @@
-use Rattle.keyspace.specs.Tables.{txns_of_tables}
+use Rattle.keyspace.specs.storage.Tables.{txns_of_tables}
 use Rattle.keyspace.proofs.FieldsBack.{fields_of_txns}
 use Rattle.keyspace.proofs.unordered.UnorderedBatch.new.Goals as goal
 

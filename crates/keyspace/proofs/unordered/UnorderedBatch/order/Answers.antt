@@ -1,8 +1,8 @@
 use Rattle.std.proofs.Common.{List, FitsSigned, w64, map, sym, ap, ◌∙◌, rules, arith}
 use Rattle.std.proofs.lemmas.Int.{to_z-of_z}
 use Rattle.keyspace.specs.declared.txn.Txn.{Txn}
-use Rattle.keyspace.specs.Fields.{txn_fields}
-use Rattle.keyspace.specs.Tables.{txns_of_tables}
+use Rattle.keyspace.specs.storage.Fields.{txn_fields}
+use Rattle.keyspace.specs.storage.Tables.{txns_of_tables}
 use Rattle.keyspace.proofs.FieldsBack.{fields_of_txns}
 use Rattle.keyspace.proofs.RowsInTurn.{length-reported}
 use Rattle.keyspace.proofs.callers.SameFields.{same_batch}

@@ -1,6 +1,6 @@
 use Rattle.std.proofs.Common.{ap, ◌∙◌}
 use Rattle.keyspace.specs.declared.batch.Batch.{Batch}
-use Rattle.keyspace.specs.BatchRanges.{ranges_in}
+use Rattle.keyspace.specs.storage.BatchRanges.{ranges_in}
 use Rattle.keyspace.proofs.TablesRanges.{spans_hold, ranges_are}
 use Rattle.keyspace.proofs.unordered.UnorderedBatch.ranges.Goals as goal
 

@@ -14,9 +14,7 @@ use Rattle.std.specs.Str.Parse.{
 use Rattle.std.proofs.lemmas.Int.{to_z-of_z}
 use Rattle.clap.specs.Words.{found_of, one_of, rows_of}
 use Rattle.replay_arguments.proofs.Getters.{HoldsNumbers-of_parts, one_read}
-use Rattle.lane.specs.declared.ends.TheConstants.{MAX_CAPACITY}
-use Rattle.conflict.specs.declared.conflict_set.TheConstants.{MAX_WINDOW}
-use Rattle.stepmap.specs.declared.step_map.TheConstants.{MAX_LIMIT}
+use Rattle.limits.specs.declared.settings.TheConstants.{MAX_CAPACITY, MAX_LIMIT, MAX_WINDOW}
 use Rattle.replay_arguments.proofs.Numbers.{
   IsIn,
   IsSignedWithin,

@@ -25,7 +25,7 @@ returns-then-not-is_streamed-clause-none c = λ streamed.
     ∙ ap (option_map (λ s. map (λ v. v.now) s.now)) c.in-Some.is in
     let off : c.args.is_streamed ≡ false = search rules in (
       ap is_some found,
-      not_streamed c.args.files (rows_of (found_of c.args.matches.now))
+      not_streamed c.args.file_count (rows_of (found_of c.args.matches.now))
           (subst (HoldsStream (rows_of (found_of c.args.matches.now))) off streamed),
     )
 
@@ -34,7 +34,7 @@ returns-then-names-files-clause-none c = λ streamed.
     let found = sym (raw_values-rows (found_of c.args.matches.now) (codes "replies")) ∙ sym c.get_strs.ensures
     ∙ ap (option_map (λ s. map (λ v. v.now) s.now)) c.in-Some.is in (
       ap is_some found,
-      other_records c.args.files (rows_of (found_of c.args.matches.now)) c.in-Some.names.now found (search rules),
+      other_records c.args.file_count (rows_of (found_of c.args.matches.now)) c.in-Some.names.now found (search rules),
     )
 
 pub returns-clause-records : goal.returns-clause-records

@@ -7,14 +7,14 @@ use Rattle.replay_arguments.proofs.arguments.names.replies_of.Goals as goal
 pub returns-in_default-clause-none : goal.returns-in_default-clause-none
 returns-in_default-clause-none c = (
   search rules,
-  no_replies c.args.files _ (sym (raw_values-rows (found_of c.args.matches.now) (codes "check")) ∙ sym c.get_strs.ensures
+  no_replies c.args.file_count _ (sym (raw_values-rows (found_of c.args.matches.now) (codes "check")) ∙ sym c.get_strs.ensures
       ∙ ap (option_map (λ s. map (λ v. v.now) s.now)) c.in_default.is),
 )
 
 pub returns-then-replies-files-clause-none : goal.returns-then-replies-files-clause-none
 returns-then-replies-files-clause-none c = (
   search rules,
-  other_replies c.args.files _ c.in-Some.replies.now
+  other_replies c.args.file_count _ c.in-Some.replies.now
       (sym (raw_values-rows (found_of c.args.matches.now) (codes "check")) ∙ sym c.get_strs.ensures
       ∙ ap (option_map (λ s. map (λ v. v.now) s.now)) c.in-Some.is)
       (search rules),

@@ -3,8 +3,8 @@ use Rattle.std.proofs.lemmas.Option.{same_Some}
 use Rattle.std.proofs.lemmas.Result.{on_ok_weaker}
 use Rattle.keys.specs.declared.range.Range.{Range}
 use Rattle.explanations.specs.Explains.{explaining_newest}
-use Rattle.explanations.specs.Written.{Written}
-use Rattle.replay_hot_ranges.specs.Conflicts.{InConflict, in_conflict, newest}
+use Rattle.explanations.specs.Written.{Written, newest_write}
+use Rattle.replay_hot_ranges.specs.Conflicts.{InConflict, in_conflict}
 use Rattle.replay_hot_ranges.specs.RangeTally.{AreTalliesWith}
 use Rattle.replay_hot_ranges.proofs.Adding.{explained}
 use Rattle.replay_hot_ranges.proofs.conflict_counts.Tallies.add_read.Goals as goal
@@ -29,5 +29,5 @@ pub returns-in-None : goal.returns-in-None
 returns-in-None c = record {
   added = λ range txns conflicts at before.
       subst (λ (cs : List InConflict). AreTalliesWith txns cs c.args.self.now)
-      (sym (ap (λ (ws : List Written). conflicts ++ in_conflict range (newest ws)) c.in-None.ensures.found ∙ append-nil conflicts)) before;
+      (sym (ap (λ (ws : List Written). conflicts ++ in_conflict range (newest_write ws)) c.in-None.ensures.found ∙ append-nil conflicts)) before;
 }

@@ -3,7 +3,7 @@ use Rattle.std.proofs.Math.Nat.{lt_of_not-le}
 use Rattle.std.specs.Vec.{with_items}
 use Rattle.std.proofs.lemmas.List.{with_items_is}
 use Rattle.replay_output.specs.Line.{version_of_line}
-use Rattle.checking.specs.InOrder.{in_order_by}
+use Rattle.keyspace.specs.storage.InOrder.{in_order_by}
 use Rattle.replay_output.proofs.Numbered.{changed_to-more, count_next}
 use Rattle.replay_output.proofs.report.lines.sort_lines.Goals as goal
 

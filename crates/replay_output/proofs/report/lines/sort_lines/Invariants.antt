@@ -1,7 +1,7 @@
 use Rattle.std.proofs.Common.{◌≡◌, map}
 use Rattle.std.specs.Prelude.{vec_items}
 use Rattle.replay_output.specs.Line.{version_of_line}
-use Rattle.checking.specs.InOrder.{in_order_by}
+use Rattle.keyspace.specs.storage.InOrder.{in_order_by}
 use Rattle.replay_output.proofs.Numbered.{changed_to}
 use Rattle.replay_output.proofs.report.lines.sort_lines.Given as goal
 

@@ -1,6 +1,6 @@
 use Rattle.std.proofs.Common.{◌++◌, [], ◌∷◌, rules, sym, ap, subst, ◌∙◌, append_assoc, append-nil, List}
 use Rattle.keyspace.specs.declared.batch.Batch.{Batch}
-use Rattle.replay_workers.specs.Batches.{GivesEach}
+use Rattle.wire.specs.Batches.{GivesEach}
 use Rattle.replay_workers.proofs.callers.Reading.{gives_also}
 use Rattle.replay_stream.proofs.sender.Sender.send_batches.Goals as goal
 

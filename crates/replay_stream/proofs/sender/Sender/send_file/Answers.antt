@@ -4,12 +4,13 @@ use Rattle.std.specs.Prelude.{Option}
 use Rattle.wire.specs.declared.frames.Frames.{Frames}
 use Rattle.wire.specs.Frames.{frames_reader}
 use Rattle.wire.specs.NextFrame.{TakesFrame}
+use Rattle.wire.specs.Batches.{IsFaultAt}
 use Rattle.replay_output.specs.declared.options.reports.Reports.{Reports}
 use Rattle.replay_output.specs.declared.options.reports.Reports.TheVariants.{Asked, All}
 use Rattle.replay_workers.specs.declared.reporting_batches.AskingFrames.{AskingFrames}
 use Rattle.replay_workers.specs.Asking.{asking_reader}
 use Rattle.replay_workers.specs.Reporting.{SendsFrames, TakesResolved}
-use Rattle.replay_workers.specs.Worker.{IsFaultAt, fault_of, unsent_of}
+use Rattle.replay_workers.specs.Worker.{fault_of, unsent_of}
 use Rattle.replay_workers.proofs.callers.Reading.{sends_seen}
 use Rattle.replay_stream.proofs.sender.Sender.send_file.Goals as goal
 

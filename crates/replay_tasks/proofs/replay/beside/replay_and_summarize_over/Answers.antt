@@ -8,7 +8,7 @@ use Rattle.replay_output.specs.Failures.{NothingFailed}
 use Rattle.replay_summary.specs.declared.occupancy.Occupancy.{Occupancy}
 use Rattle.replay_workers.specs.Occupied.{IsOccupancyOver}
 use Rattle.replay_workers.specs.Run.{IsMeasuredRun, is_complete}
-use Rattle.resolver.specs.declared.stop.Stop.{Stop}
+use Rattle.limits.specs.declared.stop.Stop.{Stop}
 use Rattle.replay_output.specs.declared.failures.Ending.TheVariants.{Complete, Stopped}
 use Rattle.replay_output.specs.declared.status.Status.TheVariants.{Done}
 use Rattle.replay_tasks.specs.Met.{ReportsStop}

@@ -1,6 +1,6 @@
 use Rattle.std.proofs.Common.{◌≡◌, ◌≢◌, List, map, refl, ap, sym, subst, inl, inr, ◌∙◌, Vec, Global}
 use Rattle.std.specs.Prelude.{None, Option, Some, vec_items}
-use Rattle.resolver.specs.declared.stop.Stop.{Stop}
+use Rattle.limits.specs.declared.stop.Stop.{Stop}
 use Rattle.replay_output.specs.declared.failures.Ending.{Ending}
 use Rattle.replay_output.specs.declared.failures.Ending.TheVariants.{Complete, Stopped}
 use Rattle.replay_output.specs.declared.line.Line.{Line}

@@ -1,6 +1,6 @@
 use Rattle.std.proofs.Common.{◌∙◌, ℕ, List, ap, map, subst, sym, vec_items}
 use Rattle.std.specs.List.{All}
-use Rattle.checking.specs.InOrder.{Rise}
+use Rattle.keyspace.specs.storage.InOrder.{Rise}
 use Rattle.replay_output.specs.declared.line.Line.{Line}
 use Rattle.replay_output.specs.Line.{counted_of_line, version_of_line}
 use Rattle.replay_output.proofs.callers.Counting.{counted_in_order, lines_rise}

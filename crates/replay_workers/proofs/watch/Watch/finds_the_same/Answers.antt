@@ -1,7 +1,7 @@
 use Rattle.std.proofs.Common.{◌≡◌, ◌≢◌, ℕ, ◌+◌, ◌<◌, ◌≤◌, List, length, ap, ◌∙◌, inl, inr, arith, get_or-set_same, get_or-set_other, length-set}
 use Rattle.std.specs.Prelude.{slice_get, slice_index}
 use borrow.Author.Count.{below_more}
-use Rattle.flow.specs.declared.reported_state.ReportedState.{ReportedState}
+use Rattle.replay_workers.specs.declared.shares.reported_state.ReportedState.{ReportedState}
 use Rattle.resolver.specs.Lanes.{sent_to}
 use Rattle.resolver.proofs.callers.Lists.{slice_get-set_other}
 use Rattle.replay_workers.specs.Watch.{Look}

@@ -1,7 +1,7 @@
 use Rattle.std.proofs.Common.{◌≡◌, List, ◌++◌}
 use Rattle.std.specs.Prelude.{None}
 use Rattle.keyspace.specs.declared.batch.Batch.{Batch}
-use Rattle.replay_workers.specs.Batches.{GivesEach}
+use Rattle.wire.specs.Batches.{GivesEach}
 use Rattle.replay_workers.specs.Inbox.{InboxContinues}
 use Rattle.replay_workers.proofs.worker.Worker.send_batches.Given as goal
 

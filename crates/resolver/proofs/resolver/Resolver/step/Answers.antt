@@ -4,8 +4,8 @@ use Rattle.std.proofs.lemmas.Bool.{false≢true}
 use Rattle.chain.specs.declared.gate.TheConstants.{MAX_HELD}
 use Rattle.std.specs.Vec.{with_items}
 use Rattle.keyspace.specs.Run.{run}
-use Rattle.resolver.specs.declared.stop.Stop.{Stop}
-use Rattle.resolver.specs.declared.stop.Stop.TheVariants.{Memory, GateFull, ArenaFull}
+use Rattle.limits.specs.declared.stop.Stop.{Stop}
+use Rattle.limits.specs.declared.stop.Stop.TheVariants.{Memory, GateFull, ArenaFull}
 use Rattle.resolver.specs.Core.{Continues, StopsAtLimit}
 use Rattle.resolver.specs.Lanes.{Each, LanesContinue, IsLookedThrough, ComesBefore, all_ended, sent_to}
 use Rattle.resolver.specs.OpeningLog.{log_from}

@@ -3,7 +3,7 @@ use Rattle.std.proofs.lemmas.Int.{to_z-of_z, ints}
 use Rattle.std.proofs.lemmas.Result.{on_ok_weaker}
 use Rattle.keyspace.specs.Found.{found}
 use Rattle.keyspace.specs.Run.{State, answer}
-use Rattle.resolver.specs.declared.stop.Stop.TheVariants.{GateFull, ArenaFull}
+use Rattle.limits.specs.declared.stop.Stop.TheVariants.{GateFull, ArenaFull}
 use Rattle.resolver.specs.Core.{CoreState, IsIn}
 use Rattle.resolver.proofs.Admitting.{admit-repeat, admit-process, less_from_test}
 use Rattle.resolver.proofs.Stops.{OnOk-always, OnErr-always, memory_alone}

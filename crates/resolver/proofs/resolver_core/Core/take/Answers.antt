@@ -5,7 +5,7 @@ use Rattle.std.proofs.lemmas.Grind.{common_steps}
 use Rattle.std.proofs.lemmas.Result.{on_ok_weaker, on_err_weaker}
 use Rattle.keyspace.specs.Run.{State, Take, admit, leave_all}
 use Rattle.chain.specs.declared.gate.TheConstants.{MAX_HELD}
-use Rattle.resolver.specs.declared.stop.Stop.TheVariants.{GateFull, ArenaFull}
+use Rattle.limits.specs.declared.stop.Stop.TheVariants.{GateFull, ArenaFull}
 use Rattle.resolver.specs.Core.{CoreState, Given, IsIn, Continues, MadeBetween, StopsAsTheyLeave}
 use Rattle.resolver.specs.Observed.{HasSeenBetween}
 use Rattle.resolver.proofs.Admitting.{admit-ahead, less_from_test, at_most_from_test}

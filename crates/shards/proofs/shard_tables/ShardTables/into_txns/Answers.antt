@@ -1,6 +1,6 @@
 use Rattle.std.proofs.Common.{◌∙◌, length, ap, arith}
 use Rattle.std.proofs.lemmas.List.{length-map}
-use Rattle.keyspace.specs.Fields.{txn_fields}
+use Rattle.keyspace.specs.storage.Fields.{txn_fields}
 use Rattle.keyspace.proofs.callers.Putting.{length-reported}
 use Rattle.shards.specs.Built.{clip_txn}
 use Rattle.shards.proofs.ClipLists.{txns_from_fields}

@@ -3,9 +3,9 @@ use Rattle.std.proofs.lemmas.Int.{to_z-of_z}
 use Rattle.std.proofs.lemmas.List.{length-map}
 use Rattle.keyspace.specs.declared.span.Span.{Span}
 use Rattle.keyspace.specs.declared.txn.Txn.{Txn}
-use Rattle.keyspace.specs.Fields.{TxnFields, range_fields, txn_fields}
-use Rattle.keyspace.specs.Putting.{ArePut}
-use Rattle.keyspace.specs.Tables.{range_of_span, txn_of_row, LiesWithin}
+use Rattle.keyspace.specs.storage.Fields.{TxnFields, range_fields, txn_fields}
+use Rattle.keyspace.specs.storage.Putting.{ArePut}
+use Rattle.keyspace.specs.storage.Tables.{range_of_span, txn_of_row, LiesWithin}
 use Rattle.keyspace.proofs.callers.Putting.{All-slice_range, length-put, few_spans, length-reported}
 use Rattle.shards.specs.Built.{IsBuilt, HasBounds, clips_of, clip_txn}
 use Rattle.shards.specs.Clips.{read_indices}

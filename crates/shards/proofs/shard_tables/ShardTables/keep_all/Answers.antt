@@ -4,8 +4,8 @@ use Rattle.std.proofs.lemmas.List.{length-map}
 use Rattle.std.proofs.lemmas.Option.{slice_get-get_or, slice_get_within}
 use Rattle.keyspace.specs.declared.row.Row.{Row}
 use Rattle.keyspace.specs.declared.txn.Txn.{Txn}
-use Rattle.keyspace.specs.Fields.{txn_fields}
-use Rattle.keyspace.specs.Tables.{txn_of_row, LiesWithin}
+use Rattle.keyspace.specs.storage.Fields.{txn_fields}
+use Rattle.keyspace.specs.storage.Tables.{txn_of_row, LiesWithin}
 use Rattle.keyspace.proofs.callers.Putting.{length-reported}
 use Rattle.shards.specs.Built.{IsBuilt}
 use Rattle.shards.specs.Cut.{shard_of_ends}

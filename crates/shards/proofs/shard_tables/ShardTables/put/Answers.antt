@@ -3,9 +3,10 @@ use Rattle.std.specs.List.{AllZip}
 use Rattle.std.proofs.lemmas.Int.{to_z-of_z}
 use Rattle.std.proofs.lemmas.List.{length-map}
 use Rattle.std.proofs.lemmas.Slice.Zip.{AllZip-long}
+use Rattle.keys.proofs.callers.Lists.{AllZip-split}
 use Rattle.keyspace.specs.declared.txn.Txn.{Txn}
 use Rattle.keyspace.specs.Judge.{places_from}
-use Rattle.keyspace.specs.Putting.{ArePut}
+use Rattle.keyspace.specs.storage.Putting.{ArePut}
 use Rattle.keyspace.proofs.callers.Putting.{length-put, few_spans, length-reported}
 use Rattle.serial.specs.Shards.{Shard}
 use Rattle.shards.specs.declared.reach.Reach.{Reach}
@@ -13,7 +14,7 @@ use Rattle.shards.specs.Built.{IsBuilt, HasBounds, clips_of, clip_txn}
 use Rattle.shards.specs.Clips.{goes_to, read_indices}
 use Rattle.shards.specs.Reach.{IsReported}
 use Rattle.shards.proofs.Appended.{bounds_kept}
-use Rattle.shards.proofs.BuiltTables.{zip_split, built_put}
+use Rattle.shards.proofs.BuiltTables.{built_put}
 use Rattle.shards.proofs.ClipLists.{few_clips}
 use Rattle.shards.proofs.shard_tables.ShardTables.put.Goals.{Start, After-len, After-split_at, In_ok-put_clips-2}
 use Rattle.shards.proofs.shard_tables.ShardTables.put.Goals as goal
@@ -37,7 +38,7 @@ split : (c : After-split_at) (shard : Shard) (m : ℕ)
     → AllZip (IsReported shard m) c.txn.inside.reads c.split_at.result.0.now × AllZip (IsReported shard m) c.txn.inside.writes c.split_at.result.1.now
 split c shard m zipped =
     let R = IsReported shard m in
-    let both = zip_split R c.txn.inside.reads c.txn.inside.writes c.args.reaches.now zipped in (
+    let both = AllZip-split R c.txn.inside.reads c.txn.inside.writes c.args.reaches.now zipped in (
       subst (λ (reaches : List Reach). AllZip R c.txn.inside.reads reaches)
           (ap (λ n. take n c.args.reaches.now) (sym c.len.ensures.count) ∙ sym c.split_at.ensures.front) both.0,
       subst (λ (reaches : List Reach). AllZip R c.txn.inside.writes reaches)

@@ -2,7 +2,7 @@ use Rattle.std.proofs.Common.{◌∙◌, ◌≤◌, [], List, ℕ, Bor, ap, leng
 use Rattle.std.specs.Prelude.{map, vec_items}
 use Rattle.std.specs.List.{All}
 use Rattle.std.proofs.lemmas.Result.{err_from_is_err_and}
-use Rattle.resolver.specs.declared.resolver_core.TheConstants.{MAX_PROXIES}
+use Rattle.limits.specs.declared.settings.TheConstants.{MAX_PROXIES}
 use Rattle.replay_arguments.specs.Opening.{IsFirstRefused, contents_each}
 use Rattle.replay_sharded.specs.Files.{ReadTheFiles}
 use Rattle.replay_program.specs.Program.{texts}
