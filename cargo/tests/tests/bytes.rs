@@ -2,11 +2,11 @@
 //! its own, since the allocator is one per program.
 
 use arena::{Arena, Slot};
-use filter::Filter;
+use boundaries::Boundaries;
 use rattle_std::alloc::Global;
 use std::alloc::{GlobalAlloc, Layout, System};
 use std::cell::Cell;
-use tree::{NodeEntry, Tree};
+use stepmap::Filter;
 
 thread_local! {
     // How many bytes this thread has allocated and not freed, and the most in one allocation. It
@@ -58,23 +58,15 @@ fn a_filter_reports_the_bytes_of_its_cells() {
     }
 }
 
-/// Returns what a tree with one item reports, without the slot of its node. All nodes of a chunk
-/// are one allocation.
-fn node_bytes<const N: usize>() -> usize {
-    let mut keys = Arena::new(Global);
-    let key = keys.place((), &[]).expect("memory is ample");
-    LARGEST.set(0);
-    let tree = Tree::<N>::new(Global, key, 7).expect("memory is ample");
-    let node = tree.bytes_held() - SLOT_BYTES;
-    assert_eq!(LARGEST.get(), SLOTS * node);
-    node
-}
-
 #[test]
-fn a_tree_reports_the_bytes_of_its_nodes() {
-    let (few, many) = (node_bytes::<8>(), node_bytes::<128>());
-    // An entry has a head of 4 bytes.
-    assert_eq!(many - few, 120 * (size_of::<NodeEntry>() + 4));
+fn boundaries_report_the_bytes_of_their_nodes() {
+    let mut keys = Arena::new(Global);
+    keys.place((), &[]).expect("memory is ample");
+    LARGEST.set(0);
+    let boundaries = Boundaries::new(Global, 7).expect("memory is ample");
+    // One node and one key, of which a chunk each is taken. All nodes of a chunk are one allocation.
+    let chunks = boundaries.bytes_held() - keys.bytes_held(0);
+    assert_eq!(chunks, LARGEST.get() + SLOTS * SLOT_BYTES);
 }
 
 #[test]

@@ -1,8 +1,8 @@
 //! Bounds of the filter by hand. `step_map` compares it with all writes.
 
-use filter::Filter;
 use keys::key_hash;
 use rattle_std::alloc::Global;
+use stepmap::Filter;
 
 fn filter() -> Filter {
     Filter::new(Global).expect("memory is ample")

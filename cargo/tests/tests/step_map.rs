@@ -1,11 +1,10 @@
 //! The step map against boundaries in a `BTreeMap`, and the filter against all writes.
 
-use filter::Filter;
 use keys::{HashedRange, RangeRef};
 use rattle_std::alloc::Global;
 use rattle_std::vec::Vec as KitVec;
 use std::collections::BTreeMap;
-use stepmap::{KeyLengths, QueryList, RangeQuery, StepError, StepMap, SweepEnd};
+use stepmap::{Filter, KeyLengths, QueryList, RangeQuery, StepError, StepMap, SweepEnd};
 use tests::cases::{count, run};
 use tests::drawn::KeySpace;
 use tests::plain::PlainRange;

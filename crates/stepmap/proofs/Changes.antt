@@ -11,11 +11,11 @@ use Rattle.stepmap.specs.Writing.{after_write}
 use Rattle.stepmap.specs.Sweeping.{cursor_of, rest, round_edge, after_sweep}
 use Rattle.stepmap.specs.Covers.{SameFrom, Covers}
 use Rattle.stepmap.specs.Rooted.{Ends, Rooted}
-use Rattle.stepmap.proofs.Order.{rising_in_order}
-use Rattle.stepmap.proofs.Counting.{written_length}
+use Rattle.boundaries.proofs.callers.Order.{rising_in_order}
+use Rattle.boundaries.proofs.callers.Counting.{written_length}
 use Rattle.stepmap.proofs.Covering.{covers_same, covers_raise}
 use Rattle.stepmap.proofs.Rooting.{rooted_raise}
-use Rattle.stepmap.proofs.WritingValues.{value_in, value_elsewhere}
+use Rattle.boundaries.proofs.callers.WritingValues.{value_in, value_elsewhere}
 use Rattle.stepmap.proofs.WritingRooted.{written_ends}
 use Rattle.stepmap.proofs.WrittenMap.{
   written_steps,
@@ -25,7 +25,7 @@ use Rattle.stepmap.proofs.WrittenMap.{
   written_rest,
   if_some_map,
 }
-use Rattle.stepmap.proofs.Sweeps.{swept_has}
+use Rattle.boundaries.proofs.callers.Sweeps.{swept_has}
 use Rattle.stepmap.proofs.SweptMap.{
   swept_steps,
   swept_count,

@@ -12,7 +12,7 @@ use Rattle.stepmap.specs.Boundary.{Boundary, AreBoundaries}
 use Rattle.stepmap.specs.Rooted.{IsEndOf, Ends}
 use Rattle.keys.specs.Range.{is_filled}
 use Rattle.stepmap.specs.Counting.{live_count}
-use Rattle.stepmap.proofs.Order.{
+use Rattle.boundaries.proofs.callers.Order.{
   Rising,
   rising_from,
   rising_filter,
@@ -20,7 +20,7 @@ use Rattle.stepmap.proofs.Order.{
   not_empty_if_after,
   at_most_if,
 }
-use Rattle.stepmap.proofs.WritingValues.{begins_before_end}
+use Rattle.boundaries.proofs.callers.WritingValues.{begins_before_end}
 use Rattle.stepmap.proofs.Rooting.{OneEnd}
 use Rattle.keys.proofs.callers.SomeElement.{Any-cases, Any-none}
 

@@ -2,7 +2,7 @@
 use Rattle.std.proofs.Common.{◌≡◌, ℕ, List, inl, inr, sym, subst, arith}
 use Rattle.std.specs.Prelude.{ℤ, ◌≤ℤ◌, ◌<ℤ◌}
 use Rattle.std.proofs.lemmas.Int.{ints}
-use Rattle.filter.specs.Filter.{FilterState, bound}
+use Rattle.stepmap.specs.Filter.{FilterState, bound}
 use Rattle.keys.specs.Range.{Holds}
 use Rattle.keys.specs.declared.range.Range.{Range}
 use Rattle.keys.proofs.callers.KeyOrder.{not_both, before_or_at_most}
@@ -11,7 +11,7 @@ use Rattle.stepmap.specs.StepMap.{Steps}
 use Rattle.stepmap.specs.Covers.{SameFrom, IsAbove}
 use Rattle.keys.specs.Range.{IsSingle}
 use Rattle.stepmap.specs.Filtering.{BoundsSteps}
-use Rattle.stepmap.proofs.SingleKeys.{single_holds}
+use Rattle.boundaries.proofs.callers.SingleKeys.{single_holds}
 
 -- the function isn't above a number at a single key whose bound isn't
 pub not_above : (f : FilterState) (m : Steps) (range : Range) (s : ℤ) → BoundsSteps f m → m.edge ≤ℤ s

@@ -1,10 +1,10 @@
 -- A step map whose boundaries were copied into memory of their own, while no range is ready to be written.
 use Rattle.std.proofs.Common.{◌≡◌, ℕ, ◌≤◌, List, [], length, refl, sym, ap, subst, ◌∙◌, arith}
 use Rattle.std.specs.Prelude.{ℤ, Option}
-use Rattle.filter.specs.Filter.{FilterState}
+use Rattle.stepmap.specs.Filter.{FilterState}
 use Rattle.stepmap.specs.Boundary.{Boundary, AreBoundaries}
 use Rattle.stepmap.specs.StepMap.{Steps}
-use Rattle.stepmap.specs.Stored.{Stored}
+use Rattle.boundaries.specs.Stored.{Stored}
 use Rattle.stepmap.specs.Kept.{steps_of, IsKept}
 use Rattle.stepmap.proofs.FilterBounds.{determines_equal}
 

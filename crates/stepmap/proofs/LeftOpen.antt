@@ -13,7 +13,7 @@ use Rattle.keys.proofs.callers.Lists.{part_more}
 use Rattle.stepmap.specs.Covers.{IsAbove}
 use Rattle.stepmap.specs.Filtering.{left_of, with_answers, AreMarked}
 use Rattle.stepmap.specs.StepMap.{Steps}
-use Rattle.stepmap.proofs.InTurn.{AllZip-append, AllZip-second, AllZip-through}
+use Rattle.boundaries.proofs.callers.InTurn.{AllZip-append, AllZip-second, AllZip-through}
 
 module _ (Above : Range × ℤ → Type 0) where
   -- answers that are right of those that are left, and no of the others, are right of all

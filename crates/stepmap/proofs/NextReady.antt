@@ -5,7 +5,7 @@ use Rattle.std.specs.List.{sum_by}
 use Rattle.std.proofs.lemmas.List.Sums.{sum_by-cons}
 use Rattle.std.proofs.lemmas.Option.{slice_get_within, get_or_from_slice_get}
 use Rattle.arena.specs.Arena.{size_of, wanted_of}
-use Rattle.stepmap.specs.Stored.{each_length}
+use Rattle.boundaries.specs.Stored.{each_length}
 
 -- what the first two add to a sum
 sum_pair : (f : ℕ → ℕ) (x y : ℕ) (xs : List ℕ) → sum_by f (x ∷ y ∷ xs) ≡ sum_by f (x ∷ y ∷ []) + sum_by f xs

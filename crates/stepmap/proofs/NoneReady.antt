@@ -1,9 +1,9 @@
 -- A step map where no range is ready to be written.
 use Rattle.std.proofs.Common.{◌≡◌, ℕ, ◌≤◌, List, [], length, refl, sym, ap, subst, arith}
 use Rattle.std.specs.Prelude.{ℤ, Option}
-use Rattle.filter.specs.Filter.{FilterState, bound}
+use Rattle.stepmap.specs.Filter.{FilterState, bound}
 use Rattle.stepmap.specs.Boundary.{AreBoundaries}
-use Rattle.stepmap.specs.Stored.{Stored}
+use Rattle.boundaries.specs.Stored.{Stored}
 use Rattle.stepmap.specs.Kept.{steps_of, IsKept}
 use Rattle.stepmap.proofs.FilterBounds.{determines_equal}
 

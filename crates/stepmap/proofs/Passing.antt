@@ -28,7 +28,7 @@ use Rattle.keys.specs.Key.{is_before}
 use Rattle.keys.proofs.callers.Booleans.{and_left}
 use Rattle.stepmap.specs.Boundary.{Boundary}
 use Rattle.stepmap.specs.StepMap.{Round, Steps}
-use Rattle.stepmap.specs.Stored.{first_key}
+use Rattle.boundaries.specs.Boundary.{first_key}
 use Rattle.stepmap.specs.Sweeping.{
   cursor_of,
   round_edge,
@@ -41,7 +41,7 @@ use Rattle.stepmap.specs.Sweeping.{
   after_sweep,
 }
 use Rattle.stepmap.specs.Kept.{round_of}
-use Rattle.stepmap.proofs.Order.{not_empty_if_after}
+use Rattle.boundaries.proofs.callers.Order.{not_empty_if_after}
 
 -- so many boundaries were looked at, and the cursor is at the first that is left
 pub record IsPass (edge : ℤ) (began : List ℕ) (count : ℕ) (old new : List Boundary) (at : List ℕ) : Type 0 where

@@ -12,19 +12,7 @@ use Rattle.stepmap.specs.Rooted.{Rooted}
 use Rattle.stepmap.specs.Counting.{live_count}
 use Rattle.stepmap.proofs.Changes.{raise_keeps}
 use Rattle.stepmap.proofs.Preparing.{room_if, no_room_if, room_stays, full_bound}
-use Rattle.stepmap.proofs.Removal.{unexpired_shorter}
-
-not_below_itself : (edge : ℤ) → int_lt edge edge ≡ false
-not_below_itself edge = grind (arith, ints)
-
--- all boundaries are swept where the version before the first isn't below the edge
-pub all_unexpired : (edge : ℤ) (bs : List Boundary) → unexpired edge edge bs ≡ unexpired_all edge bs
-all_unexpired edge [] = refl
-all_unexpired edge (b ∷ bs) = rw (not_below_itself edge) refl
-
-pub all_shorter : (edge : ℤ) (bs : List Boundary) → length (unexpired_all edge bs) ≤ length bs
-all_shorter edge [] = omega arith
-all_shorter edge (b ∷ bs) = omega (arith, unexpired_shorter edge b.version bs)
+use Rattle.boundaries.proofs.callers.Unexpired.{all_shorter}
 
 module _ (ranges : ℕ) (m : Steps) where
   -- without a sweep

@@ -9,7 +9,7 @@ use Rattle.stepmap.specs.StepMap.{Steps, AreSteps}
 use Rattle.stepmap.specs.Sweeping.{unexpired, is_left, left_from, passed_to, round_at, swept, at_front, after_sweep}
 use Rattle.stepmap.specs.Limit.{unexpired_all, after_round}
 use Rattle.stepmap.specs.Rooted.{Ends, Rooted}
-use Rattle.stepmap.proofs.Order.{not_before_empty, rise_lower}
+use Rattle.boundaries.proofs.callers.Order.{not_before_empty, rise_lower}
 use Rattle.stepmap.proofs.Changes.{SweepKeeps, sweep_keeps}
 
 later_left : (b : Boundary) → IsBefore [] b.key → is_left [] b ≡ true

@@ -30,19 +30,12 @@ use Rattle.stepmap.specs.StepMap.{Round, Steps, IsRound, AreSteps}
 use Rattle.stepmap.specs.Sweeping.{cursor_of, round_edge, is_left, left_from, rest, round_at, after_sweep}
 use Rattle.stepmap.specs.Covers.{SameFrom}
 use Rattle.stepmap.specs.Rooted.{IsEndOf, Ends, Rooted}
-use Rattle.stepmap.proofs.Order.{not_empty_if_after}
-use Rattle.stepmap.proofs.WritingOrder.{below_empty}
-use Rattle.stepmap.proofs.Removal.{same_above}
-use Rattle.stepmap.proofs.Looking.{below_middle, left_middle}
-use Rattle.stepmap.proofs.Sweeps.{
-  swept_has,
-  swept_shorter,
-  swept_in_order,
-  swept_values,
-  swept_rooted,
-  passed_now_ends,
-  stands,
-}
+use Rattle.boundaries.proofs.callers.Order.{not_empty_if_after}
+use Rattle.boundaries.proofs.callers.WritingOrder.{below_empty}
+use Rattle.boundaries.proofs.callers.Unexpired.{same_above}
+use Rattle.boundaries.proofs.callers.LeftFrom.{below_middle, left_middle}
+use Rattle.boundaries.proofs.callers.Sweeps.{swept_has, swept_shorter, swept_in_order, swept_values, stands}
+use Rattle.stepmap.proofs.Sweeps.{swept_rooted, passed_now_ends}
 
 -- the edge with which the round began isn't above the map's
 pub round_edge_low : (edge : ℤ) (round : Option Round) → IfSome round (IsRound edge)

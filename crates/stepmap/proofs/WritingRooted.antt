@@ -14,9 +14,9 @@ use Rattle.keys.proofs.callers.Booleans.{true_or_false}
 use Rattle.stepmap.specs.Boundary.{Boundary, AreUpTo, value_at, value_from, last_version, below, from_on}
 use Rattle.stepmap.specs.Writing.{closed_at, written}
 use Rattle.stepmap.specs.Rooted.{IsEndOf, Ends, AreRooted}
-use Rattle.stepmap.proofs.Order.{Rising, at_most_if}
-use Rattle.stepmap.proofs.Values.{parted_below, value_from_on, from_all, last_has}
-use Rattle.stepmap.proofs.WritingValues.{written_has}
+use Rattle.boundaries.proofs.callers.Order.{Rising, at_most_if}
+use Rattle.boundaries.proofs.callers.Values.{parted_below, value_from_on, from_all, last_has}
+use Rattle.boundaries.proofs.callers.WritingValues.{written_has}
 use Rattle.stepmap.proofs.Rooting.{ends_longer, rooted_longer, rooted_front, rooted_back, rooted_join}
 
 max_low : (v x : ℤ) → x ≤ℤ v → int_max v x ≡ v

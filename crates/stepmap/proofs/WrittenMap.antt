@@ -32,11 +32,11 @@ use Rattle.stepmap.specs.Writing.{written, after_write}
 use Rattle.stepmap.specs.Sweeping.{cursor_of, is_left, rest}
 use Rattle.stepmap.specs.Covers.{Covers}
 use Rattle.stepmap.specs.Rooted.{IsEndOf, Ends, Rooted}
-use Rattle.stepmap.proofs.Order.{rising_in_order}
-use Rattle.stepmap.proofs.Values.{value_has}
-use Rattle.stepmap.proofs.WritingValues.{value_in, value_elsewhere, written_has}
-use Rattle.stepmap.proofs.WritingOrder.{written_boundaries}
-use Rattle.stepmap.proofs.Counting.{written_count, written_length}
+use Rattle.boundaries.proofs.callers.Order.{rising_in_order}
+use Rattle.boundaries.proofs.callers.Values.{value_has}
+use Rattle.boundaries.proofs.callers.WritingValues.{value_in, value_elsewhere, written_has}
+use Rattle.boundaries.proofs.callers.WritingOrder.{written_boundaries}
+use Rattle.boundaries.proofs.callers.Counting.{written_count, written_length}
 use Rattle.stepmap.proofs.Covering.{covers_write}
 use Rattle.stepmap.proofs.Rooting.{end_longer}
 use Rattle.stepmap.proofs.WritingRooted.{written_rooted, begin_is_end, end_is_end}

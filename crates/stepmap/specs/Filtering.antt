@@ -1,7 +1,7 @@
 -- What a filter says beside a step map, and who is asked instead if it says nothing. This project's own.
 use Rattle.std.specs.Prelude.{◌≡◌, ℕ, ℤ, ◌+◌, ◌≤◌, ◌≤ℤ◌, ◌<ℤ◌, if◌then◌else◌, Bool, true, false, IsTrue, List, [], ◌∷◌, length, take, drop, Some, slice_get}
 use Rattle.std.specs.List.{AllZip}
-use Rattle.filter.specs.Filter.{FilterState, bound}
+use Rattle.stepmap.specs.Filter.{FilterState, bound}
 use Rattle.keys.specs.Key.{IsBytes}
 use Rattle.keys.specs.Range.{IsEmpty, IsSingle}
 use Rattle.keys.specs.declared.range.Range.{Range}

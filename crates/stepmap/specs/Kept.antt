@@ -1,10 +1,10 @@
 -- What a step map keeps beside what it is seen as.
 use Rattle.std.specs.Prelude.{◌≡◌, ℕ, ◌+◌, ◌*◌, ◌≤◌, ℤ, List, length, Option, Some, None}
 use Rattle.arena.specs.Arena.{HasRoomFor}
-use Rattle.filter.specs.Filter.{FilterState}
+use Rattle.stepmap.specs.Filter.{FilterState}
 use Rattle.keys.specs.declared.key.TheConstants.{MAX_KEY_LENGTH}
 use Rattle.stepmap.specs.StepMap.{Round, Steps, AreSteps}
-use Rattle.stepmap.specs.Stored.{Stored, spare_in, each_length}
+use Rattle.boundaries.specs.Stored.{Stored, spare_in, each_length}
 use Rattle.stepmap.specs.Sweeping.{cursor_of}
 use Rattle.stepmap.specs.Filtering.{BoundsSteps}
 

@@ -1,5 +1,5 @@
 -- In the order in which one reads them aloud.
-pub mod Boundary
+pub use Rattle.boundaries.specs.Boundary
 pub mod StepMap
 pub mod Writing
 pub mod Sweeping
@@ -9,9 +9,7 @@ pub mod Rooted
 pub mod Counting
 pub mod Uniting
 pub mod Laws
-pub mod KeyBound
-pub mod Stored
-pub mod Copying
-pub mod Asking
+pub mod Cell
+pub mod Filter
 pub mod Filtering
 pub mod Kept

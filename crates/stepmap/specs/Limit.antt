@@ -1,17 +1,11 @@
 -- How a step map stays within its limit. This project's own.
-use Rattle.std.specs.Prelude.{ℕ, ℤ, ◌+◌, ◌*◌, ◌≤◌, nat_le, if◌then◌else◌, List, [], ◌∷◌, length, None}
-use Rattle.stepmap.specs.Boundary.{Boundary}
+use Rattle.std.specs.Prelude.{ℕ, ◌+◌, ◌*◌, ◌≤◌, nat_le, if◌then◌else◌, List, length, None}
 use Rattle.stepmap.specs.StepMap.{Steps}
-use Rattle.stepmap.specs.Sweeping.{unexpired}
+pub use Rattle.boundaries.specs.Swept.{unexpired_all}
 
 -- n ranges can be written: the boundaries, and two for each range, are within the limit
 abbrev pub HasRoomFor : ℕ → Steps → Type 0
 HasRoomFor ranges m = length m.boundaries + 2 * ranges ≤ m.limit
-
--- what a sweep leaves that looks at every boundary but the empty key
-abbrev pub unexpired_all : ℤ → List Boundary → List Boundary
-unexpired_all edge [] = []
-unexpired_all edge (b ∷ bs) = b ∷ unexpired edge b.version bs
 
 -- the step map after a complete round of the sweep, from the front
 abbrev pub after_round : Steps → Steps

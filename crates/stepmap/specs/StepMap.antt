@@ -18,9 +18,9 @@ use Rattle.std.specs.Prelude.{
   ◌≢◌,
 }
 use Rattle.keys.specs.Key.{IsKey}
-use Rattle.keys.specs.declared.range.Range.{Range}
 use Rattle.limits.specs.declared.settings.TheConstants.{MAX_LIMIT}
 use Rattle.stepmap.specs.Boundary.{Boundary, AreBoundaries}
+pub use Rattle.boundaries.specs.Stored.{lengths}
 
 -- a round of the sweep that is under way: the key at which it continues, and the edge with which it began
 pub record Round : Type 0 where
@@ -38,10 +38,6 @@ pub record Steps : Type 0 where
   pub round : Option Round
   -- how many boundaries there may be
   pub limit : ℕ
-
--- the lengths of a range's begin and end
-abbrev pub lengths : Range → ℕ × ℕ
-lengths range = (length range.begin, length range.end)
 
 -- -1 everywhere
 abbrev pub new_map : ℕ → Steps

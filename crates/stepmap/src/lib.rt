@@ -14,23 +14,13 @@
 //! kept shows nowhere.
 #![tactic(auto)]
 
-mod boundaries;
-mod boundary_copy;
-mod boundary_sweep;
 mod error;
-mod filter_bounds;
-mod key_bound;
-mod key_lengths;
+mod filter;
 pub mod laws;
-mod left;
-mod query;
-mod questions;
-mod release;
-mod single;
 mod step_map;
 
+pub use boundaries::{KeyLengths, QueryList, RangeQuery};
 pub use error::StepError;
-pub use key_lengths::KeyLengths;
+pub use filter::{Filter, MAX_CELLS};
 pub use limits::MAX_LIMIT;
-pub use query::{QueryList, RangeQuery};
 pub use step_map::{StepMap, SweepEnd};

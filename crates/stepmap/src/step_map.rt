@@ -15,24 +15,19 @@ ghost use Rattle.stepmap.specs.Limit.{HasRoomFor, made_room, prepared};
 ghost use Rattle.stepmap.specs.Covers.{SameFrom, MapCovers, IsAbove};
 ghost use Rattle.stepmap.specs.Rooted.{Ends, Rooted};
 ghost use Rattle.stepmap.specs.Counting.{live_count};
+ghost use Rattle.stepmap.specs.Filter.{bound};
 
-mod query_answers;
+mod lookup;
 mod room;
 mod trimmed_memory;
 
-use crate::boundaries::Boundaries;
 use crate::error::StepError;
-use crate::key_lengths::KeyLengths;
-use crate::query::{OneQuery, QueryList};
-use crate::single::note;
-use filter::Filter;
+use crate::filter::Filter;
+use boundaries::{Boundaries, KeyLengths, OneQuery, QueryList};
 use keys::{HashedRange, MAX_KEY_LENGTH, Range};
 use std::alloc::{AllocError, Global};
 use std::collections::VecDeque;
 use std::marker::Model;
-
-// How many entries a node of the tree has at most.
-const FAN_OUT: usize = 128;
 
 /// How a sweep ended.
 #[derive(Clone, Copy, Debug, PartialEq, Eq, Hash)]
@@ -48,7 +43,7 @@ pub enum SweepEnd {
 /// there are at most as many as the limit.
 #[derive(Debug, Drop)]
 pub struct StepMap {
-    boundaries: Boundaries<FAN_OUT>,
+    boundaries: Boundaries,
     // What is written is noted there too.
     filter: Filter,
     edge: i64,
@@ -88,7 +83,7 @@ impl StepMap {
     {
         let cursor = Vec::with_capacity(alloc, MAX_KEY_LENGTH)?;
         let filter = Filter::new(alloc)?;
-        let boundaries = Boundaries::new(alloc).map_err(|_| AllocError)?;
+        let boundaries = Boundaries::new(alloc, -1).map_err(|_| AllocError)?;
         Ok(StepMap {
             boundaries,
             filter,
@@ -299,5 +294,16 @@ impl StepMap {
         }
         self.round = Some(began);
         SweepEnd::Stopped
+    }
+}
+
+// Notes in the filter that the range is written at the version. It takes no memory.
+fn note(filter: &mut Filter, range: &HashedRange<'_>, version: i64)
+    ensures on_range { (key : List ℕ) → Holds range.now key → version ≤ℤ bound filter.new key }
+    ensures raised { (key : List ℕ) → bound filter.old key ≤ℤ bound filter.new key }
+{
+    match range.hash() {
+        Some(hash) => filter.write_key(hash, version),
+        None => filter.write_range(version),
     }
 }

@@ -1,9 +1,9 @@
 //! A growth of the filter that is refused.
 
-use filter::Filter;
 use keys::key_hash;
 use std::alloc::{AllocError, Global};
 use std::test::Fail;
+use stepmap::Filter;
 
 // Writes a key at 100, a range at 150, a key at 200, and the first one again at an older version.
 fn four_writes(alloc: Global) -> Result<Filter, AllocError> {

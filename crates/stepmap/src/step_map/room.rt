@@ -3,19 +3,18 @@
 ghost use Rattle.std.specs.Prelude.{◌≡◌, ℕ, ◌+◌, ◌*◌, ◌<◌, ◌≤◌, ◌≤ℤ◌, ◌↔◌, nat_le, List, []};
 ghost use Rattle.std.specs.Prelude.{length, IsTrue, OnOk, OnErr};
 ghost use Rattle.arena.specs.Arena.{HasRoomFor as HasSlotsFor};
-ghost use Rattle.filter.specs.Filter.{bound};
+ghost use Rattle.stepmap.specs.Filter.{bound};
 ghost use Rattle.keyspace.specs.Writes.{Write};
 ghost use Rattle.stepmap.specs.StepMap.{AreSteps};
 ghost use Rattle.stepmap.specs.Sweeping.{at_front};
 ghost use Rattle.stepmap.specs.Limit.{HasRoomFor, after_round, made_room, unexpired_all};
 ghost use Rattle.stepmap.specs.Rooted.{Rooted};
 ghost use Rattle.stepmap.specs.Counting.{live_count};
-ghost use Rattle.stepmap.specs.Stored.{spare_in, each_length};
+ghost use Rattle.boundaries.specs.Stored.{spare_in, each_length};
 
-use super::{FAN_OUT, StepMap};
-use crate::boundaries::Boundaries;
-use crate::key_lengths::{KeyLengths, keep};
-use filter::Filter;
+use super::StepMap;
+use crate::filter::Filter;
+use boundaries::{Boundaries, KeyLengths};
 use limits::MAX_LIMIT;
 use std::alloc::AllocError;
 use std::collections::VecDeque;
@@ -113,7 +112,7 @@ impl StepMap {
 // Takes the memory that writing ranges with keys of these lengths needs, and keeps these as those
 // that are ready. The filter grows first, to a few cells for each boundary that there may be then.
 fn take_memory(
-    boundaries: &mut Boundaries<FAN_OUT>,
+    boundaries: &mut Boundaries,
     filter: &mut Filter,
     ready: &mut VecDeque<KeyLengths>,
     lengths: &[KeyLengths],
@@ -136,4 +135,15 @@ fn take_memory(
 // them, and one for each where these are few. A single key that is written makes two boundaries.
 fn cells_for(boundaries: usize) -> usize {
     (boundaries / 3).max(boundaries.min(EARLY_CELLS))
+}
+
+// Replaces the kept lengths by these.
+fn keep(kept: &mut VecDeque<KeyLengths>, lengths: &[KeyLengths]) -> Result<(), AllocError>
+    ensures lengths { OnOk result (kept.new.items ≡ lengths.now) }
+{
+    kept.clear();
+    for pair in lengths {
+        kept.push_back(*pair)?;
+    }
+    Ok(())
 }

@@ -6,7 +6,7 @@ use Rattle.std.proofs.lemmas.List.{length-map, length-take-le}
 use Rattle.std.proofs.lemmas.Slice.Zip.{AllZip-long}
 use mir.Syntax.{w64}
 use mir.Val.{to_z, of_z}
-use Rattle.filter.specs.Filter.{bound_in}
+use Rattle.stepmap.specs.Filter.{bound_in}
 use Rattle.keys.specs.Hash.{hash_of}
 use Rattle.keys.specs.Range.{IsSingle}
 use Rattle.keys.specs.declared.range.Range.{Range}

@@ -24,7 +24,7 @@ use mir.Syntax.{w64}
 use mir.Val.{SFits, to_z, of_z}
 use Rattle.stepmap.specs.StepMap.{Steps, AreSteps}
 use Rattle.stepmap.specs.Sweeping.{cursor_of, round_edge, rest, after_sweep, passed_to, left_from, swept}
-use Rattle.stepmap.specs.Stored.{first_key}
+use Rattle.boundaries.specs.Boundary.{first_key}
 use Rattle.stepmap.specs.Kept.{round_of, steps_of, IsKept}
 use Rattle.stepmap.proofs.Changes.{sweep_keeps}
 use Rattle.stepmap.proofs.FilterBounds.{determines_same}

@@ -7,7 +7,7 @@ use Rattle.stepmap.specs.StepMap.{Steps, AreSteps, lengths}
 use Rattle.stepmap.specs.Writing.{written, after_write}
 use Rattle.stepmap.specs.Filtering.{BoundsSteps}
 use Rattle.stepmap.specs.Kept.{steps_of}
-use Rattle.stepmap.specs.Stored.{spare_in, each_length}
+use Rattle.boundaries.specs.Stored.{spare_in, each_length}
 use Rattle.arena.specs.Arena.{wanted_of}
 use Rattle.stepmap.proofs.Changes.{WriteKeeps, write_keeps}
 use Rattle.stepmap.proofs.FilterBounds.{determines_written}

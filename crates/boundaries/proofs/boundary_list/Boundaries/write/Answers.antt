@@ -1,0 +1,28 @@
+use Rattle.std.proofs.Common.{arith, rules, refl, w64, ◌∙◌}
+use Rattle.std.proofs.lemmas.Int.{to_z-of_z}
+use Rattle.boundaries.proofs.WritingOn.{is_used, is_written, keys_fit, to_write, to_write_still}
+use Rattle.boundaries.proofs.boundary_list.Boundaries.write.Goals as goal
+
+pub loop-at_end-init : goal.loop-at_end-init
+loop-at_end-init c =
+    let e = c.of-new.ensures in
+    to_write c.args.range.now c.args.version c.args.self.now c.of-new.result e.start e.end
+    (e.version ∙ to_z-of_z w64 c.args.version c.ranges.version) e.at_end c.requires.boundaries
+
+pub overwrite-requires : goal.overwrite-requires
+overwrite-requires c =
+    let h = c.loop-at_end.invariant in
+    search (rules, h.boundaries, keys_fit h c.requires.keys, omega (arith, h.few, h.room, c.requires.nodes))
+
+pub loop-at_end-preserved : goal.loop-at_end-preserved
+loop-at_end-preserved c =
+    to_write_still c.loop-at_end.invariant c.in-Some.at_end _ refl c.in-Some.ensures.cleared c.in-Some.ensures.room
+
+pub loop-at_end-smaller : goal.loop-at_end-smaller
+loop-at_end-smaller c = omega (arith, c.in-Some.ensures.cleared.fewer)
+
+pub returns-clause-boundaries : goal.returns-clause-boundaries
+returns-clause-boundaries c = is_written c.loop-at_end.invariant (c.in-None.ensures.written refl)
+
+pub returns-clause-spare : goal.returns-clause-spare
+returns-clause-spare c = is_used c.loop-at_end.invariant (c.in-None.ensures.written refl)

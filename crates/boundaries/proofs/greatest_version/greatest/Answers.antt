@@ -1,0 +1,15 @@
+use Rattle.boundaries.proofs.AnsweredKeys.{root_known}
+use Rattle.boundaries.proofs.greatest_version.greatest.Goals as goal
+
+pub greatest_between-requires : goal.greatest_between-requires
+greatest_between-requires c =
+    let from = c.requires.from in
+    let to = c.requires.to in
+    record {
+      from = rw c.new.ensures.sought record { searchable = from.searchable; known = root_known from };
+      to = rw c.new-2.ensures.sought record { searchable = to.searchable; known = root_known to };
+      nested = rw (c.new.ensures.sought, c.new-2.ensures.sought) c.requires.nested;
+    }
+
+pub returns : goal.returns
+returns c = record { most = rw (c.new.ensures.sought, c.new-2.ensures.sought) at c.greatest_between.ensures.most }

@@ -1,0 +1,26 @@
+-- In the order in which one reads them aloud.
+pub mod Boundary
+pub mod Written
+pub mod Swept
+pub mod Copying
+pub mod Item
+pub mod Items
+pub mod Heads
+pub mod Bound
+pub mod Node
+pub mod Splice
+pub mod Subtree
+pub mod Path
+pub mod Finding
+pub mod Children
+pub mod Store
+pub mod Position
+pub mod Greatest
+pub mod Question
+pub mod Counted
+pub mod Rebalancing
+pub mod Walk
+pub mod Overwrite
+pub mod EntryRun
+pub mod Expire
+pub mod Stored

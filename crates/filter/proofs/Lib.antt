@@ -1,3 +1,0 @@
-pub mod Cells
-pub mod Bounds
-pub mod Spreading

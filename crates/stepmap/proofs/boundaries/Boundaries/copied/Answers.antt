@@ -1,9 +1,0 @@
-use Rattle.std.proofs.Common.{arith}
-use Rattle.stepmap.proofs.CopiedOn.{all_copied}
-use Rattle.stepmap.proofs.boundaries.Boundaries.copied.Goals as goal
-
-pub returns-clause-boundaries : goal.returns-clause-boundaries
-returns-clause-boundaries g c =
-    all_copied c.args.self.now.boundaries c.requires.boundaries c.loop-copy.from.items c.loop-copy.copy.boundaries
-    c.loop-copy.invariant.copied
-    (omega (arith, c.len.ensures.len, c.len-in-loop-copy.ensures.len, c.loop-copy-test.false))

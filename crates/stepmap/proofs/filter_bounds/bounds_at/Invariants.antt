@@ -1,6 +1,0 @@
-use Rattle.std.proofs.Common.{◌≡◌, map, take}
-use Rattle.filter.specs.Filter.{bound_in}
-use Rattle.stepmap.proofs.filter_bounds.bounds_at.Given as goal
-
-abbrev pub invariant-loop-hash : goal.invariant-loop-hash
-invariant-loop-hash l = l.bounds.items ≡ map (bound_in l.filter) (take l.hash-index l.hashes)

@@ -1,5 +1,0 @@
-use Rattle.tree.proofs.approach.+descend.Given as goal
-
--- A child's subtree is lower.
-abbrev pub decreases-descend : goal.decreases-descend
-decreases-descend g l = l.height

@@ -1,2 +1,0 @@
--- Lemmas for callers: what nodes know of the bytes of keys.
-pub use Rattle.tree.proofs.Headed.{all_known, headed_kept}

@@ -1,8 +1,0 @@
-use Rattle.std.proofs.Common.{drop, map}
-use Rattle.tree.proofs.Words.{item_of}
-use Rattle.tree.proofs.StillCounted.{IsStillCounted}
-use Rattle.tree.proofs.unexpired.count_entries.Given as goal
-
-abbrev pub invariant-loop-entry : goal.invariant-loop-entry
-invariant-loop-entry l =
-    IsStillCounted l.edge l.fn.before (map item_of l.entries) l.counted (map item_of (drop l.entry-index l.entries))
