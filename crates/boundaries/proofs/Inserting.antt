@@ -5,7 +5,7 @@ use Rattle.std.proofs.lemmas.List.Filters.{length-filter_both}
 use Rattle.arena.specs.Arena.{Arena, spare_of}
 use Rattle.boundaries.specs.declared.node.Node.{Node}
 use Rattle.boundaries.specs.Item.{Item}
-use Rattle.boundaries.specs.Path.{items_below, following}
+use Rattle.boundaries.specs.Path.{items_below, items_not_below}
 use Rattle.boundaries.specs.Subtree.{items_in}
 use Rattle.boundaries.specs.Bound.{Keys}
 use Rattle.boundaries.specs.Position.{CanReach}
@@ -44,7 +44,7 @@ tree_put a b root height slot above len now room t rooted spare counted some wit
 
 -- those that pass and those that don't are all
 pub length-partitioned : (is_below : ℕ → Bool) (items : List Item)
-    → length (items_below is_below items) + length (following is_below items) ≡ length items
+    → length (items_below is_below items) + length (items_not_below is_below items) ≡ length items
 length-partitioned is_below items =
     length-filter_both (λ (x : Item). is_below x.key) (λ (x : Item). not (is_below x.key)) (λ x. refl) items
 

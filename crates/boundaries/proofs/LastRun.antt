@@ -3,7 +3,7 @@ use Rattle.std.proofs.Common.{◌≡◌, ℕ, ℤ, ◌+◌, ◌-◌, ◌<◌, �
 use Rattle.std.proofs.lemmas.List.{take_more, drop_more, map-append, length-map, length-take-le, take-append-drop, drop-drop}
 use mathlib.Core.List.{map-map}
 use Rattle.boundaries.specs.Item.{key_of}
-use Rattle.boundaries.proofs.Words.{KeyBound, NodeEntry, Removal, Store, Item, is_below, item_of, version_of, IsPartitioned, first_key, GivesUnexpired, IsLast, unexpired, expired}
+use Rattle.boundaries.proofs.Words.{KeyBound, NodeEntry, Removal, Store, Item, is_below, item_of, version_of, IsPartitioned, first_key, GivesUnexpired, IsLast, unexpired_items, expired_items}
 use Rattle.boundaries.proofs.Removing.{run, all_stay}
 use Rattle.boundaries.proofs.WrittenLeaf.{items_parted}
 
@@ -15,9 +15,9 @@ module _ (es : List NodeEntry) (begin end : ℕ) (some : begin < end) (most : en
       cc (take-append-drop (end - begin) (drop begin es), drop-drop (end - begin) begin es)
 
   -- Where no item goes, all stay.
-  pub untouched : (edge before : ℤ) → expired edge before (map item_of (run es begin end)) ≡ []
+  pub untouched : (edge before : ℤ) → expired_items edge before (map item_of (run es begin end)) ≡ []
       → map item_of es ≡ map item_of (take begin es)
-      ++ (unexpired edge before (map item_of (run es begin end)) ++ map item_of (drop end es))
+      ++ (unexpired_items edge before (map item_of (run es begin end)) ++ map item_of (drop end es))
   untouched edge before none =
       let items = map-append item_of (take begin es) (drop begin es) in
       let following = map-append item_of (run es begin end) (drop end es) in
@@ -31,8 +31,8 @@ module _ (es : List NodeEntry) (begin end : ℕ) (some : begin < end) (most : en
       → IsLast removal.last (map version_of (run es begin end))
       → removal.next ≡ first_key next (map item_of (drop end es))
       → now ≡ map item_of (take begin es)
-      ++ (unexpired edge before (map item_of (run es begin end)) ++ map item_of (drop end es))
-      → new.removed.items ≡ map key_of (expired edge before (map item_of (run es begin end)))
+      ++ (unexpired_items edge before (map item_of (run es begin end)) ++ map item_of (drop end es))
+      → new.removed.items ≡ map key_of (expired_items edge before (map item_of (run es begin end)))
       → new.keys ≡ old.keys → GivesUnexpired bound count edge before removal old new next (map item_of es) now
   leaf_unexpired bound old new partitioned first_is count edge before removal next now few looked_at last next_is now_is run_is keys =
       let default : NodeEntry = record { key = 0; child = 0; version = pos 0 } in

@@ -18,7 +18,7 @@ use Rattle.boundaries.specs.Boundary.{Boundary, AreBoundaries, AreInOrder, below
 use Rattle.boundaries.specs.Item.{Item}
 use Rattle.boundaries.specs.Items.{IsLast, ended_by}
 use Rattle.boundaries.specs.Overwrite.{before_end, before_start, up_to_end}
-use Rattle.boundaries.specs.Path.{items_below, following, between}
+use Rattle.boundaries.specs.Path.{items_below, items_not_below, between}
 use Rattle.boundaries.specs.Store.{PutsKeys}
 use Rattle.boundaries.specs.Stored.{boundary_of, overwritten, version_at_end}
 use Rattle.boundaries.specs.Written.{closed_at}
@@ -122,7 +122,7 @@ module _ (old mid : Store) (new : Overwrite) (was now : List Item) (stored : Are
   middle = between (Some (before_start old.keys new)) (Some (before_end old.keys new)) was
 
   abbrev rest : List Item
-  rest = following (before_end old.keys new) was
+  rest = items_not_below (before_end old.keys new) was
 
   items_are : was ≡ front ++ (middle ++ rest)
   items_are =

@@ -9,7 +9,7 @@ use Rattle.boundaries.specs.Bound.{bytes_at}
 use Rattle.boundaries.specs.Item.{Item, key_of}
 use Rattle.boundaries.specs.Items.{IsLast}
 use Rattle.boundaries.specs.Overwrite.{IsOverwritten, GivesEntire, GivesPart, before_end, before_start, first_is_below, up_to_end}
-use Rattle.boundaries.specs.Path.{IsPartitioned, items_below, following, between, first_key}
+use Rattle.boundaries.specs.Path.{IsPartitioned, items_below, items_not_below, between, first_key}
 use Rattle.boundaries.specs.Store.{PutsKeys}
 use Rattle.boundaries.specs.Walk.{IsChangedWithin}
 use Rattle.boundaries.proofs.callers.Partitions.{All-front, filter_around, none_pass, none_passed, not_both, IsPartitioned-parts}
@@ -27,7 +27,7 @@ pub record Overwrites (new : Overwrite) (old store : Store) (was now : List Item
   pub puts : PutsKeys old.keys store.keys new.start.now new.end.now first (if ended then None else Some second)
   pub removed : store.removed.items
       ≡ map key_of (between (Some (before_start old.keys new)) (Some (before_end old.keys new)) was)
-  pub ended_is : ended ≡ first_is_below (up_to_end old.keys new) (first_key None (following (before_end old.keys new) was))
+  pub ended_is : ended ≡ first_is_below (up_to_end old.keys new) (first_key None (items_not_below (before_end old.keys new) was))
   pub written : IsOverwritten (before_start old.keys new) (before_end old.keys new) (record { key = first; version = new.version })
       second new.at_end ended was now
 
@@ -39,7 +39,7 @@ pub record Clears (new : Overwrite) (at_end : ℤ) (old store : Store) (was now 
   pub some : run ≢ []
   pub run_is : between (Some (before_start old.keys new)) (Some (before_end old.keys new)) was ≡ kept ++ run
   pub removed : store.removed.items ≡ map key_of run
-  pub now_is : now ≡ items_below (before_start old.keys new) was ++ (kept ++ following (before_end old.keys new) was)
+  pub now_is : now ≡ items_below (before_start old.keys new) was ++ (kept ++ items_not_below (before_end old.keys new) was)
   pub first : items_below (before_start old.keys new) was ++ kept ≢ []
   pub last_is : IsLast last run
   pub at_end_is : at_end ≡ unwrap_or new.at_end last.version
@@ -54,8 +54,8 @@ module _ (p q : ℕ → Bool) (nested : (key : ℕ) → p key ≡ true → q key
   passing_too : items_below q was ≡ front ++ items_below q part
   passing_too = ap (items_below q) c.was_is ∙ filter_around (λ (x : Item). q x.key) front part back pass fail
 
-  after_too : following q was ≡ following q part ++ back
-  after_too = ap (following q) c.was_is ∙ following-parts q front part back pass fail
+  after_too : items_not_below q was ≡ items_not_below q part ++ back
+  after_too = ap (items_not_below q) c.was_is ∙ following-parts q front part back pass fail
 
   fail_first : All (λ x. p x.key ≡ false) back
   fail_first = none_of_fewer (λ (x : Item). p x.key) (λ (x : Item). q x.key) (λ x. nested x.key) back fail
@@ -73,9 +73,9 @@ module _ (p q : ℕ → Bool) (nested : (key : ℕ) → p key ≡ true → q key
 
     between_part : between (Some p) (Some q) was ≡ between (Some p) (Some q) part
     between_part =
-        let rest = ap (following p) c.was_is ∙ following-parts p front part back opens fail_first in
+        let rest = ap (items_not_below p) c.was_is ∙ following-parts p front part back opens fail_first in
         let none = (none_pass (λ (x : Item). q x.key) back fail).0 in
-        rw (between_is p q was, between_is p q part, rest, filter-append, none) (append-nil (items_below q (following p part)))
+        rw (between_is p q was, between_is p q part, rest, filter-append, none) (append-nil (items_below q (items_not_below p part)))
 
     -- Where those of the leaf are written over, all items are.
     written_part : (first : Item) (second : ℕ) (given : Option ℤ) (is_ended : Bool)
@@ -125,7 +125,7 @@ module _ (new : Overwrite) (old store : Store) (was now : List Item)
         removed = c.gives.run_is ∙ ap (map key_of) (sym (between_part starts ends nested c opens));
         ended_is = c.gives.ended_is
             ∙ ap (first_is_below (up_to_end old.keys new)) (sym (ap (first_key None) (after_too starts ends nested c)
-            ∙ first_key-append None (following ends c.leaf) c.following));
+            ∙ first_key-append None (items_not_below ends c.leaf) c.following));
         written = written_part starts ends nested c opens (record { key = c.gives.first; version = new.version }) c.gives.second
             new.at_end c.gives.ended c.gives.written;
       }
@@ -143,15 +143,15 @@ module _ (new : Overwrite) (old store : Store) (was now : List Item)
       let back = c.following in
       let gives = c.gives in
       let front_is = (IsPartitioned-parts here front (part ++ back) (rw c.was_is at from)).0 in
-      let kept = following starts front in
+      let kept = items_not_below starts front in
       let fails = none_pass here part (none_passed here part gives.none) in
       let fails_back = none_pass here back (fail_first starts ends nested c) in
       let filled : front ≢ [] = λ none. no_first begins none in
       let stays = All-filter (λ (x : Item). not (starts x.key)) (λ (x : Item). ends x.key ≡ true) front c.items_below in
       let passing_all : items_below starts was ≡ items_below starts front =
       ap (items_below starts) c.was_is ∙ (rw (filter-append, filter-append, gives.none, fails_back.0) (append-nil _)) in
-      let rest : following starts was ≡ kept ++ (part ++ back) =
-      ap (following starts) c.was_is ∙ (rw (filter-append, filter-append, fails.1, fails_back.1)) in
+      let rest : items_not_below starts was ≡ kept ++ (part ++ back) =
+      ap (items_not_below starts) c.was_is ∙ (rw (filter-append, filter-append, fails.1, fails_back.1)) in
       record {
         kept = kept;
         run = items_below ends part;
@@ -161,7 +161,7 @@ module _ (new : Overwrite) (old store : Store) (was now : List Item)
             (filter_around (λ (x : Item). ends x.key) kept part back stays c.failing);
         removed = gives.run_is;
         now_is = cc (c.now_is, gives.rest, after_too starts ends nested c, passing_all,
-            append_assoc (items_below starts front) kept (following ends was));
+            append_assoc (items_below starts front) kept (items_not_below ends was));
         first = λ none. filled (front_is ∙ (rw passing_all at none));
         last_is = gives.last_is;
         at_end_is = gives.at_end_is;

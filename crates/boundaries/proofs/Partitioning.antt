@@ -5,7 +5,7 @@ use Rattle.std.specs.List.{All}
 use Rattle.std.proofs.lemmas.List.Elements.{All-head, All-tail, All-cons, All-nil, All-weaker}
 use Rattle.arena.specs.Arena.{Record, IsLive, record_at}
 use Rattle.boundaries.specs.Item.{Item}
-use Rattle.boundaries.specs.Path.{IsPartitioned, items_below, following}
+use Rattle.boundaries.specs.Path.{IsPartitioned, items_below, items_not_below}
 use Rattle.boundaries.proofs.callers.Partitions.{none_pass}
 use Rattle.keys.proofs.callers.KeyOrder.{before_trans}
 use Rattle.keys.proofs.callers.Booleans.{true_or_false, false_unless, not_both_ways}
@@ -76,7 +76,7 @@ module _ (keys : Keys) where
     pub partitioned : IsPartitioned (λ x. slot_is_below keys up_to key x.key) items
     pub before : boundaries_in keys (items_below (slot_is_below keys up_to key) items)
         ≡ filter (λ b. is_below_at up_to key b.key) (boundaries_in keys items)
-    pub following : boundaries_in keys (following (slot_is_below keys up_to key) items)
+    pub following : boundaries_in keys (items_not_below (slot_is_below keys up_to key) items)
         ≡ filter (λ b. not (is_below_at up_to key b.key)) (boundaries_in keys items)
 
   pub stored_partitioned : (items : List Item) → AreKept keys items → (up_to : Bool) (key : List ℕ)

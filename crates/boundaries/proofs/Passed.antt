@@ -4,7 +4,7 @@ use Rattle.std.specs.Prelude.{ℤ}
 use Rattle.std.proofs.lemmas.Bool.{ne_eqb}
 use Rattle.std.proofs.lemmas.List.Elements.{All-head, All-tail, All-cons, All-nil, filter_agree}
 use Rattle.boundaries.specs.Item.{Item}
-use Rattle.boundaries.specs.Path.{IsPartitioned, items_below, following, first_key as first_slot}
+use Rattle.boundaries.specs.Path.{IsPartitioned, items_below, items_not_below, first_key as first_slot}
 use Rattle.keys.specs.Key.{is_before}
 use Rattle.keys.proofs.callers.Booleans.{true_or_false}
 use Rattle.boundaries.specs.Boundary.{Boundary, AreInOrder, last_version}
@@ -86,7 +86,7 @@ module _ (keys : Keys) where
     pub partitioned : IsPartitioned (λ x. slot_is_below keys up_to key x.key) items
     pub passed : boundaries_in keys (items_below (slot_is_below keys up_to key) items)
         ≡ passed_to cursor (boundaries_in keys items)
-    pub left : boundaries_in keys (following (slot_is_below keys up_to key) items)
+    pub left : boundaries_in keys (items_not_below (slot_is_below keys up_to key) items)
         ≡ left_from cursor (boundaries_in keys items)
     pub some : items_below (slot_is_below keys up_to key) items ≢ []
 

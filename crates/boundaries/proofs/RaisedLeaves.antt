@@ -13,7 +13,7 @@ use Rattle.boundaries.specs.declared.walk.LeafOutcome.TheVariants.{Raised}
 use Rattle.boundaries.specs.declared.walk.RaisedLeaf.{RaisedLeaf}
 use Rattle.boundaries.specs.Item.{Item, Describes}
 use Rattle.boundaries.specs.Overwrite.{IsPartOfPartitioned, part_of_part}
-use Rattle.boundaries.specs.Path.{IsPartitioned, items_below, following, first_key}
+use Rattle.boundaries.specs.Path.{IsPartitioned, items_below, items_not_below, first_key}
 use Rattle.boundaries.specs.Children.{child_at, items_of, AreChildren, IsRebalancedAt}
 use Rattle.boundaries.specs.Subtree.{entries_at, items_in, slots_in}
 use Rattle.boundaries.specs.Store.{IsRooted}
@@ -171,7 +171,7 @@ module _ (old : Store) (leaf : RaisedLeaf) where
     -- The items of a tree of which the leaf was changed, that has items on both sides of a bound.
     pub within_raised : (is_below : ℕ → Bool) (Gives : Option ℕ → List Item → List Item → Type 0) (height slot : ℕ)
         → CanChange old.nodes height slot → IsRaisedIn old.nodes leaf height slot → IsPartitioned (λ x. is_below x.key) (items_in old.nodes height slot)
-        → items_below is_below (items_in old.nodes 0 leaf.slot) ≢ [] → following is_below (items_in old.nodes 0 leaf.slot) ≢ []
+        → items_below is_below (items_in old.nodes 0 leaf.slot) ≢ [] → items_not_below is_below (items_in old.nodes 0 leaf.slot) ≢ []
         → ((next : Option ℕ) → Gives next (items_in old.nodes 0 leaf.slot) (items_in new.nodes 0 leaf.slot))
         → IsChangedWithin is_below Gives None (items_in old.nodes height slot) (items_in new.nodes height slot)
     within_raised is_below Gives height slot can there partitioned some_below some_after gives =

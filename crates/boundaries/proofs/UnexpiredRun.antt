@@ -14,9 +14,9 @@ use Rattle.boundaries.specs.declared.expiry.Removal.{Removal}
 use Rattle.boundaries.specs.declared.key_bound.KeyBound.{KeyBound}
 use Rattle.boundaries.specs.declared.store.Store.{Store}
 use Rattle.boundaries.specs.Item.{Item}
-use Rattle.boundaries.specs.Path.{IsPartitioned, items_below, following, first_key as first_slot}
+use Rattle.boundaries.specs.Path.{IsPartitioned, items_below, items_not_below, first_key as first_slot}
 use Rattle.boundaries.specs.Expire.{GivesUnexpired}
-use Rattle.boundaries.specs.Items.{IsLast, expired, unexpired as unexpired_items}
+use Rattle.boundaries.specs.Items.{IsLast, expired_items, unexpired_items}
 use Rattle.boundaries.proofs.callers.Partitions.{All-back}
 use Rattle.boundaries.specs.Boundary.{Boundary, AreInOrder, RiseFrom, last_version}
 use Rattle.boundaries.specs.Bound.{slot_is_below}
@@ -26,7 +26,7 @@ use Rattle.boundaries.proofs.callers.Times.{times}
 use Rattle.std.specs.FinMap as finite
 use Rattle.boundaries.specs.Bound.{Keys, bytes_at}
 use Rattle.boundaries.specs.Boundary.{first_key as first_boundary}
-use Rattle.boundaries.specs.Swept.{is_left, left_from, passed_to, unexpired}
+use Rattle.boundaries.specs.Swept.{is_left, left_from, passed_to, unexpired_boundaries}
 use Rattle.boundaries.proofs.Partitioning.{stored_partitioned}
 use Rattle.boundaries.proofs.LastFound.{last_boundary, last_if_there}
 use Rattle.boundaries.proofs.callers.LeftFrom.{left_middle, filter_yes, filter_no}
@@ -74,11 +74,11 @@ passed_middle c xs cs before after filled =
 
 -- what is in order stays in order where a part behind the first is swept of expired items
 unexpired_in_order : (edge before : ℤ) (xs ys zs : List Boundary) → xs ≢ [] → AreInOrder (xs ++ (ys ++ zs))
-    → AreInOrder (xs ++ (unexpired edge before ys ++ zs))
+    → AreInOrder (xs ++ (unexpired_boundaries edge before ys ++ zs))
 unexpired_in_order edge before [] ys zs some o = absurd (some refl)
 unexpired_in_order edge before (x ∷ xs) ys zs some o = (
   o.0,
-  rise_swap x.key xs (ys ++ zs) (unexpired edge before ys ++ zs) o.1
+  rise_swap x.key xs (ys ++ zs) (unexpired_boundaries edge before ys ++ zs) o.1
       (λ j r. unexpired_rises edge before j ys zs r),
 )
 
@@ -90,12 +90,12 @@ pub record RunExpired (p : ℕ → Bool) (count : ℕ) (edge before : ℤ) (remo
   pub looked : List Item
   pub rest : List Item
   pub front_is : items_below p was ≡ front ++ first ∷ []
-  pub looked_is : first ∷ following p was ≡ looked ++ rest
+  pub looked_is : first ∷ items_not_below p was ≡ looked ++ rest
   pub looked_at : length looked ≡ removal.looked_at
   pub some : 1 ≤ removal.looked_at
   pub few : removal.looked_at ≤ count
   pub now_is : now ≡ front ++ (unexpired_items edge before looked ++ rest)
-  pub gone_is : gone ≡ slots_of (expired edge before looked)
+  pub gone_is : gone ≡ slots_of (expired_items edge before looked)
   pub last : IsLast removal.last (map (λ x. x.version) looked)
   pub next_is : removal.next ≡ first_slot None rest
 
@@ -125,7 +125,7 @@ run_expired {bound} {count} {edge} {before} {removal} {old} {new} {was} {now} ke
 module _ (keys : Keys) where
   -- items are swept of expired items as their boundaries are
   pub boundaries_unexpired : (edge before : ℤ) (xs : List Item)
-      → boundaries_in keys (unexpired_items edge before xs) ≡ unexpired edge before (boundaries_in keys xs)
+      → boundaries_in keys (unexpired_items edge before xs) ≡ unexpired_boundaries edge before (boundaries_in keys xs)
   boundaries_unexpired edge before [] = refl
   boundaries_unexpired edge before (x ∷ xs) =
       let i = boundaries_unexpired edge x.version xs in
@@ -150,7 +150,7 @@ module _ (keys : Keys) where
       -- the last item below the bound is that boundary's
       module _ (front : List Item) (first : Item) (passing_are : items_below p items ≡ front ++ first ∷ []) where
         abbrev rest : List Item
-        rest = following p items
+        rest = items_not_below p items
 
         items_are : items ≡ front ++ first ∷ rest
         items_are = key_is_partitioned ∙ ap (λ xs. xs ++ rest) passing_are ∙ append_assoc front (first ∷ []) rest
@@ -189,7 +189,7 @@ module _ (keys : Keys) where
       module _ (count : ℕ) (edge before : ℤ) (unexpired_by : Removal) (gone : List ℕ) (next : List Item)
           (h : RunExpired p count edge before unexpired_by gone items next) where
         abbrev pub run : List Item
-        run = expired edge before h.looked
+        run = expired_items edge before h.looked
 
         abbrev n : ℕ
         n = unexpired_by.looked_at
@@ -226,7 +226,7 @@ module _ (keys : Keys) where
         pub next_has : (P : ℕ → Type 0) → All (λ x. P x.key) items → IfSome unexpired_by.next P
         next_has P all =
             let Has = λ (x : Item). P x.key in
-            let after_has = All-back Has h.front (h.first ∷ following p items)
+            let after_has = All-back Has h.front (h.first ∷ items_not_below p items)
             (subst (All Has) (items_are h.front h.first h.front_is) all) in
             subst (λ o. IfSome o P) (sym h.next_is)
             (first_has keys P h.rest (All-back Has h.looked h.rest (subst (All Has) h.looked_is after_has)))
@@ -258,7 +258,7 @@ module _ (keys : Keys) where
             some_front (x ∷ xs) some = omega arith
 
         now_are : boundaries_in keys next
-            ≡ boundaries_in keys h.front ++ (unexpired edge before looked ++ unseen)
+            ≡ boundaries_in keys h.front ++ (unexpired_boundaries edge before looked ++ unseen)
         now_are =
             let f = boundary_of keys in
             let kept = unexpired_items edge before h.looked in
@@ -281,12 +281,12 @@ module _ (keys : Keys) where
           same = kept_boundaries keys keys new items next run [] stored parted (λ s live. refl) released (All-nil (λ (x : Item). record_at keys x.key ≡ None)) next
               (λ s some. some)
 
-          pub unexpired_boundaries : boundaries_in new next ≡ passed_to key bs
-              ++ (unexpired edge before (take n (left_from key bs)) ++ drop n (left_from key bs))
-          unexpired_boundaries =
+          pub passed_are_unexpired : boundaries_in new next ≡ passed_to key bs
+              ++ (unexpired_boundaries edge before (take n (left_from key bs)) ++ drop n (left_from key bs))
+          passed_are_unexpired =
               same ∙ now_are
-              ∙ ap (λ l. l ++ (unexpired edge before looked ++ unseen)) (sym (passed h.front h.first h.front_is))
-              ∙ ap₂ (λ xs ys. passed_to key bs ++ (unexpired edge before xs ++ ys)) (sym looked_are) (sym rest_are)
+              ∙ ap (λ l. l ++ (unexpired_boundaries edge before looked ++ unseen)) (sym (passed h.front h.first h.front_is))
+              ∙ ap₂ (λ xs ys. passed_to key bs ++ (unexpired_boundaries edge before xs ++ ys)) (sym looked_are) (sym rest_are)
 
           pub unexpired_kept : finite.len new.records + length (slots_of run) ≡ finite.len keys.records → AreKept new next
           unexpired_kept less =

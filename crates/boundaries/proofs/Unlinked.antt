@@ -7,7 +7,7 @@ use Rattle.std.proofs.lemmas.List.Elements.{All-head, All-tail}
 use Rattle.arena.specs.Arena.{IsLive}
 use Rattle.boundaries.specs.Bound.{Keys}
 use Rattle.boundaries.specs.Item.{Item}
-use Rattle.boundaries.specs.Items.{unexpired as unexpired_items, expired}
+use Rattle.boundaries.specs.Items.{unexpired_items, expired_items}
 use Rattle.boundaries.proofs.callers.Times.{times, once_same, once_cases, times-append}
 
 -- the slots of items
@@ -58,7 +58,7 @@ middle_goes front out rest = parted_beside front out [] out rest (record { each 
 
 -- a run is swept of expired items
 pub unexpired_parted : (edge before : ℤ) (items : List Item)
-    → AreParted items (unexpired_items edge before items) (expired edge before items)
+    → AreParted items (unexpired_items edge before items) (expired_items edge before items)
 unexpired_parted edge before [] = record { each = λ s. omega arith; count = omega arith }
 unexpired_parted edge before (x ∷ xs) =
     let i = unexpired_parted edge x.version xs in

@@ -17,11 +17,11 @@ pub use Rattle.boundaries.specs.Heads.{KeyBytes, IsCommonPrefix, IsCommonPrefixA
 pub use Rattle.boundaries.specs.Item.{Item, item_of, IsMost, Describes, IsGreatest, version_of}
 pub use Rattle.boundaries.specs.Node.{IsHeaded, entries_of, key_heads_of, keys_of, all_heads_of}
 pub use Rattle.boundaries.specs.Overwrite.{first_is_below}
-pub use Rattle.boundaries.specs.Path.{IsPartitioned, between, from_last, items_below, index_in, leaf_in, following, after_leaf, first_key, child_in, before_leaf, below_from, below_to}
+pub use Rattle.boundaries.specs.Path.{IsPartitioned, between, from_last, items_below, index_in, leaf_in, items_not_below, after_leaf, first_key, child_in, before_leaf, below_from, below_to}
 pub use Rattle.boundaries.specs.Position.{IsSearchable}
 pub use Rattle.boundaries.specs.Question.{Answers, IsApproach, IsLeading, IsAnswer}
 pub use Rattle.boundaries.specs.Children.{Changes, IsKeyless, AreChildren, items_of, slots_of, child_at, IsFamily, IsRebalanced}
 pub use Rattle.boundaries.specs.Subtree.{items_in, entries_at, slots_in, IsSubtree, IsChild}
-pub use Rattle.boundaries.specs.Items.{IsLast, unexpired, expired, ended_by}
+pub use Rattle.boundaries.specs.Items.{IsLast, unexpired_items, expired_items, ended_by}
 pub use Rattle.boundaries.specs.Store.{AreHeaded, IsRooted, IsTree}
 pub use Rattle.boundaries.specs.Walk.{IsChangedWithin}

@@ -6,13 +6,13 @@ use Rattle.keys.specs.declared.range.Range.{Range}
 use Rattle.boundaries.specs.declared.overwrite.Overwrite.{Overwrite}
 use Rattle.boundaries.specs.Boundary.{AreBoundaries}
 use Rattle.boundaries.specs.Stored.{IsCleared, IsWrittenOver, Stored, overwritten, spare_in, version_at_end}
-use Rattle.boundaries.specs.Written.{written}
+use Rattle.boundaries.specs.Written.{boundaries_after_write}
 
 -- the range can be written as at first
 pub record IsToWrite (range : Range) (version : ℤ) (old now : Stored) (new : Overwrite) : Type 0 where
   pub start : new.start.now ≡ range.begin
   pub end : new.end.now ≡ range.end
-  pub same : overwritten new (version_at_end new now.boundaries) now.boundaries ≡ written range version old.boundaries
+  pub same : overwritten new (version_at_end new now.boundaries) now.boundaries ≡ boundaries_after_write range version old.boundaries
   pub boundaries : AreBoundaries now.boundaries
   pub few : length now.boundaries ≤ length old.boundaries
   pub spare : (size : ℕ) → spare_in old size ≤ spare_in now size
@@ -51,7 +51,7 @@ module _ {range : Range} {version : ℤ} {old now next : Stored} {new : Overwrit
   }
 
   -- it is written over
-  pub is_written : IsWrittenOver new now next → next.boundaries ≡ written range version old.boundaries
+  pub is_written : IsWrittenOver new now next → next.boundaries ≡ boundaries_after_write range version old.boundaries
   is_written w = w.boundaries ∙ h.same
 
   pub is_used : IsWrittenOver new now next → (size : ℕ)

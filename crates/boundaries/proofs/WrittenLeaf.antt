@@ -9,7 +9,7 @@ use Rattle.keys.proofs.callers.SomeElement.{Any-first, Any-right}
 use Rattle.boundaries.specs.declared.entry.NodeEntry.{NodeEntry}
 use Rattle.boundaries.specs.Item.{Item, item_of}
 use Rattle.boundaries.specs.Overwrite.{IsOverwritten, IsPartOfPartitioned, first_is_below}
-use Rattle.boundaries.specs.Path.{IsPartitioned, items_below, following, between, first_key}
+use Rattle.boundaries.specs.Path.{IsPartitioned, items_below, items_not_below, between, first_key}
 use Rattle.boundaries.specs.Items.{IsLast, ended_by}
 use Rattle.boundaries.specs.Walk.{IsRaised}
 use Rattle.boundaries.proofs.callers.Partitions.{All-back, none_fail, IsPartitioned-parts}
@@ -34,7 +34,7 @@ some_item p es n some count none =
 -- so many entries are below the bound, and the items that do are theirs
 pub items_parted : (p : ℕ → Bool) (es : List NodeEntry) (n : ℕ) → IsPartitioned (λ e. p e.key) es
     → n ≡ length (filter (λ e. p e.key) es)
-    → (items_below p (map item_of es) ≡ map item_of (take n es)) × (following p (map item_of es) ≡ map item_of (drop n es))
+    → (items_below p (map item_of es) ≡ map item_of (take n es)) × (items_not_below p (map item_of es) ≡ map item_of (drop n es))
 items_parted p es n partitioned count =
     let parts = parted p es n partitioned count in (
       filter-items p es ∙ ap (map item_of) (sym parts.0),
@@ -71,7 +71,7 @@ pub raised : (p q : ℕ → Bool) → ((key : ℕ) → p key ≡ true → q key 
 raised p q nested first second ended was now partitioned some some_second written =
     let end = ended_some (items_below q was) some_second in
     let x : Item = record { key = second; version = end.last.version } in
-    let rest = first ∷ ended_by ended x ++ following q was in
+    let rest = first ∷ ended_by ended x ++ items_not_below q was in
     let now_is : now ≡ items_below p was ++ rest = written end.last (end.front, end.is) in
     let Known : Item → Type 0 = λ x. Any (λ (w : Item). x.version ≡ w.version) was in
     let P : Item → Type 0 = λ x. (x.version ≡ first.version) ⊎ Known x in
@@ -83,12 +83,12 @@ raised p q nested first second ended was now partitioned some some_second writte
     let ends : All P (ended_by ended x) =
     (elim ended as (λ b. All P (ended_by b x)) [ true ↦ All-nil P | false ↦ All-cons P x [] (inr last) (All-nil P) ]) in
     record {
-      first = cc (now_is, first_of_front (items_below p was) rest (following p was) some, partitioned);
+      first = cc (now_is, first_of_front (items_below p was) rest (items_not_below p was) some, partitioned);
       there = rw now_is (Any-right (λ (x : Item). x.version ≡ first.version) (items_below p was) rest (Any-first _ first _ refl));
       others = rw now_is
           (All-append P (items_below p was) rest (All-filter (λ (x : Item). p x.key) P was own)
           (All-cons P first _ (inl refl)
-          (All-append P _ (following q was) ends (All-filter (λ (x : Item). not (q x.key)) P was own))));
+          (All-append P _ (items_not_below q was) ends (All-filter (λ (x : Item). not (q x.key)) P was own))));
     }
 
 module _ (r : ℕ → Bool) (es : List NodeEntry) (end : ℕ) (otherwise : Option ℕ) (ended : Bool) where

@@ -16,7 +16,7 @@ use Rattle.boundaries.specs.Item.{item_of, version_of}
 use Rattle.boundaries.specs.Items.{IsLast, ended_by}
 use Rattle.boundaries.specs.Node.{keys_of}
 use Rattle.boundaries.specs.Overwrite.{before_start, before_end, up_to_end, bound_from, bound_to, first_is_below, GivesEntire, HasKeyRoom}
-use Rattle.boundaries.specs.Path.{IsPartitioned, items_below, following, first_key}
+use Rattle.boundaries.specs.Path.{IsPartitioned, items_below, items_not_below, first_key}
 use Rattle.boundaries.specs.Position.{CanSearch}
 use Rattle.boundaries.specs.Rebalancing.{IsSound, IsStored}
 use Rattle.boundaries.specs.Store.{KeysStay, PutsKeys}
@@ -110,7 +110,7 @@ pub record IsWrittenInLeaf (old new : Store) (leaf : RaisedLeaf) (o : Overwrite)
   pub version : o.version ≡ leaf.version
   pub given_none : o.at_end ≡ None
   pub some_before : items_below (before_start old.keys o) (items_in old.nodes 0 leaf.slot) ≢ []
-  pub some_after : following (before_end old.keys o) (items_in old.nodes 0 leaf.slot) ≢ []
+  pub some_after : items_not_below (before_end old.keys o) (items_in old.nodes 0 leaf.slot) ≢ []
   pub gives : (next : Option ℕ) → GivesEntire o old new next (items_in old.nodes 0 leaf.slot) (items_in new.nodes 0 leaf.slot)
   pub filled : HALF_FULL ≤ length (entries_at new.nodes leaf.slot)
   pub stored : IsStored old new leaf.slot None

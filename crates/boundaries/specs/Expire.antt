@@ -6,8 +6,8 @@ use Rattle.boundaries.specs.declared.key_bound.KeyBound.{KeyBound}
 use Rattle.boundaries.specs.declared.store.Store.{Store}
 use Rattle.boundaries.specs.Bound.{is_below}
 use Rattle.boundaries.specs.Item.{Item}
-use Rattle.boundaries.specs.Items.{IsLast, unexpired, expired}
-use Rattle.boundaries.specs.Path.{items_below, following, first_key}
+use Rattle.boundaries.specs.Items.{IsLast, unexpired_items, expired_items}
+use Rattle.boundaries.specs.Path.{items_below, items_not_below, first_key}
 use Rattle.boundaries.specs.Rebalancing.{KeepsKeys}
 
 -- A run of items was looked at that begins with the last one below the bound. Those that say nothing at or above the edge are
@@ -20,12 +20,12 @@ pub record GivesUnexpired (bound : KeyBound) (count : ℕ) (edge before : ℤ) (
   pub looked : List Item
   pub rest : List Item
   pub front_is : items_below (is_below old.keys bound) was ≡ front ++ first ∷ []
-  pub looked_is : first ∷ following (is_below old.keys bound) was ≡ looked ++ rest
+  pub looked_is : first ∷ items_not_below (is_below old.keys bound) was ≡ looked ++ rest
   pub looked_at : length looked ≡ removal.looked_at
   pub some : 1 ≤ removal.looked_at
   pub few : removal.looked_at ≤ count
-  pub now_is : now ≡ front ++ (unexpired edge before looked ++ rest)
-  pub run_is : new.removed.items ≡ map (λ x. x.key) (expired edge before looked)
+  pub now_is : now ≡ front ++ (unexpired_items edge before looked ++ rest)
+  pub run_is : new.removed.items ≡ map (λ x. x.key) (expired_items edge before looked)
   pub last : IsLast removal.last (map (λ x. x.version) looked)
   pub next_is : removal.next ≡ first_key next rest
   pub keys : new.keys ≡ old.keys

@@ -9,7 +9,7 @@ use Rattle.boundaries.specs.declared.tree.Tree.{Tree}
 use Rattle.boundaries.specs.Bound.{Keys, bytes_at, is_below}
 use Rattle.boundaries.specs.Item.{Item}
 use Rattle.boundaries.specs.Items.{IsLast, ended_by}
-use Rattle.boundaries.specs.Path.{IsPartitioned, items_below, following, between, first_key}
+use Rattle.boundaries.specs.Path.{IsPartitioned, items_below, items_not_below, between, first_key}
 use Rattle.boundaries.specs.Rebalancing.{KeepsKeys}
 use Rattle.boundaries.specs.Store.{PutsKeys}
 use Rattle.boundaries.specs.Walk.{CanChangeTree, IsRaisedInTree}
@@ -40,23 +40,23 @@ abbrev pub IsOverwritten : (ℕ → Bool) → (ℕ → Bool) → Item → ℕ �
 IsOverwritten from to first second given ended was now =
     (last : Item) → IsLast last (items_below to was)
     → now ≡ items_below from was
-    ++ (first ∷ ended_by ended (record { key = second; version = unwrap_or given last.version }) ++ following to was)
+    ++ (first ∷ ended_by ended (record { key = second; version = unwrap_or given last.version }) ++ items_not_below to was)
 
 -- Items that are a part of others, which are partitioned.
 abbrev pub IsPartOfPartitioned : (ℕ → Bool) → List Item → Type 0
 IsPartOfPartitioned is_below part = (front back : List Item) × IsPartitioned (λ x. is_below x.key) (front ++ (part ++ back))
 
 -- A part of such items is one too.
-pub part_of_part : (is_below : ℕ → Bool) (before items following : List Item) → IsPartOfPartitioned is_below (before ++ (items ++ following))
+pub part_of_part : (is_below : ℕ → Bool) (before items items_not_below : List Item) → IsPartOfPartitioned is_below (before ++ (items ++ items_not_below))
     → IsPartOfPartitioned is_below items
-part_of_part is_below before items following part =
+part_of_part is_below before items items_not_below part =
     let front = part.0 in
     let back = part.1 in
-    let regrouped : front ++ ((before ++ (items ++ following)) ++ back) ≡ (front ++ before) ++ (items ++ (following ++ back)) =
-    ap (λ xs. front ++ xs) (append_assoc before (items ++ following) back)
-    ∙ ap (λ xs. front ++ (before ++ xs)) (append_assoc items following back)
-    ∙ sym (append_assoc front before (items ++ (following ++ back))) in
-    (front ++ before, following ++ back, subst (IsPartitioned (λ x. is_below x.key)) regrouped part.2)
+    let regrouped : front ++ ((before ++ (items ++ items_not_below)) ++ back) ≡ (front ++ before) ++ (items ++ (items_not_below ++ back)) =
+    ap (λ xs. front ++ xs) (append_assoc before (items ++ items_not_below) back)
+    ∙ ap (λ xs. front ++ (before ++ xs)) (append_assoc items items_not_below back)
+    ∙ sym (append_assoc front before (items ++ (items_not_below ++ back))) in
+    (front ++ before, items_not_below ++ back, subst (IsPartitioned (λ x. is_below x.key)) regrouped part.2)
 
 -- there is room for both keys
 abbrev pub HasKeyRoom : Keys → Overwrite → Type 0
@@ -83,7 +83,7 @@ pub record GivesEntire (new : Overwrite) (old store : Store) (next : Option ℕ)
   pub puts : PutsKeys old.keys store.keys new.start.now new.end.now first (if ended then None else Some second)
   pub run_is : store.removed.items
       ≡ map (λ x. x.key) (between (Some (before_start old.keys new)) (Some (before_end old.keys new)) was)
-  pub ended_is : ended ≡ first_is_below (up_to_end old.keys new) (first_key next (following (before_end old.keys new) was))
+  pub ended_is : ended ≡ first_is_below (up_to_end old.keys new) (first_key next (items_not_below (before_end old.keys new) was))
   pub written : IsOverwritten (before_start old.keys new) (before_end old.keys new) (record { key = first; version = new.version })
       second new.at_end ended was now
 
@@ -92,7 +92,7 @@ pub record GivesPart (new : Overwrite) (at_end : ℤ) (old store : Store) (was n
   pub last : Item
   pub none : items_below (before_start old.keys new) was ≡ []
   pub run_is : store.removed.items ≡ map (λ x. x.key) (items_below (before_end old.keys new) was)
-  pub rest : now ≡ following (before_end old.keys new) was
+  pub rest : now ≡ items_not_below (before_end old.keys new) was
   pub last_is : IsLast last (items_below (before_end old.keys new) was)
   pub at_end_is : at_end ≡ unwrap_or new.at_end last.version
   pub filled : (x : Item) (xs : List Item) → was ≡ x ∷ xs → bytes_at old.keys x.key ≢ []

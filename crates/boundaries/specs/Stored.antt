@@ -64,7 +64,7 @@ overwritten new at_end bs = written_between new.start.now new.end.now new.versio
 -- The range was written over.
 pub record IsWrittenOver (new : Overwrite) (old now : Stored) : Type 0 where
   pub boundaries : now.boundaries ≡ overwritten new (version_at_end new old.boundaries) old.boundaries
-  pub used : (size : ℕ) → spare_in old size
+  pub used_slots : (size : ℕ) → spare_in old size
       ≤ spare_in now size + wanted_of (length new.start.now ∷ length new.end.now ∷ []) size
 
 -- Some boundaries of the range were removed, so that writing it with this version at the end gives the same.

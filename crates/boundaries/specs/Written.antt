@@ -22,5 +22,5 @@ abbrev pub written_to : Range → ℤ → ℤ → List Boundary → List Boundar
 written_to range version at_end bs = written_between range.begin range.end version at_end bs
 
 -- the boundaries after the range was written at the version
-abbrev pub written : Range → ℤ → List Boundary → List Boundary
-written range version bs = written_to range version (value_at bs range.end) bs
+abbrev pub boundaries_after_write : Range → ℤ → List Boundary → List Boundary
+boundaries_after_write range version bs = written_to range version (value_at bs range.end) bs

@@ -8,7 +8,7 @@ ghost use Rattle.keys.specs.Key.{IsBytes};
 ghost use Rattle.keys.specs.Range.{Holds, IsEmpty};
 ghost use Rattle.boundaries.specs.Boundary.{AreBoundaries, Exceeds, value_at};
 ghost use Rattle.boundaries.specs.Stored.{IsCleared, IsWrittenOver, spare_in, each_length};
-ghost use Rattle.boundaries.specs.Written.{written};
+ghost use Rattle.boundaries.specs.Written.{boundaries_after_write};
 ghost use Rattle.boundaries.specs.declared.question.TheConstants.{SIDE};
 ghost use Rattle.limits.specs.declared.settings.TheConstants.{MAX_LIMIT};
 
@@ -177,7 +177,8 @@ impl Boundaries {
         requires keys { HasRoomFor (spare_in self.old)
             (length range.now.begin ∷ length range.now.end ∷ []) }
         requires nodes { length self.old.boundaries + 2 ≤ self.old.room }
-        ensures boundaries { self.new.boundaries ≡ written range.now version self.old.boundaries }
+        ensures boundaries { self.new.boundaries
+            ≡ boundaries_after_write range.now version self.old.boundaries }
         ensures spare { (size : ℕ) → spare_in self.old size
             ≤ spare_in self.new size + wanted_of
             (length range.now.begin ∷ length range.now.end ∷ []) size }

@@ -6,7 +6,7 @@ ghost use Rattle.boundaries.specs.Children.{items_with};
 ghost use Rattle.boundaries.specs.Item.{item_version};
 ghost use Rattle.boundaries.specs.Items.{IsLast};
 ghost use Rattle.boundaries.specs.Overwrite.{bound_to, CanOverwrite, GivesWritten};
-ghost use Rattle.boundaries.specs.Path.{first_key, following, items_below};
+ghost use Rattle.boundaries.specs.Path.{first_key, items_not_below, items_below};
 ghost use Rattle.boundaries.specs.Position.{CanReach};
 ghost use Rattle.boundaries.specs.Rebalancing.{CanGrow, CanShrink, KeepsKeys};
 ghost use Rattle.boundaries.specs.Subtree.{items_in};
@@ -81,7 +81,7 @@ impl Tree {
         ensures last { IsLast result.0 (map item_version
             (items_below (is_below self.now.store.keys bound.entry) (items_of_tree self.now))) }
         ensures next { result.1 ≡ first_key None
-            (following (is_below self.now.store.keys bound.entry) (items_of_tree self.now)) }
+            (items_not_below (is_below self.now.store.keys bound.entry) (items_of_tree self.now)) }
     {
         let Store { keys, nodes, .. } = &self.store;
         let found = find(&self.store, self.root.height, bound, self.root.position());

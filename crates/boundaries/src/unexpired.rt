@@ -4,7 +4,7 @@ ghost use Rattle.std.specs.Prelude.{◌≡◌, ◌+◌, ◌^◌, ◌<◌, ◌≤
 ghost use Rattle.std.specs.Prelude.{drop, map};
 ghost use Rattle.boundaries.specs.Counted.{IsCounted, items_from};
 ghost use Rattle.boundaries.specs.Item.{item_of};
-ghost use Rattle.boundaries.specs.Items.{unexpired};
+ghost use Rattle.boundaries.specs.Items.{unexpired_items};
 ghost use Rattle.boundaries.specs.Subtree.{entries_at, items_in, IsSubtree};
 ghost use Rattle.boundaries.specs.declared.node.TheConstants.{HALF_FULL};
 
@@ -46,7 +46,7 @@ pub fn count_unexpired(store: &Store, root: Root, edge: i64) -> usize
     requires subtree { IsSubtree store.now.nodes HALF_FULL root.height root.slot }
     requires few { length (items_in store.now.nodes root.height root.slot) < 2 ^ 64 }
     ensures count { result
-        ≡ length (unexpired edge edge (items_in store.now.nodes root.height root.slot)) }
+        ≡ length (unexpired_items edge edge (items_in store.now.nodes root.height root.slot)) }
 {
     // The first boundary stays, as if it came after a version that isn't below the edge.
     let none = Unexpired {

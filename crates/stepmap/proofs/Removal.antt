@@ -7,7 +7,7 @@ use Rattle.std.proofs.lemmas.List.Elements.{All-cons, All-nil}
 use Rattle.keyspace.specs.Writes.{Write}
 use Rattle.keys.proofs.callers.Booleans.{true_or_false}
 use Rattle.boundaries.specs.Boundary.{Boundary}
-use Rattle.boundaries.specs.Swept.{unexpired}
+use Rattle.boundaries.specs.Swept.{unexpired_boundaries}
 use Rattle.stepmap.specs.Rooted.{IsEndOf, Ends, AreRooted}
 use Rattle.boundaries.proofs.callers.Unexpired.{SameOrBelow, below_too, goes, goes_below, stays_above}
 use Rattle.stepmap.proofs.Rooting.{end_lower}
@@ -29,7 +29,7 @@ rooted_same ws edge v w [] h r = tt
 rooted_same ws edge v w (b ∷ bs) h r = (root_same ws edge v w b h r.0, r.1)
 
 pub unexpired_rooted : (ws : List Write) (edge v w : ℤ) (bs cs : List Boundary) → SameOrBelow edge v w
-    → AreRooted ws edge v (bs ++ cs) → AreRooted ws edge w (unexpired edge v bs ++ cs)
+    → AreRooted ws edge v (bs ++ cs) → AreRooted ws edge w (unexpired_boundaries edge v bs ++ cs)
 unexpired_rooted ws edge v w [] cs h r = rooted_same ws edge v w cs h r
 unexpired_rooted ws edge v w (b ∷ bs) cs h r =
     elim (true_or_false (goes edge v b)) [
@@ -43,7 +43,7 @@ unexpired_rooted ws edge v w (b ∷ bs) cs h r =
 
 -- those that a sweep has left standing come from writes at or above its edge
 pub unexpired_ends : (ws : List Write) (edge e v : ℤ) (bs : List Boundary) → e ≤ℤ edge → AreRooted ws edge v bs
-    → Ends (unexpired edge v bs) ws e
+    → Ends (unexpired_boundaries edge v bs) ws e
 unexpired_ends ws edge e v [] le r = All-nil (λ b. b.key ≢ [] → IsEndOf ws e b.key)
 unexpired_ends ws edge e v (b ∷ bs) le r =
     let ih = unexpired_ends ws edge e b.version bs le r.1 in
@@ -52,6 +52,6 @@ unexpired_ends ws edge e v (b ∷ bs) le r =
       | inr f ↦
           let up = stays_above edge v b f in
           rw f (All-cons (λ b. b.key ≢ []
-          → IsEndOf ws e b.key) b (unexpired edge b.version bs)
+          → IsEndOf ws e b.key) b (unexpired_boundaries edge b.version bs)
           (λ n. end_lower ws (int_max v b.version) e b.key (omega (arith, ints)) (r.0 n up)) ih)
     ]

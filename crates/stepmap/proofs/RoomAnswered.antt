@@ -6,7 +6,7 @@ use Rattle.keys.proofs.callers.Booleans.{true_or_false}
 use Rattle.keyspace.specs.Writes.{Write}
 use Rattle.stepmap.specs.Boundary.{Boundary}
 use Rattle.stepmap.specs.StepMap.{Steps, AreSteps}
-use Rattle.stepmap.specs.Sweeping.{unexpired}
+use Rattle.stepmap.specs.Sweeping.{unexpired_boundaries}
 use Rattle.stepmap.specs.Limit.{HasRoomFor, after_round, made_room, unexpired_all}
 use Rattle.stepmap.specs.Rooted.{Rooted}
 use Rattle.stepmap.specs.Counting.{live_count}

@@ -16,5 +16,5 @@ abbrev pub made_room : ℕ → Steps → Steps
 made_room ranges m = if nat_le (length m.boundaries + 2 * ranges) m.limit then m else after_round m
 
 -- the step map after that, with ranges of these lengths ready to be written
-abbrev pub prepared : List (ℕ × ℕ) → Steps → Steps
-prepared lengths m = record (made_room (length lengths) m) { ready = lengths }
+abbrev pub after_prepare : List (ℕ × ℕ) → Steps → Steps
+after_prepare lengths m = record (made_room (length lengths) m) { ready = lengths }

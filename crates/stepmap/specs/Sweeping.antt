@@ -2,7 +2,7 @@
 use Rattle.std.specs.Prelude.{ℕ, ℤ, List, [], ◌∷◌, length, drop, Option, Some, None}
 use Rattle.stepmap.specs.Boundary.{Boundary}
 use Rattle.stepmap.specs.StepMap.{Round, Steps}
-pub use Rattle.boundaries.specs.Swept.{is_left, left_from, passed_to, swept, unexpired}
+pub use Rattle.boundaries.specs.Swept.{is_left, left_from, passed_to, boundaries_after_sweep, unexpired_boundaries}
 
 -- the key from which on the round under way has still to look, or the empty key where none is
 abbrev pub cursor_of : Option Round → List ℕ
@@ -32,6 +32,6 @@ abbrev pub after_sweep : ℕ → Steps → Steps
 after_sweep count m =
     let left = left_from (cursor_of m.round) m.boundaries in
     record m {
-      boundaries = swept m.edge count (passed_to (cursor_of m.round) m.boundaries) left;
+      boundaries = boundaries_after_sweep m.edge count (passed_to (cursor_of m.round) m.boundaries) left;
       round = round_at (round_edge m.edge m.round) (drop count left);
     }

@@ -27,7 +27,7 @@ use Rattle.std.proofs.lemmas.List.Elements.{All-head, All-tail, All-cons, All-ni
 use Rattle.keys.specs.Key.{is_before}
 use Rattle.keys.proofs.callers.Booleans.{true_or_false, and_left, and_right}
 use Rattle.boundaries.specs.Boundary.{Boundary, RiseFrom, value_from, last_version}
-use Rattle.boundaries.specs.Swept.{unexpired, unexpired_all}
+use Rattle.boundaries.specs.Swept.{unexpired_boundaries, unexpired_all}
 use Rattle.boundaries.proofs.callers.Order.{rise_lower}
 use Rattle.boundaries.proofs.callers.Values.{value_after, first_after_rising}
 
@@ -73,30 +73,30 @@ stays_above edge before b h = stays_by edge before b.version _ _ refl refl h
 
 -- what all have, those that stay have
 pub unexpired_has : (P : Boundary → Type 0) (edge before : ℤ) (bs : List Boundary) → All P bs
-    → All P (unexpired edge before bs)
+    → All P (unexpired_boundaries edge before bs)
 unexpired_has P edge before [] a = All-nil P
 unexpired_has P edge before (b ∷ bs) a =
     let ih = unexpired_has P edge b.version bs (All-tail P b bs a) in
     elim (true_or_false (goes edge before b)) [
       | inl t ↦ rw t ih
       | inr f ↦ rw f
-          (All-cons P b (unexpired edge b.version bs) (All-head P b bs a) ih)
+          (All-cons P b (unexpired_boundaries edge b.version bs) (All-head P b bs a) ih)
     ]
 
-pub unexpired_shorter : (edge before : ℤ) (bs : List Boundary) → length (unexpired edge before bs) ≤ length bs
+pub unexpired_shorter : (edge before : ℤ) (bs : List Boundary) → length (unexpired_boundaries edge before bs) ≤ length bs
 unexpired_shorter edge before [] = omega arith
 unexpired_shorter edge before (b ∷ bs) =
     let ih = unexpired_shorter edge b.version bs in
     elim (true_or_false (goes edge before b)) [ inl t ↦ rw t (omega arith) | inr f ↦ rw f (omega arith) ]
 
 pub unexpired_rises : (edge before : ℤ) (k : List ℕ) (bs cs : List Boundary) → RiseFrom k (bs ++ cs)
-    → RiseFrom k (unexpired edge before bs ++ cs)
+    → RiseFrom k (unexpired_boundaries edge before bs ++ cs)
 unexpired_rises edge before k [] cs r = r
 unexpired_rises edge before k (b ∷ bs) cs r =
     let ih = unexpired_rises edge b.version b.key bs cs r.1 in
     elim (true_or_false (goes edge before b)) [
       | inl t ↦ rw t
-          (rise_lower k b.key (unexpired edge b.version bs ++ cs) r.0 ih)
+          (rise_lower k b.key (unexpired_boundaries edge b.version bs ++ cs) r.0 ih)
       | inr f ↦ rw f (r.0, ih)
     ]
 
@@ -109,7 +109,7 @@ value_same edge v w (b ∷ bs) key h =
 -- each value is the same or stays below the edge
 pub unexpired_values : (edge v w : ℤ) (k key : List ℕ) (bs cs : List Boundary) → SameOrBelow edge v w
     → RiseFrom k (bs ++ cs)
-    → SameOrBelow edge (value_from v (bs ++ cs) key) (value_from w (unexpired edge v bs ++ cs) key)
+    → SameOrBelow edge (value_from v (bs ++ cs) key) (value_from w (unexpired_boundaries edge v bs ++ cs) key)
 unexpired_values edge v w k key [] cs h r = value_same edge v w cs key h
 unexpired_values edge v w k key (b ∷ bs) cs h r =
     elim (true_or_false (goes edge v b)) [
@@ -117,8 +117,8 @@ unexpired_values edge v w k key (b ∷ bs) cs h r =
           let low = goes_below edge v b t in
           elim (true_or_false (is_before key b.key)) [
             | inl l ↦
-                let e = value_after w (unexpired edge b.version bs ++ cs) key
-                (first_after_rising b.key key (unexpired edge b.version bs ++ cs)
+                let e = value_after w (unexpired_boundaries edge b.version bs ++ cs) key
+                (first_after_rising b.key key (unexpired_boundaries edge b.version bs ++ cs)
                 (unexpired_rises edge b.version b.key bs cs r.1) l) in
                 rw (t, l) (subst (λ x. SameOrBelow edge v x) (sym e) h)
             | inr g ↦ rw (
@@ -149,7 +149,7 @@ not_below_itself : (edge : ℤ) → int_lt edge edge ≡ false
 not_below_itself edge = grind (arith, ints)
 
 -- all boundaries are swept where the version before the first isn't below the edge
-pub all_unexpired : (edge : ℤ) (bs : List Boundary) → unexpired edge edge bs ≡ unexpired_all edge bs
+pub all_unexpired : (edge : ℤ) (bs : List Boundary) → unexpired_boundaries edge edge bs ≡ unexpired_all edge bs
 all_unexpired edge [] = refl
 all_unexpired edge (b ∷ bs) = rw (not_below_itself edge) refl
 

@@ -5,7 +5,7 @@ ghost use Rattle.std.specs.Prelude.{IfOk, OnOk};
 ghost use Rattle.keys.specs.Key.{IsKey};
 ghost use Rattle.keys.specs.declared.key.TheConstants.{MAX_KEY_LENGTH};
 ghost use Rattle.boundaries.specs.Boundary.{AreBoundaries, last_version, value_at};
-ghost use Rattle.boundaries.specs.Copying.{following, greatest_of_length, IsCopiedTo};
+ghost use Rattle.boundaries.specs.Copying.{boundaries_after, greatest_of_length, IsCopiedTo};
 ghost use Rattle.boundaries.specs.Boundary.{first_key};
 ghost use Rattle.limits.specs.declared.settings.TheConstants.{MAX_LIMIT};
 
@@ -95,7 +95,7 @@ impl Boundaries {
         requires keys { All (λ b. IsKey b.key) self.now.boundaries }
         requires any_key { MAX_KEY_LENGTH ≤ vec_capacity next.old }
         ensures version { result ≡ value_at self.now.boundaries key.now }
-        ensures next { next.new.items ≡ first_key (following key.now self.now.boundaries) }
+        ensures next { next.new.items ≡ first_key (boundaries_after key.now self.now.boundaries) }
         ensures capacity { MAX_KEY_LENGTH ≤ vec_capacity next.new }
     {
         let (version, later) = self.tree.version_and_next(KeyBound::after(key));

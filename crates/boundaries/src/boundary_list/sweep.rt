@@ -9,7 +9,8 @@ ghost use Rattle.keys.specs.declared.key.TheConstants.{MAX_KEY_LENGTH};
 ghost use Rattle.boundaries.specs.Bound.{bytes_at};
 ghost use Rattle.boundaries.specs.Boundary.{AreBoundaries, first_key, last_version};
 ghost use Rattle.boundaries.specs.Stored.{spare_in};
-ghost use Rattle.boundaries.specs.Swept.{left_from, passed_to, swept, unexpired, unexpired_all};
+ghost use Rattle.boundaries.specs.Swept.{left_from, passed_to, boundaries_after_sweep};
+ghost use Rattle.boundaries.specs.Swept.{unexpired_boundaries, unexpired_all};
 
 use super::Boundaries;
 use crate::expiry::{Expiring, Removal};
@@ -24,7 +25,7 @@ impl Boundaries {
     pub fn sweep(&mut self, cursor: &mut Vec<u8>, count: usize, edge: i64)
         requires boundaries { AreBoundaries self.old.boundaries }
         requires any_key { MAX_KEY_LENGTH ≤ vec_capacity cursor.old }
-        ensures boundaries { self.new.boundaries ≡ swept edge count
+        ensures boundaries { self.new.boundaries ≡ boundaries_after_sweep edge count
             (passed_to cursor.old.items self.old.boundaries)
             (left_from cursor.old.items self.old.boundaries) }
         ensures cursor { cursor.new.items
@@ -92,7 +93,7 @@ impl Boundaries {
             ≡ last_version before (take result.looked_at
             (left_from cursor.old.items self.old.boundaries)) }
         ensures boundaries { self.new.boundaries ≡ passed_to cursor.old.items self.old.boundaries
-            ++ (unexpired edge before (take result.looked_at
+            ++ (unexpired_boundaries edge before (take result.looked_at
             (left_from cursor.old.items self.old.boundaries))
             ++ drop result.looked_at (left_from cursor.old.items self.old.boundaries)) }
         ensures cursor { cursor.new.items

@@ -1,6 +1,6 @@
 use Rattle.std.proofs.Common.{rules, ◌+◌, ◌<◌, ◌≤◌, ◌^◌, [], length, ap, arith, w64}
 use Rattle.std.proofs.lemmas.Int.{to_z-of_z}
-use Rattle.boundaries.proofs.Words.{entries_at, items_from, unexpired}
+use Rattle.boundaries.proofs.Words.{entries_at, items_from, unexpired_items}
 use Rattle.boundaries.proofs.StillCounted.{items_of_root}
 use Rattle.boundaries.proofs.unexpired.count_unexpired.Goals as goal
 
@@ -16,6 +16,6 @@ count_in-requires c =
 pub returns : goal.returns
 returns c =
     let edge = to_z-of_z w64 c.args.edge c.ranges.edge in
-    let items = ap (λ xs. length (unexpired c.args.edge c.args.edge xs))
+    let items = ap (λ xs. length (unexpired_items c.args.edge c.args.edge xs))
     (items_of_root c.args.store.now.nodes c.args.root.height c.args.root.slot) in
     omega (arith, items, (rw edge at c.count_in.ensures.counted.count))

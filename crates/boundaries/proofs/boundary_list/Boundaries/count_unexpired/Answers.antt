@@ -1,7 +1,7 @@
 use Rattle.std.proofs.Common.{rules, ◌<◌, ◌^◌, length, sym, ap, ◌∙◌, arith, w64, Fits}
 use Rattle.std.proofs.lemmas.Int.{to_z-of_z}
 use Rattle.std.proofs.lemmas.List.{length-map}
-use Rattle.boundaries.specs.Items.{unexpired as unexpired_items}
+use Rattle.boundaries.specs.Items.{unexpired_items}
 use Rattle.boundaries.specs.Stored.{boundary_of, boundaries_of}
 use Rattle.boundaries.specs.Walk.{items_of_tree}
 use Rattle.boundaries.proofs.UnexpiredRun.{boundaries_unexpired}

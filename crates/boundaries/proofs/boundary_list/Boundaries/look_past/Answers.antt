@@ -5,10 +5,10 @@ use Rattle.std.proofs.lemmas.List.Elements.{All-filter, All-weaker}
 use Rattle.arena.specs.Arena.{IsLive}
 use Rattle.keys.specs.Key.{IsKey}
 use Rattle.boundaries.specs.Item.{Item}
-use Rattle.boundaries.specs.Path.{following}
+use Rattle.boundaries.specs.Path.{items_not_below}
 use Rattle.boundaries.specs.Boundary.{first_key, value_at}
 use Rattle.boundaries.specs.Bound.{bytes_at, slot_is_below}
-use Rattle.boundaries.specs.Copying.{following as after_key}
+use Rattle.boundaries.specs.Copying.{boundaries_after as after_key}
 use Rattle.boundaries.specs.Stored.{Stored, boundaries_of}
 use Rattle.boundaries.specs.Walk.{items_of_tree}
 use Rattle.boundaries.proofs.CopiedOn.{after_stored}
@@ -28,7 +28,7 @@ move_to-requires-clause-live c =
     let items = items_of_tree c.self.inside.tree in
     let next = rw c.after.ensures.bound at c.version_and_next-version.ensures.next in
     subst (λ o. IfSome o (IsLive keys)) (sym next)
-    (first_has keys (IsLive keys) (following p items)
+    (first_has keys (IsLive keys) (items_not_below p items)
     (All-filter (λ x. not (p x.key)) (λ x. IsLive keys x.key) items c.self.invariant.live))
 
 pub move_to-requires-clause-fits : goal.move_to-requires-clause-fits
@@ -41,7 +41,7 @@ move_to-requires-clause-fits c =
     let fit = λ (slot : ℕ). length (bytes_at keys slot) ≤ vec_capacity c.args.next.now in
     let each = All-weaker (λ (x : Item). IsKey (bytes_at keys x.key)) (λ x. fit x.key) (λ x k. let short = k.short in omega (arith, c.requires.any_key))
     items (keys_have keys IsKey items all) in
-    subst (λ o. IfSome o fit) (sym next) (first_has keys fit (following p items) (All-filter (λ x. not (p x.key)) (λ x. fit x.key) items each))
+    subst (λ o. IfSome o fit) (sym next) (first_has keys fit (items_not_below p items) (All-filter (λ x. not (p x.key)) (λ x. fit x.key) items each))
 
 pub returns-clause-version : goal.returns-clause-version
 returns-clause-version c =
@@ -60,6 +60,6 @@ returns-clause-next c =
     let items = items_of_tree c.self.inside.tree in
     let next = rw c.after.ensures.bound at c.version_and_next-version.ensures.next in
     c.move_to.ensures.cursor ∙ ap (λ o. unwrap_or (option_map (bytes_at keys) o) []) next
-    ∙ first_bytes keys (following (slot_is_below keys true key) items)
+    ∙ first_bytes keys (items_not_below (slot_is_below keys true key) items)
     ∙ ap first_key (after_stored keys items (kept_items c.self.invariant) key)
     ∙ ap (λ (v : Stored). first_key (after_key key v.boundaries)) c.self.view_is

@@ -18,7 +18,7 @@ use Rattle.boundaries.proofs.PartUnexpired.{unexpired_all}
 use Rattle.boundaries.proofs.StoredItems.{AreKept, gone_distinct, gone_live, kept_items}
 use Rattle.boundaries.proofs.StoredTrees.{can_reach_after, stored_again}
 use Rattle.boundaries.proofs.Unlinked.{slots_of}
-use Rattle.boundaries.proofs.UnexpiredRun.{RunExpired, run, run_expired, parted, some_stays, looked_within, last_looked, next_has, next_bytes, unexpired_boundaries, unexpired_kept, unexpired_record}
+use Rattle.boundaries.proofs.UnexpiredRun.{RunExpired, run, run_expired, parted, some_stays, looked_within, last_looked, next_has, next_bytes, passed_are_unexpired, unexpired_kept, unexpired_record}
 use Rattle.boundaries.proofs.boundary_list.Boundaries.remove_expired.Goals.{After-change, After-release_removed}
 use Rattle.boundaries.proofs.boundary_list.Boundaries.remove_expired.Goals as goal
 
@@ -151,7 +151,7 @@ returns-clause-boundaries c =
     let t = goal.at.returns-clause-boundaries c in
     let h = t.After-change in
     let r = t.After-release_removed in
-    rw (← c.self.view_is, c.release_removed.ensures.nodes) (unexpired_boundaries (keys h) (items h) (kept h) (key h) c.requires.later (there h)
+    rw (← c.self.view_is, c.release_removed.ensures.nodes) (passed_are_unexpired (keys h) (items h) (kept h) (key h) c.requires.later (there h)
     c.args.count c.args.edge c.args.before c.change.new.change.removal _ (next h) (run_of h) (store r).keys (released r))
 
 pub returns-clause-cursor : goal.returns-clause-cursor

@@ -4,7 +4,7 @@ use Rattle.std.proofs.lemmas.List.Elements.{All-filter, All-weaker}
 use Rattle.arena.specs.Arena.{IsLive}
 use Rattle.keys.specs.Key.{IsKey}
 use Rattle.boundaries.specs.Item.{Item}
-use Rattle.boundaries.specs.Path.{items_below, following}
+use Rattle.boundaries.specs.Path.{items_below, items_not_below}
 use Rattle.boundaries.specs.Boundary.{first_key, last_version}
 use Rattle.boundaries.specs.Bound.{bytes_at, slot_is_below}
 use Rattle.boundaries.specs.Stored.{boundaries_of}
@@ -34,7 +34,7 @@ move_to-requires-clause-live c =
     let p = slot_is_below keys c.is_empty.result c.deref.result.now in
     let items = items_of_tree c.self.inside.tree in
     subst (λ o. IfSome o (IsLive keys)) (sym c.version_and_next-version.ensures.next)
-    (first_has keys (IsLive keys) (following p items)
+    (first_has keys (IsLive keys) (items_not_below p items)
     (All-filter (λ x. not (p x.key)) (λ x. IsLive keys x.key) items c.self.invariant.live))
 
 pub move_to-requires-clause-fits : goal.move_to-requires-clause-fits
@@ -47,7 +47,7 @@ move_to-requires-clause-fits c =
     let each = All-weaker (λ (x : Item). IsKey (bytes_at keys x.key)) (λ x. fit x.key) (λ x k. let short = k.short in omega (arith, c.requires.any_key))
     items (keys_have keys IsKey items all) in
     subst (λ o. IfSome o fit) (sym c.version_and_next-version.ensures.next)
-    (first_has keys fit (following p items) (All-filter (λ x. not (p x.key)) (λ x. fit x.key) items each))
+    (first_has keys fit (items_not_below p items) (All-filter (λ x. not (p x.key)) (λ x. fit x.key) items each))
 
 pub returns-clause-version : goal.returns-clause-version
 returns-clause-version c =
@@ -66,6 +66,6 @@ returns-clause-cursor c =
     let keys = c.self.inside.tree.store.keys in
     let cursor = c.args.cursor.now.items in
     let p = passed (goal.at.returns-clause-cursor c).After-is_empty in
-    let items = following (slot_is_below keys c.is_empty.result c.deref.result.now) (items_of_tree c.self.inside.tree) in
+    let items = items_not_below (slot_is_below keys c.is_empty.result c.deref.result.now) (items_of_tree c.self.inside.tree) in
     c.move_to.ensures.cursor ∙ ap (λ o. unwrap_or (option_map (bytes_at keys) o) []) c.version_and_next-version.ensures.next
     ∙ first_bytes keys items ∙ ap first_key (p.left ∙ ap (λ v. left_from cursor v.boundaries) c.self.view_is)

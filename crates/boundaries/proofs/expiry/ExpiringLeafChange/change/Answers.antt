@@ -2,7 +2,7 @@ use Rattle.std.proofs.Common.{rules, Bool, false, IsTrue, ◌∷◌, ℕ, ◌≡
 use Rattle.std.proofs.lemmas.Int.{to_z-of_z}
 use Rattle.boundaries.specs.Item.{key_of}
 use Rattle.boundaries.specs.Rebalancing.{IsSound}
-use Rattle.boundaries.proofs.Words.{with_header, NodeEntry, Store, Item, is_below, item_of, entries_of, entries_at, GivesUnexpired, unexpired, expired}
+use Rattle.boundaries.proofs.Words.{with_header, NodeEntry, Store, Item, is_below, item_of, entries_of, entries_at, GivesUnexpired, unexpired_items, expired_items}
 use Rattle.boundaries.proofs.ChangedLeaf.{first_below, leaf_can_step, leaf_stored, put_stored_in, unchanged}
 use Rattle.boundaries.proofs.Headed.{headed_at}
 use Rattle.boundaries.proofs.LastRun.{leaf_unexpired, untouched}
@@ -61,8 +61,8 @@ module _ (c : After-has_expired) where
 
   -- what becomes of the items of the leaf
   swept : (new : Store) (now : List Item)
-      → now ≡ map item_of (take begin es) ++ (unexpired edge before looked ++ map item_of (drop end es))
-      → new.removed.items ≡ map key_of (expired edge before looked) → new.keys ≡ store.keys
+      → now ≡ map item_of (take begin es) ++ (unexpired_items edge before looked ++ map item_of (drop end es))
+      → new.removed.items ≡ map key_of (expired_items edge before looked) → new.keys ≡ store.keys
       → GivesUnexpired bound count edge before c.look_at-self.result store new position.following
       (map item_of (entries_at store.nodes position.slot)) now
   swept new now now_is out_is keys =

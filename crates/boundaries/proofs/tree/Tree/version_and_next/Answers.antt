@@ -4,7 +4,7 @@ use Rattle.std.proofs.lemmas.List.{map-append}
 use mathlib.Core.List.{map-map}
 use Rattle.boundaries.specs.Item.{item_version}
 use Rattle.boundaries.specs.Position.{IsFoundLeaf as IsFoundAt}
-use Rattle.boundaries.proofs.Words.{CanStep, HALF_FULL, Item, after_leaf, before_leaf, entries_at, entries_of, first_key, following, is_below, item_of, items_below, items_in}
+use Rattle.boundaries.proofs.Words.{CanStep, HALF_FULL, Item, after_leaf, before_leaf, entries_at, entries_of, first_key, items_not_below, is_below, item_of, items_below, items_in}
 use Rattle.boundaries.proofs.ChangedLeaf.{first_below}
 use Rattle.boundaries.proofs.Found.{entries_read}
 use Rattle.boundaries.proofs.Headed.{headed_at}
@@ -84,8 +84,8 @@ returns c =
     rw (parts.0, ← read) (passing_is p _ before later _ leaf) in
     let versions = ap (map item_version) front ∙ map-append item_version before (map item_of (take n es))
     ∙ ap (λ l. map item_version before ++ l) (map-map item_version item_of (take n es)) in
-    let after_is : following p (items_in nodes t.root.height t.root.slot) ≡ map item_of (drop n es) ++ later =
-    ap (following p) leaf.items_are ∙ following-parts p before _ later leaf.pass leaf.fail
+    let after_is : items_not_below p (items_in nodes t.root.height t.root.slot) ≡ map item_of (drop n es) ++ later =
+    ap (items_not_below p) leaf.items_are ∙ following-parts p before _ later leaf.pass leaf.fail
     ∙ ap (λ xs. xs ++ later) (filter-items (λ (x : Item). p x.key) _ ∙ rw (read, parts.1) refl) in
     record {
       last = rw (to_z-of_z w64 e.version (search rules)) (
