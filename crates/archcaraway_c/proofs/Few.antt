@@ -8,7 +8,7 @@ use Rattle.keyspace.specs.declared.batch.Batch.{Batch}
 use Rattle.keyspace.specs.declared.reply.Entry.{Entry}
 use Rattle.keyspace.specs.declared.reply.Reply.{Reply}
 use Rattle.keyspace.specs.declared.reply.Verdict.TheVariants.{TooOld, Committed}
-use Rattle.keyspace.specs.Writes.{Write, counted}
+use Rattle.keyspace.specs.Writes.{Write, counted_ranges}
 use Rattle.keyspace.specs.Judged.{Judged, edge}
 use Rattle.keyspace.specs.Judge.{is_too_old, is_in_conflict, is_hit, meets_earlier, places_from, hits_or_first, report, without_places, in_conflict_at, judge_txn, judge_txns}
 use Rattle.keyspace.proofs.callers.Judging.{only_judge}
@@ -60,7 +60,7 @@ entries_few : (oldest : ℤ) (ws : List Write) (before : List Range) (ts : List 
 entries_few oldest ws before [] = omega arith
 entries_few oldest ws before (t ∷ ts) =
     let e = judge_txn oldest ws before t in
-    let after = before ++ counted e.verdict t.writes in
+    let after = before ++ counted_ranges e.verdict t.writes in
     omega (
       arith,
       entry_few oldest ws before t,

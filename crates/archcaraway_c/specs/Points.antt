@@ -32,9 +32,9 @@ PointsRefuse bytes lengths Argument = (length lengths ≤ MAX_SPLIT_POINTS) × K
 PointsRefuse bytes lengths Memory = Unit {0}
 
 -- the refusal by the same name
-abbrev pub named : SplitPointsError → PointsRefusal
-named error.TooMany = TooMany
-named (error.NotRising index) = NotRising index
+abbrev pub refusal_of_same_name : SplitPointsError → PointsRefusal
+refusal_of_same_name error.TooMany = TooMany
+refusal_of_same_name (error.NotRising index) = NotRising index
 
 -- the numbers by which C sees these refusals
 abbrev pub points_status : PointsRefusal → ℤ

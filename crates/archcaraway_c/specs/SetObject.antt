@@ -2,14 +2,14 @@
 use Rattle.std.specs.Prelude.{◌≡◌, ◌<◌, ◌≤◌, ◌≤ℤ◌, ◌<ℤ◌, ◌⊎◌, ℕ, ℤ, List, ◌++◌, Option, Some, None}
 use Rattle.keyspace.specs.declared.batch.Batch.{Batch}
 use Rattle.keyspace.specs.declared.reply.Reply.{Reply}
-use Rattle.keyspace.specs.Writes.{Write, committed, writes_of}
+use Rattle.keyspace.specs.Writes.{Write, committed_ranges, writes_of}
 use Rattle.keyspace.specs.Judged.{edge, Judged}
 use Rattle.stepmap.specs.Covers.{MapCovers}
 use Rattle.conflict.specs.declared.error.SetStop.{SetStop}
 use Rattle.conflict.specs.declared.error.SetStop.TheVariants.{Memory, ArenaFull}
 use Rattle.conflict.specs.declared.when_full.WhenFull.{WhenFull}
 use Rattle.conflict.specs.declared.when_full.WhenFull.TheVariants as when
-use Rattle.conflict.specs.ConflictSet.{SetState, Remembers, IsOverLimit, raised, HasRoomToWrite, HasNoRoomToWrite}
+use Rattle.conflict.specs.ConflictSet.{SetState, Remembers, IsOverLimit, with_edge, HasRoomToWrite, HasNoRoomToWrite}
 use Rattle.limits.specs.declared.stop.Stop.{Stop as StopValue}
 use Rattle.conflict.specs.Stop.{stop_at_set}
 use Rattle.wire.specs.Spelling.{SpellsReply}
@@ -72,11 +72,11 @@ pub record StopsAt (when_full : WhenFull) (old new : SetState) (batch : Batch) (
       IsOverLimit old.map.limit (edge old.window batch) (ws ++ writes_of batch reply)
   pub no_room :
       met ≡ ArenaFull → (ws : List Write) (reply : Reply) → Remembers old ws → Judged old.window ws batch reply →
-      HasNoRoomToWrite (raised (edge old.window batch) old.map) (committed batch.txns reply.entries)
+      HasNoRoomToWrite (with_edge (edge old.window batch) old.map) (committed_ranges batch.txns reply.entries)
   pub memory :
       met ≡ Memory → (ws : List Write) (reply : Reply) → Remembers old ws → Judged old.window ws batch reply →
       (new.map.boundaries ≡ old.map.boundaries)
-      ⊎ HasRoomToWrite (raised (edge old.window batch) old.map) (committed batch.txns reply.entries)
+      ⊎ HasRoomToWrite (with_edge (edge old.window batch) old.map) (committed_ranges batch.txns reply.entries)
 
 -- The set meets this stop, or refuses for it, at the batch of the frame, which is above that resolved last and whose reply would
 -- have fitted.

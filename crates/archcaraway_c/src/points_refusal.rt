@@ -2,7 +2,7 @@
 
 ghost use Rattle.std.specs.Prelude.{◌≡◌};
 ghost use Rattle.archcaraway_c.specs.Points.{points_status, bad_key};
-ghost use Rattle.archcaraway_c.specs.Points.{named};
+ghost use Rattle.archcaraway_c.specs.Points.{refusal_of_same_name};
 
 use shards::SplitPointsError;
 
@@ -48,7 +48,7 @@ impl PointsRefusal {
 
 /// Returns the refusal of keys that are no split points.
 pub fn refusal_of_points(error: SplitPointsError) -> PointsRefusal
-    ensures refusal { result ≡ named error }
+    ensures refusal { result ≡ refusal_of_same_name error }
 {
     match error {
         SplitPointsError::TooMany => PointsRefusal::TooMany,

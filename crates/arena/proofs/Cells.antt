@@ -16,7 +16,7 @@ use Rattle.std.proofs.lemmas.Slice.{drop-append-drop}
 use Rattle.std.specs.Option.{option_and_then}
 use Rattle.arena.specs.Arena.{Record, sizes, slots_of}
 use Rattle.arena.specs.Entry.{Entry, Free, Live, held, held_at, IsFree}
-use Rattle.arena.specs.Chunk.{Head, cell_of, cells_of, with_free, with_key, made_bytes, written, Fits, AllFit, HasBytes, AreEntries, IsFresh}
+use Rattle.arena.specs.Chunk.{Head, cell_of, cells_of, with_free, with_key, made_bytes, bytes_after_key, Fits, AllFit, HasBytes, AreEntries, IsFresh}
 use Rattle.arena.proofs.Entries.{length-with_free, with_free-set, with_free-there, with_free-live, with_free-beyond}
 
 next_slot : (i width : ℕ) → width + i * width ≡ suc i * width
@@ -257,7 +257,7 @@ module _ {H : Type 0} where
       (key : List ℕ)
       → AreEntries es size width bytes → i < length es → length key ≤ slice_index sizes size
       → AreEntries (set es i (Live (record { header = header; length = length key }))) size width
-      (written (i * width) key bytes)
+      (bytes_after_key (i * width) key bytes)
   AreEntries-filled es size width bytes i header [] chunk there fits =
       AreEntries-set es size width bytes bytes i _ chunk there (omega arith)
       (HasBytes-set (with_free (slots_of size) es) bytes i _ chunk.room (λ empty. omega arith))
@@ -272,7 +272,7 @@ module _ {H : Type 0} where
       (key : List ℕ)
       → AreEntries es size width bytes → i < length es → length key ≤ slice_index sizes size
       → cells_of (with_free (slots_of size) (set es i (Live (record { header = header; length = length key })))) width
-      (written (i * width) key bytes)
+      (bytes_after_key (i * width) key bytes)
       ≡ set (cells_of (with_free (slots_of size) es) width bytes) i (Live (record { header = header; key = key }))
   filled es size width bytes i header [] chunk there fits =
       ap (λ xs. cells_of xs width bytes) (with_free-set (slots_of size) es i _ there)
@@ -281,7 +281,7 @@ module _ {H : Type 0} where
       let wide = chunk.wide in
       let made = length-made_bytes (with_free (slots_of size) es) bytes chunk.room in
       let inside = slot_within i (slots_of size) width (omega (arith, there, chunk.few)) chunk.shared in
-      ap (λ xs. cells_of xs width (written (i * width) (b ∷ key) bytes)) (with_free-set (slots_of size) es i _ there)
+      ap (λ xs. cells_of xs width (bytes_after_key (i * width) (b ∷ key) bytes)) (with_free-set (slots_of size) es i _ there)
       ∙ cells_of-filled (with_free (slots_of size) es) width (made_bytes bytes) i (i * width) header (b ∷ key) refl
       (omega arith) chunk.fit (omega (arith, inside))
       ∙ ap (λ cs. set cs i (Live (record { header = header; key = b ∷ key })))

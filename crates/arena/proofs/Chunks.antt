@@ -4,7 +4,7 @@ use Rattle.std.proofs.lemmas.Bool.{eqb-false, eqb-true}
 use Rattle.std.proofs.lemmas.Option.{slice_get_within}
 use Rattle.arena.specs.Arena.{Record, sizes, slots_of}
 use Rattle.arena.specs.Entry.{Entry, Free, Live, held_at}
-use Rattle.arena.specs.Chunk.{Head, cells_of, entries_of, with_free, made_bytes, written, IsChunk, IsFresh}
+use Rattle.arena.specs.Chunk.{Head, cells_of, entries_of, with_free, made_bytes, bytes_after_key, IsChunk, IsFresh}
 use Rattle.arena.proofs.Lengths.{
   length-entries_of,
   found,
@@ -163,7 +163,7 @@ module _ {H : Type 0} where
       → IsChunk ls hs lengths_capacity headers_capacity bytes_capacity size width bytes → i < length ls
       → length key ≤ slice_index sizes size
       → IsChunk (set ls i (length key)) (set hs i header) lengths_capacity headers_capacity bytes_capacity size width
-      (written (i * width) key bytes)
+      (bytes_after_key (i * width) key bytes)
   IsChunk-filled ls hs lengths_capacity headers_capacity bytes_capacity size width bytes i header key chunk there fits =
       let other = key_short ls hs _ _ _ size width bytes (length key) chunk (omega (arith, there)) fits in
       record {
@@ -181,11 +181,11 @@ module _ {H : Type 0} where
       (lengths_capacity headers_capacity bytes_capacity size width : ℕ) (bytes : List ℕ) (i : ℕ) (header : H) (key : List ℕ)
       → IsChunk ls hs lengths_capacity headers_capacity bytes_capacity size width bytes → i < length ls
       → length key ≤ slice_index sizes size
-      → slots_in (set ls i (length key)) (set hs i header) size width (written (i * width) key bytes)
+      → slots_in (set ls i (length key)) (set hs i header) size width (bytes_after_key (i * width) key bytes)
       ≡ set (slots_in ls hs size width bytes) i (Live (record { header = header; key = key }))
   slots_in-filled ls hs lengths_capacity headers_capacity bytes_capacity size width bytes i header key chunk there fits =
       let other = key_short ls hs _ _ _ size width bytes (length key) chunk (omega (arith, there)) fits in
-      ap (λ es. cells_of (with_free (slots_of size) es) width (written (i * width) key bytes))
+      ap (λ es. cells_of (with_free (slots_of size) es) width (bytes_after_key (i * width) key bytes))
       (entries_of-filled ls hs i (length key) header other)
       ∙ filled (entries_of ls hs) size width bytes i header key chunk.entries
       (omega (arith, there, length-entries_of ls hs chunk.paired)) fits

@@ -31,9 +31,9 @@ made_bytes [] = replicate CHUNK_BYTES 0
 made_bytes (b ∷ bytes) = b ∷ bytes
 
 -- these bytes after a key is written from an index on: an empty key leaves them as they are, even if there are none
-abbrev pub written : ℕ → List ℕ → List ℕ → List ℕ
-written from [] bytes = bytes
-written from (b ∷ key) bytes = with_key from (b ∷ key) (made_bytes bytes)
+abbrev pub bytes_after_key : ℕ → List ℕ → List ℕ → List ℕ
+bytes_after_key from [] bytes = bytes
+bytes_after_key from (b ∷ key) bytes = with_key from (b ∷ key) (made_bytes bytes)
 
 module _ {H : Type 0} where
   -- the entry of this length and this header

@@ -7,7 +7,7 @@ ghost use Rattle.std.specs.Prelude.{option_map};
 ghost use Rattle.std.specs.Option.{is_some};
 ghost use Rattle.std.specs.Borrow.{sem};
 ghost use Rattle.arena.specs.Arena.{sizes, slots_of};
-ghost use Rattle.arena.specs.Chunk.{entries_of, with_free, with_key, made_bytes, written};
+ghost use Rattle.arena.specs.Chunk.{entries_of, with_free, with_key, made_bytes, bytes_after_key};
 ghost use Rattle.arena.specs.declared.size.TheConstants.{CHUNK_BYTES, SIZES};
 
 use crate::size::{CHUNK_BYTES, slots_of, width_of};
@@ -80,7 +80,7 @@ fn make_bytes<A: Allocator>(bytes: &mut Vec<u8, A>)
 fn write_key<A: Allocator>(bytes: &mut Vec<u8, A>, from: usize, key: &[u8])
     requires room { CHUNK_BYTES ≤ vec_capacity bytes.old }
     requires within { from + length key.now ≤ length (made_bytes bytes.old.items) }
-    ensures bytes { bytes.new.items ≡ written from key.now bytes.old.items }
+    ensures bytes { bytes.new.items ≡ bytes_after_key from key.now bytes.old.items }
     ensures capacity { vec_capacity bytes.old ≤ vec_capacity bytes.new }
 {
     if !key.is_empty() {

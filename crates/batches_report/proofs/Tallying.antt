@@ -6,7 +6,7 @@ use Rattle.std.proofs.lemmas.List.Concat.{flat_map-append}
 use Rattle.std.proofs.lemmas.List.Elements.{All-append, All-cons, All-nil}
 use Rattle.keyspace.specs.declared.batch.Batch.{Batch}
 use Rattle.keyspace.specs.declared.reply.Reply.{Reply}
-use Rattle.batches_report.specs.Answered.{Answered, AreLeft, answered, answered_after, answered_with, reply_unless_seen}
+use Rattle.batches_report.specs.Answered.{Answered, AreLeft, batches_with_replies, answered_after, answered_with, reply_unless_seen}
 use Rattle.batches_report.specs.JudgedTxns.{Fits, JudgedTxn, txns_in, txns_of}
 use Rattle.batches_report.specs.Rows.{row_of}
 use Rattle.batches_report.specs.Tallied.{Counts, IsTally}
@@ -31,8 +31,8 @@ after_last rs seen (c ∷ bs) b =
     (append_assoc seen (c.version ∷ []) (versions bs))
 
 answered_last : (rs : List Reply) (bs : List Batch) (b : Batch) (found : Option Reply) → found ≡ reply_unless_seen rs (versions bs) b.version
-    → answered rs (bs ++ b ∷ []) ≡ answered rs bs ++ answered_with b found
-answered_last rs bs b found is = after_last rs [] bs b ∙ ap (λ (o : Option Reply). answered rs bs ++ answered_with b o) (sym is)
+    → batches_with_replies rs (bs ++ b ∷ []) ≡ batches_with_replies rs bs ++ answered_with b found
+answered_last rs bs b found is = after_last rs [] bs b ∙ ap (λ (o : Option Reply). batches_with_replies rs bs ++ answered_with b o) (sym is)
 
 left_last : (rs : List Reply) (bs : List Batch) (b : Batch) (tally : Tally) → AreLeft rs (versions bs ++ b.version ∷ []) tally.left
     → AreLeft rs (versions (bs ++ b ∷ [])) tally.left
@@ -43,11 +43,11 @@ pub tally_unanswered : (rs : List Reply) (bs : List Batch) (b : Batch) (old new 
     → None ≡ reply_unless_seen rs (versions bs) b.version → AreLeft rs (versions bs ++ b.version ∷ []) new.left
     → new.rows.items ≡ old.rows.items → new.txns ≡ old.txns → IsTally rs (bs ++ b ∷ []) new
 tally_unanswered rs bs b old new tally none left rows txns =
-    let same : answered rs (bs ++ b ∷ []) ≡ answered rs bs = answered_last rs bs b None none ∙ append-nil (answered rs bs) in record {
+    let same : batches_with_replies rs (bs ++ b ∷ []) ≡ batches_with_replies rs bs = answered_last rs bs b None none ∙ append-nil (batches_with_replies rs bs) in record {
       left = left_last rs bs b new left;
       fit = subst (All Fits) (sym same) tally.fit;
       rows = rows ∙ tally.rows ∙ ap (map (λ (a : Answered). row_of a.batch a.reply)) (sym same);
-      txns = subst (λ (t : TxnTally). Counts (txns_in (answered rs (bs ++ b ∷ []))) t) (sym txns)
+      txns = subst (λ (t : TxnTally). Counts (txns_in (batches_with_replies rs (bs ++ b ∷ []))) t) (sym txns)
           (subst (λ (them : List Answered). Counts (txns_in them) old.txns) (sym same) tally.txns);
     }
 
@@ -57,9 +57,9 @@ pub tally_answered : (rs : List Reply) (bs : List Batch) (b : Batch) (r : Reply)
     → length r.entries ≡ length b.txns → new.rows.items ≡ old.rows.items ++ row_of b r ∷ []
     → ((js : List JudgedTxn) → Counts js old.txns → Counts (js ++ txns_of b r) new.txns) → IsTally rs (bs ++ b ∷ []) new
 tally_answered rs bs b r old new tally some left fits rows txns =
-    let before = answered rs bs in
+    let before = batches_with_replies rs bs in
     let a : Answered = record { batch = b; reply = r } in
-    let more : answered rs (bs ++ b ∷ []) ≡ before ++ a ∷ [] = answered_last rs bs b (Some r) some in
+    let more : batches_with_replies rs (bs ++ b ∷ []) ≡ before ++ a ∷ [] = answered_last rs bs b (Some r) some in
     let one : All Fits (a ∷ []) = All-cons Fits a [] fits (All-nil Fits) in
     let all_txns : txns_in (before ++ a ∷ []) ≡ txns_in before ++ txns_of b r =
     flat_map-append (λ (x : Answered). txns_of x.batch x.reply) before (a ∷ [])

@@ -38,5 +38,5 @@ answered_after replies seen (b ∷ bs) =
     answered_with b (reply_unless_seen replies seen b.version) ++ answered_after replies (seen ++ b.version ∷ []) bs
 
 -- The batches that have replies. The first batch of a version counts, and the first reply.
-abbrev pub answered : List Reply → List Batch → List Answered
-answered replies bs = answered_after replies [] bs
+abbrev pub batches_with_replies : List Reply → List Batch → List Answered
+batches_with_replies replies bs = answered_after replies [] bs

@@ -3,7 +3,7 @@ use Rattle.std.specs.Prelude.{◌≡◌, All, List, map}
 use Rattle.keyspace.specs.declared.batch.Batch.{Batch}
 use Rattle.keyspace.specs.declared.reply.Reply.{Reply}
 use Rattle.batches_report.specs.Ages.{ages_of}
-use Rattle.batches_report.specs.Answered.{AreLeft, answered}
+use Rattle.batches_report.specs.Answered.{AreLeft, batches_with_replies}
 use Rattle.batches_report.specs.Heat.{IsHeatOf}
 use Rattle.batches_report.specs.JudgedTxns.{Fits, JudgedTxn, txns_in}
 use Rattle.batches_report.specs.Rows.{row_of}
@@ -18,6 +18,6 @@ pub record Counts (js : List JudgedTxn) (tally : TxnTally) : Type 0 where
 -- The tally has the batches that have replies, and nothing of any other.
 pub record IsTally (replies : List Reply) (batches : List Batch) (tally : Tally) : Type 0 where
   pub left : AreLeft replies (map (λ b. b.version) batches) tally.left
-  pub fit : All Fits (answered replies batches)
-  pub rows : tally.rows.items ≡ map (λ a. row_of a.batch a.reply) (answered replies batches)
-  pub txns : Counts (txns_in (answered replies batches)) tally.txns
+  pub fit : All Fits (batches_with_replies replies batches)
+  pub rows : tally.rows.items ≡ map (λ a. row_of a.batch a.reply) (batches_with_replies replies batches)
+  pub txns : Counts (txns_in (batches_with_replies replies batches)) tally.txns

@@ -11,16 +11,16 @@ abbrev pub rows_between : ℤ → ℤ → List TxnRow → List TxnRow
 rows_between first last rows = filter (is_between first last) rows
 
 -- the number, or the greatest one of 64 bits
-abbrev pub capped : ℕ → ℕ
-capped n = min n (2 ^ 64 - 1)
+abbrev pub capped_total : ℕ → ℕ
+capped_total n = min n (2 ^ 64 - 1)
 
 abbrev pub totals_of : List TxnRow → Totals
 totals_of rows = record {
-  batches = capped (length rows);
-  txns = capped (sum_by (λ row. row.txns) rows);
-  conflicts = capped (sum_by (λ row. row.conflicts) rows);
-  too_old = capped (sum_by (λ row. row.too_old) rows);
-  reported = capped (sum_by (λ row. row.reported) rows);
+  batches = capped_total (length rows);
+  txns = capped_total (sum_by (λ row. row.txns) rows);
+  conflicts = capped_total (sum_by (λ row. row.conflicts) rows);
+  too_old = capped_total (sum_by (λ row. row.too_old) rows);
+  reported = capped_total (sum_by (λ row. row.reported) rows);
 }
 
 abbrev pub has_size : ℕ → ℕ → TxnRow → Bool

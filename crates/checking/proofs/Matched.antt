@@ -13,7 +13,7 @@ use Rattle.std.proofs.lemmas.List.Sums.{take_while-cons}
 use Rattle.keyspace.specs.declared.reply.Reply.{Reply}
 use Rattle.checking.specs.declared.difference.Difference.{Difference}
 use Rattle.keyspace.specs.storage.InOrder.{NoneBefore, Rise}
-use Rattle.checking.specs.Difference.{first_of, passed, matched, matched_with, missing, unexpected, version_of_reply}
+use Rattle.checking.specs.Difference.{first_of, with_another, match_differences, matched_with, missing_reply, unexpected_reply, version_of_reply}
 use Rattle.keyspace.proofs.callers.Ordered.{order}
 
 -- a is below b, and c isn't below b, so a is below c
@@ -101,7 +101,7 @@ passed_all-none None = refl
 passed_all-none (Some found) = refl
 
 passed-all : (r : Reply) (rs : List Reply) (o : Option (Reply × List Reply))
-    → passed r (passed_all rs o) ≡ passed_all (r ∷ rs) o
+    → with_another r (passed_all rs o) ≡ passed_all (r ∷ rs) o
 passed-all r rs None = refl
 passed-all r rs (Some found) = refl
 
@@ -110,7 +110,7 @@ first_of-after : (version : ℤ) (rs ys : List Reply) → AllBefore version rs
 first_of-after version [] ys all = sym (passed_all-none (first_of version ys))
 first_of-after version (r ∷ rs) ys all =
     cond-false _ _ _ (not_equal r.version version all.0)
-    ∙ ap (passed r) (first_of-after version rs ys all.1)
+    ∙ ap (with_another r) (first_of-after version rs ys all.1)
     ∙ passed-all r rs (first_of version ys)
 
 -- nothing is found above
@@ -119,7 +119,7 @@ pub first_of-above : (version : ℤ) (least : ℤ) (rs : List Reply) → int_lt 
 first_of-above version least [] high none = refl
 first_of-above version least (r ∷ rs) high none =
     cond-false _ _ _ (not_equal_above r.version version (below_far version least r.version high none.0))
-    ∙ ap (passed r) (first_of-above version least rs high none.1)
+    ∙ ap (with_another r) (first_of-above version least rs high none.1)
 
 pub found_first : (version : ℤ) (r : Reply) (rs : List Reply) → r.version ≡ version
     → first_of version (r ∷ rs) ≡ Some (r, rs)
@@ -130,7 +130,7 @@ pub found_none : (version : ℤ) (r : Reply) (rs : List Reply) → NoneBefore ve
 found_none version r rs none rise other =
     let high = above r.version version none.0 other in
     cond-false _ _ _ (not_equal_above r.version version high)
-    ∙ ap (passed r) (first_of-above version r.version rs high rise.0)
+    ∙ ap (with_another r) (first_of-above version r.version rs high rise.0)
 
 -- what an expected reply is matched with, behind those that were passed over
 matched_after : (e : Reply) (rs ys : List Reply) (continue_with : List Reply → List Difference) (o : Option (Reply × List Reply))
@@ -188,11 +188,11 @@ front_after version (r ∷ rs) rise =
 pub record HasMatched (expected recorded : List Reply) (index : ℕ) (rest : List Reply) (found passed_over : List Difference) :
     Type 0 where
   pub skipped : List Reply
-  pub reported : passed_over ≡ map unexpected skipped
+  pub reported : passed_over ≡ map unexpected_reply skipped
   pub after : After skipped (drop index expected)
   pub left : Rise version_of_reply (drop index expected)
   pub rises : Rise version_of_reply rest
-  pub continues : found ++ matched (drop index expected) (skipped ++ rest) ≡ matched expected recorded
+  pub continues : found ++ match_differences (drop index expected) (skipped ++ rest) ≡ match_differences expected recorded
 
 pub matched_none : (expected recorded : List Reply) → Rise version_of_reply expected → Rise version_of_reply recorded
     → HasMatched expected recorded 0 recorded [] []
@@ -214,7 +214,7 @@ pub matched_step : (expected recorded rest rest' : List Reply) (index : ℕ) (fo
     (e : Reply) (es : List Reply) → drop index expected ≡ e ∷ es → drop (suc index) expected ≡ es
     → HasMatched expected recorded index rest found passed_over → Rise version_of_reply rest'
     → Continues e (drop (front e.version rest) rest) rest' found found'
-    → HasMatched expected recorded (suc index) rest' found' (passed_over ++ map unexpected (take (front e.version rest) rest))
+    → HasMatched expected recorded (suc index) rest' found' (passed_over ++ map unexpected_reply (take (front e.version rest) rest))
 matched_step expected recorded rest rest' index found found' passed_over e es here next had rises goes =
     let n = front e.version rest in
     let before = take n rest in
@@ -225,44 +225,44 @@ matched_step expected recorded rest rest' index found found' passed_over e es he
     let all = AllBefore-append e.version had.skipped before after.0 (front_before e.version rest) in
     let entire : had.skipped ++ rest ≡ skipped ++ others =
     ap (λ (l : List Reply). had.skipped ++ l) (sym (take-append-drop n rest)) ∙ sym (append_assoc had.skipped before others) in
-    let so_far : found ++ matched (e ∷ es) (skipped ++ others) ≡ matched expected recorded =
-    subst (λ (l : List Reply). found ++ matched (e ∷ es) l ≡ matched expected recorded) entire
-    (subst (λ (l : List Reply). found ++ matched l (had.skipped ++ rest) ≡ matched expected recorded) here had.continues) in
-    let continue_with : List Reply → List Difference = λ zs. matched es (skipped ++ zs) in
-    let step : found' ++ matched es (skipped ++ rest') ≡ found ++ matched (e ∷ es) (skipped ++ others) =
+    let so_far : found ++ match_differences (e ∷ es) (skipped ++ others) ≡ match_differences expected recorded =
+    subst (λ (l : List Reply). found ++ match_differences (e ∷ es) l ≡ match_differences expected recorded) entire
+    (subst (λ (l : List Reply). found ++ match_differences l (had.skipped ++ rest) ≡ match_differences expected recorded) here had.continues) in
+    let continue_with : List Reply → List Difference = λ zs. match_differences es (skipped ++ zs) in
+    let step : found' ++ match_differences es (skipped ++ rest') ≡ found ++ match_differences (e ∷ es) (skipped ++ others) =
     goes continue_with
     ∙ ap (λ (ds : List Difference). found ++ ds)
-    (sym (matched_after e skipped others (matched es) (first_of e.version others))
-    ∙ ap (matched_with e (skipped ++ others) (matched es)) (sym (first_of-after e.version skipped others all))) in
+    (sym (matched_after e skipped others (match_differences es) (first_of e.version others))
+    ∙ ap (matched_with e (skipped ++ others) (match_differences es)) (sym (first_of-after e.version skipped others all))) in
     record {
       skipped = skipped;
-      reported = ap (λ (ds : List Difference). ds ++ map unexpected before) had.reported ∙ sym (map-append unexpected had.skipped before);
+      reported = ap (λ (ds : List Difference). ds ++ map unexpected_reply before) had.reported ∙ sym (map-append unexpected_reply had.skipped before);
       after = subst (After skipped) (sym next) (After-more e.version had.skipped before es (front_before e.version rest) left.0 after.1);
       left = subst (Rise version_of_reply) (sym next) left.1;
       rises = rises;
-      continues = subst (λ (l : List Reply). found' ++ matched l (skipped ++ rest') ≡ matched expected recorded) (sym next) (step ∙ so_far);
+      continues = subst (λ (l : List Reply). found' ++ match_differences l (skipped ++ rest') ≡ match_differences expected recorded) (sym next) (step ∙ so_far);
     }
 
 pub matched_all : (expected recorded rest : List Reply) (index : ℕ) (found passed_over : List Difference)
     → length expected ≤ index → HasMatched expected recorded index rest found passed_over
-    → found ++ (passed_over ++ map unexpected rest) ≡ matched expected recorded
+    → found ++ (passed_over ++ map unexpected_reply rest) ≡ match_differences expected recorded
 matched_all expected recorded rest index found passed_over end had =
-    ap (λ (ds : List Difference). found ++ (ds ++ map unexpected rest)) had.reported
-    ∙ ap (λ (ds : List Difference). found ++ ds) (sym (map-append unexpected had.skipped rest))
-    ∙ subst (λ (l : List Reply). found ++ matched l (had.skipped ++ rest) ≡ matched expected recorded)
+    ap (λ (ds : List Difference). found ++ (ds ++ map unexpected_reply rest)) had.reported
+    ∙ ap (λ (ds : List Difference). found ++ ds) (sym (map-append unexpected_reply had.skipped rest))
+    ∙ subst (λ (l : List Reply). found ++ match_differences l (had.skipped ++ rest) ≡ match_differences expected recorded)
     (drop_of_length-le expected end) had.continues
 
 -- one turn: those before the reply are passed over, and it is matched with what follows
 pub matched_turn : (expected recorded rest rest' before others : List Reply) (index n : ℕ)
     (found found' passed_over passed_over' : List Difference) (e : Reply)
     → index < length expected → e ≡ get_or expected index e → n ≡ front e.version rest → before ≡ take n rest → others ≡ drop n rest
-    → passed_over' ≡ passed_over ++ map unexpected before → HasMatched expected recorded index rest found passed_over
+    → passed_over' ≡ passed_over ++ map unexpected_reply before → HasMatched expected recorded index rest found passed_over
     → Rise version_of_reply rest' → Continues e others rest' found found'
     → HasMatched expected recorded (index + 1) rest' found' passed_over'
 matched_turn expected recorded rest rest' before others index n found found' passed_over passed_over' e inside is count front_is back_is pushed had rises goes =
     let here : drop index expected ≡ e ∷ drop (suc index) expected =
     drop-cons expected index e inside ∙ ap (λ (r : Reply). r ∷ drop (suc index) expected) (sym is) in
-    let passed_is = pushed ∙ ap (λ (l : List Reply). passed_over ++ map unexpected l)
+    let passed_is = pushed ∙ ap (λ (l : List Reply). passed_over ++ map unexpected_reply l)
     (front_is ∙ ap (λ (k : ℕ). take k rest) count) in
     let goes' = subst (λ (l : List Reply). Continues e l rest' found found')
     (back_is ∙ ap (λ (k : ℕ). drop k rest) count) goes in
@@ -290,18 +290,18 @@ found_empty version (r ∷ rs) empty = absurd (omega arith)
 
 -- nothing is found, and the reply is told as missing
 missed : (e : Reply) (recorded : List Reply) (before now : List Difference) → first_of e.version recorded ≡ None
-    → now ≡ before ++ missing e ∷ [] → Continues e recorded recorded before now
+    → now ≡ before ++ missing_reply e ∷ [] → Continues e recorded recorded before now
 missed e recorded before now none is =
     λ continue_with. ap (λ (ds : List Difference). ds ++ continue_with recorded) is
-    ∙ append_assoc before (missing e ∷ []) (continue_with recorded)
+    ∙ append_assoc before (missing_reply e ∷ []) (continue_with recorded)
     ∙ ap (λ (o : Option (Reply × List Reply)). before ++ matched_with e recorded continue_with o) (sym none)
 
 pub missed_first : (e : Reply) (recorded : List Reply) (r : Reply) (others : List Reply) (before now : List Difference)
     → recorded ≡ r ∷ others → NoneBefore version_of_reply e.version recorded → Rise version_of_reply recorded
-    → (r.version ≡ e.version → ⊥) → now ≡ before ++ missing e ∷ [] → Continues e recorded recorded before now
+    → (r.version ≡ e.version → ⊥) → now ≡ before ++ missing_reply e ∷ [] → Continues e recorded recorded before now
 missed_first e recorded r others before now is none rise other reported =
     missed e recorded before now (found_in e.version recorded r others is none rise other) reported
 
 pub missed_empty : (e : Reply) (recorded : List Reply) (before now : List Difference)
-    → length recorded ≡ 0 → now ≡ before ++ missing e ∷ [] → Continues e recorded recorded before now
+    → length recorded ≡ 0 → now ≡ before ++ missing_reply e ∷ [] → Continues e recorded recorded before now
 missed_empty e recorded before now empty reported = missed e recorded before now (found_empty e.version recorded empty) reported

@@ -12,7 +12,7 @@ use Rattle.keyspace.specs.declared.reply.Verdict.TheVariants.{Conflict, TooOld, 
 use Rattle.keyspace.proofs.callers.Judging.{entry_same, reply_same}
 use Rattle.checking.specs.declared.difference.Difference.{Difference}
 use Rattle.keyspace.specs.storage.InOrder.{NoneBefore, Rise, in_order_by}
-use Rattle.checking.specs.Difference.{differences, entry_differences, first_of, is_same, is_same_verdict, matched, matched_with, passed, reply_differences, version_of_reply}
+use Rattle.checking.specs.Difference.{differences, entry_differences, first_of, is_same, is_same_verdict, match_differences, matched_with, with_another, reply_differences, version_of_reply}
 use Rattle.keyspace.proofs.callers.Ordered.{in_order-rises}
 use Rattle.checking.proofs.Matched.{above, first_of-above}
 
@@ -91,7 +91,7 @@ found_bound version least (r ∷ rs) found is none =
     ]
   where
     further : ((next : Reply × List Reply) → first_of version rs ≡ Some next → NoneBefore version_of_reply least next.1)
-        → (o : Option (Reply × List Reply)) → first_of version rs ≡ o → passed r o ≡ Some found
+        → (o : Option (Reply × List Reply)) → first_of version rs ≡ o → with_another r o ≡ Some found
         → NoneBefore version_of_reply least found.1
     further again None at e = cc
     further again (Some next) at e =
@@ -112,7 +112,7 @@ found_rises version (r ∷ rs) found is rise =
     ]
   where
     further : ((next : Reply × List Reply) → first_of version rs ≡ Some next → Rise version_of_reply next.1)
-        → (o : Option (Reply × List Reply)) → first_of version rs ≡ o → passed r o ≡ Some found
+        → (o : Option (Reply × List Reply)) → first_of version rs ≡ o → with_another r o ≡ Some found
         → Rise version_of_reply found.1
     further again None at e = cc
     further again (Some next) at e =
@@ -120,7 +120,7 @@ found_rises version (r ∷ rs) found is rise =
         subst (λ (p : Reply × List Reply). Rise version_of_reply p.1) pair
         (found_bound version r.version rs next at rise.0, again next at)
 
-same_if_none : (es rs : List Reply) → Rise version_of_reply es → Rise version_of_reply rs → matched es rs ≡ [] → es ≡ rs
+same_if_none : (es rs : List Reply) → Rise version_of_reply es → Rise version_of_reply rs → match_differences es rs ≡ [] → es ≡ rs
 same_if_none [] [] left right none = refl
 same_if_none [] (r ∷ rs) left right none = cc
 same_if_none (e ∷ es) [] left right none = cc
@@ -128,22 +128,22 @@ same_if_none (e ∷ es) (r ∷ rs) left right none =
     elim (cases_Bool (int_eq r.version e.version)) [
       | inl same ↦
           let found : first_of e.version (r ∷ rs) ≡ Some (r, rs) = cond-true _ _ _ same in
-          let parts = nil_parts (reply_differences e r) (matched es rs)
-          (sym (ap (matched_with e (r ∷ rs) (matched es)) found) ∙ none) in
+          let parts = nil_parts (reply_differences e r) (match_differences es rs)
+          (sym (ap (matched_with e (r ∷ rs) (match_differences es)) found) ∙ none) in
           ap₂ (λ (x : Reply) (xs : List Reply). x ∷ xs)
           (same_reply e r (sym ((signed_Decides r.version e.version).0 same)) parts.0)
           (same_if_none es rs left.1 right.1 parts.1)
       | inr other ↦
-          let found : first_of e.version (r ∷ rs) ≡ passed r (first_of e.version rs) = cond-false _ _ _ other in
-          absurd (clash (λ others rise h. same_if_none es others left.1 rise h) other (first_of e.version rs) refl (sym (ap (matched_with e (r ∷ rs) (matched es)) found) ∙ none))
+          let found : first_of e.version (r ∷ rs) ≡ with_another r (first_of e.version rs) = cond-false _ _ _ other in
+          absurd (clash (λ others rise h. same_if_none es others left.1 rise h) other (first_of e.version rs) refl (sym (ap (matched_with e (r ∷ rs) (match_differences es)) found) ∙ none))
     ]
   where
-    clash : ((others : List Reply) → Rise version_of_reply others → matched es others ≡ [] → es ≡ others)
+    clash : ((others : List Reply) → Rise version_of_reply others → match_differences es others ≡ [] → es ≡ others)
         → int_eq r.version e.version ≡ false → (o : Option (Reply × List Reply)) → first_of e.version rs ≡ o
-        → matched_with e (r ∷ rs) (matched es) (passed r o) ≡ [] → ⊥
+        → matched_with e (r ∷ rs) (match_differences es) (with_another r o) ≡ [] → ⊥
     clash again other None at h = cc
     clash again other (Some next) at h =
-        let parts = nil_parts (reply_differences e next.0) (matched es (r ∷ next.1)) h in
+        let parts = nil_parts (reply_differences e next.0) (match_differences es (r ∷ next.1)) h in
         let same = again (r ∷ next.1)
         (found_bound e.version r.version rs next at right.0, found_rises e.version rs next at right.1) parts.1 in
         let far = (subst (NoneBefore version_of_reply e.version) same left.0).0 in
@@ -153,11 +153,11 @@ same_if_none (e ∷ es) (r ∷ rs) left right none =
         let bad : None ≡ Some next = sym nothing ∙ at in
         cc
 
-matched_itself : (es : List Reply) → matched es es ≡ []
+matched_itself : (es : List Reply) → match_differences es es ≡ []
 matched_itself [] = refl
 matched_itself (e ∷ es) =
     let found : first_of e.version (e ∷ es) ≡ Some (e, es) = cond-true _ _ _ ((signed_Decides e.version e.version).1 refl) in
-    ap (matched_with e (e ∷ es) (matched es)) found
+    ap (matched_with e (e ∷ es) (match_differences es)) found
     ∙ ap₂ (λ (xs ys : List Difference). xs ++ ys) (reply_itself e) (matched_itself es)
 
 pub no_difference : (expected recorded : List Reply)
@@ -166,6 +166,6 @@ pub no_difference : (expected recorded : List Reply)
 no_difference expected recorded = (
   same_if_none (in_order_by version_of_reply expected) (in_order_by version_of_reply recorded)
       (in_order-rises version_of_reply expected) (in_order-rises version_of_reply recorded),
-  λ same. ap (λ (l : List Reply). matched (in_order_by version_of_reply expected) l) (sym same)
+  λ same. ap (λ (l : List Reply). match_differences (in_order_by version_of_reply expected) l) (sym same)
       ∙ matched_itself (in_order_by version_of_reply expected),
 )

@@ -24,8 +24,8 @@ expected_by (answer.Never version) = []
 expected_by (answer.Held version) = []
 
 -- the replies that a proxy's answers expect
-abbrev pub expected : List Answer → List Reply
-expected answers = flat_map expected_by answers
+abbrev pub expected_replies : List Answer → List Reply
+expected_replies answers = flat_map expected_by answers
 
 abbrev pub is_same_verdict : Verdict → Verdict → Bool
 is_same_verdict Conflict Conflict = true
@@ -50,33 +50,33 @@ reply_differences e f =
     if length e.entries == length f.entries then entry_differences e.version 0 e.entries f.entries
     else record { version = e.version; kind = Count (length e.entries) (length f.entries) } ∷ []
 
-abbrev pub missing : Reply → Difference
-missing reply = record { version = reply.version; kind = Missing }
+abbrev pub missing_reply : Reply → Difference
+missing_reply reply = record { version = reply.version; kind = Missing }
 
-abbrev pub unexpected : Reply → Difference
-unexpected reply = record { version = reply.version; kind = Unexpected }
+abbrev pub unexpected_reply : Reply → Difference
+unexpected_reply reply = record { version = reply.version; kind = Unexpected }
 
 -- the same found, with one more among the others
-abbrev pub passed : Reply → Option (Reply × List Reply) → Option (Reply × List Reply)
-passed reply None = None
-passed reply (Some found) = Some (found.0, reply ∷ found.1)
+abbrev pub with_another : Reply → Option (Reply × List Reply) → Option (Reply × List Reply)
+with_another reply None = None
+with_another reply (Some found) = Some (found.0, reply ∷ found.1)
 
 -- the first reply of this version, if there is one, and all others
 abbrev pub first_of : ℤ → List Reply → Option (Reply × List Reply)
 first_of version [] = None
 first_of version (reply ∷ replies) =
-    if int_eq reply.version version then Some (reply, replies) else passed reply (first_of version replies)
+    if int_eq reply.version version then Some (reply, replies) else with_another reply (first_of version replies)
 
 -- An expected reply is matched with what is found for it, and the next ones with the others.
 abbrev pub matched_with : Reply → List Reply → (List Reply → List Difference) → Option (Reply × List Reply) → List Difference
-matched_with reply recorded continue_with None = missing reply ∷ continue_with recorded
+matched_with reply recorded continue_with None = missing_reply reply ∷ continue_with recorded
 matched_with reply recorded continue_with (Some found) = reply_differences reply found.0 ++ continue_with found.1
 
 -- Each expected reply, in turn, is matched with the first recorded one of its version that is left. What is left in the end
 -- is unexpected.
-abbrev pub matched : List Reply → List Reply → List Difference
-matched [] recorded = map unexpected recorded
-matched (reply ∷ replies) recorded = matched_with reply recorded (matched replies) (first_of reply.version recorded)
+abbrev pub match_differences : List Reply → List Reply → List Difference
+match_differences [] recorded = map unexpected_reply recorded
+match_differences (reply ∷ replies) recorded = matched_with reply recorded (match_differences replies) (first_of reply.version recorded)
 
 abbrev pub version_of_reply : Reply → ℤ
 version_of_reply reply = reply.version
@@ -84,4 +84,4 @@ version_of_reply reply = reply.version
 -- the differences between expected and recorded replies, both taken in order of versions
 abbrev pub differences : List Reply → List Reply → List Difference
 differences expected_ones recorded =
-    matched (in_order_by version_of_reply expected_ones) (in_order_by version_of_reply recorded)
+    match_differences (in_order_by version_of_reply expected_ones) (in_order_by version_of_reply recorded)

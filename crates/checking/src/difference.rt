@@ -1,7 +1,7 @@
 //! What a difference is.
 
 ghost use Rattle.std.specs.Prelude.{◌≡◌};
-ghost use Rattle.checking.specs.Difference.{missing, unexpected};
+ghost use Rattle.checking.specs.Difference.{missing_reply, unexpected_reply};
 
 use keyspace::{Entry, Reply};
 
@@ -36,7 +36,7 @@ pub enum DifferenceKind {
 impl Difference {
     /// Creates the difference of an expected reply that wasn't recorded.
     pub fn missing(reply: &Reply) -> Self
-        ensures missing { result ≡ missing reply.now }
+        ensures missing { result ≡ missing_reply reply.now }
     {
         Difference {
             version: reply.version,
@@ -46,7 +46,7 @@ impl Difference {
 
     /// Creates the difference of a recorded reply that isn't expected.
     pub fn unexpected(reply: &Reply) -> Self
-        ensures unexpected { result ≡ unexpected reply.now }
+        ensures unexpected { result ≡ unexpected_reply reply.now }
     {
         Difference {
             version: reply.version,

@@ -3,8 +3,8 @@
 ghost use Rattle.std.specs.Prelude.{◌≡◌, ◌++◌, List, int_lt, length, map, IfOk, IsOk, OnOk};
 ghost use Rattle.std.specs.List.{take_while};
 ghost use Rattle.keyspace.specs.storage.InOrder.{NoneBefore, Rise};
-ghost use Rattle.checking.specs.Difference.{differences, first_of, matched, matched_with};
-ghost use Rattle.checking.specs.Difference.{unexpected, version_of_reply};
+ghost use Rattle.checking.specs.Difference.{differences, first_of, match_differences, matched_with};
+ghost use Rattle.checking.specs.Difference.{unexpected_reply, version_of_reply};
 ghost use Rattle.checking.specs.declared.difference.Difference.{Difference as DifferenceValue};
 ghost use Rattle.keyspace.specs.declared.reply.Reply.{Reply as ReplyValue};
 
@@ -39,7 +39,8 @@ fn match_sorted(
 ) -> Result<Vec<Difference>, AllocError>
     requires expected { Rise version_of_reply expected.now }
     requires recorded { Rise version_of_reply recorded.now }
-    ensures differences { IfOk result (λ found. found.items ≡ matched expected.now recorded.now) }
+    ensures differences { IfOk result (λ found. found.items
+        ≡ match_differences expected.now recorded.now) }
     ensures none { length expected.now ≡ 0 → length recorded.now ≡ 0 → IsOk result }
 {
     let mut differences = Vec::new(alloc);
@@ -100,7 +101,7 @@ fn push_unexpected(
     unexpected_ones: &mut Vec<Difference>,
 ) -> Result<(), AllocError>
     ensures pushed { OnOk result (unexpected_ones.new.items
-        ≡ unexpected_ones.old.items ++ map unexpected replies.now) }
+        ≡ unexpected_ones.old.items ++ map unexpected_reply replies.now) }
     ensures none { length replies.now ≡ 0 → IsOk result }
 {
     for reply in replies {

@@ -6,7 +6,7 @@ use Rattle.keyspace.specs.declared.batch.Batch.{Batch}
 use Rattle.keyspace.specs.declared.reply.Entry.{Entry}
 use Rattle.keyspace.specs.declared.reply.Reply.{Reply}
 use Rattle.keyspace.specs.storage.BatchRanges.{ranges_in}
-use Rattle.keyspace.specs.Writes.{Write, at_version, committed}
+use Rattle.keyspace.specs.Writes.{Write, at_version, committed_ranges}
 use Rattle.keyspace.specs.Judge.{judge, judge_txns}
 use Rattle.keyspace.specs.Judged.{edge, Judged}
 use Rattle.keyspace.specs.Laws.{JudgeIsRight, OnlyJudgeIsRight}
@@ -24,7 +24,7 @@ use Rattle.conflict.specs.declared.error.SetStop.TheVariants.{Memory, ArenaFull}
 use Rattle.conflict.specs.declared.when_full.WhenFull.{WhenFull}
 use Rattle.conflict.specs.declared.when_full.WhenFull.TheVariants.{Refuse}
 use Rattle.conflict.specs.declared.union.UnitedSpan.{UnitedSpan}
-use Rattle.conflict.specs.ConflictSet.{IsOverLimit, IsOverLimitUnited, raised, HasRoomToWrite, HasNoRoomToWrite, stop_of}
+use Rattle.conflict.specs.ConflictSet.{IsOverLimit, IsOverLimitUnited, with_edge, HasRoomToWrite, HasNoRoomToWrite, stop_of}
 use Rattle.conflict.specs.Calls.{IsFull, Fails}
 use Rattle.conflict.specs.Union.{IsUnion}
 use Rattle.conflict.proofs.UnionWritten.{count, over_limit}
@@ -76,16 +76,16 @@ module _ (window : ℤ) (batch : Batch) (old : Steps) (entries : List Entry)
   -- what they commit is united by the ranges of these spans
   module _ (only : OnlyJudgeIsRight) (along : CountedAlong) (late : edge window batch ≤ℤ batch.version)
       (spans : List UnitedSpan) (each : List (ℕ × ℕ))
-      (one : IsUnion (ranges_in batch.txns) spans each (committed batch.txns entries)) where
+      (one : IsUnion (ranges_in batch.txns) spans each (committed_ranges batch.txns entries)) where
     same : length spans ≡ length one.united
-    same = sym (count (ranges_in batch.txns) spans each (committed batch.txns entries) one)
+    same = sym (count (ranges_in batch.txns) spans each (committed_ranges batch.txns entries) one)
 
-    pub has_room : HasRoomFor (length spans) (made_room (length spans) (raised (edge window batch) old))
-        → HasRoomToWrite (raised (edge window batch) old) (committed batch.txns entries)
+    pub has_room : HasRoomFor (length spans) (made_room (length spans) (with_edge (edge window batch) old))
+        → HasRoomToWrite (with_edge (edge window batch) old) (committed_ranges batch.txns entries)
     has_room room =
-        (one.united, one.unites, subst (λ n. HasRoomFor n (made_room n (raised (edge window batch) old))) same room)
+        (one.united, one.unites, subst (λ n. HasRoomFor n (made_room n (with_edge (edge window batch) old))) same room)
 
-    pub is_full : ¬ HasRoomFor (length spans) (made_room (length spans) (raised (edge window batch) old))
+    pub is_full : ¬ HasRoomFor (length spans) (made_room (length spans) (with_edge (edge window batch) old))
         → ((ws : List Write) → Rooted old ws → old.limit < 1 + 2 * (live_count (edge window batch) ws + length spans))
         → (ws : List Write) (reply : Reply) → MapCovers old ws → Rooted old ws → Judged window ws batch reply
         → IsFull window old ws batch reply
@@ -93,18 +93,18 @@ module _ (window : ℤ) (batch : Batch) (old : Steps) (entries : List Entry)
         let es = same_entries only ws reply covers is in
         let over = bound ws rooted in
         record {
-          over = subst (λ es. IsOverLimit old.limit (edge window batch) (ws ++ at_version batch.version (committed batch.txns es))) es
-              (over_limit (ranges_in batch.txns) spans each (committed batch.txns entries) one along old.limit
+          over = subst (λ es. IsOverLimit old.limit (edge window batch) (ws ++ at_version batch.version (committed_ranges batch.txns es))) es
+              (over_limit (ranges_in batch.txns) spans each (committed_ranges batch.txns entries) one along old.limit
               (edge window batch) batch.version ws late over);
-          over_united = subst (λ es. IsOverLimitUnited old.limit (edge window batch) ws (committed batch.txns es)) es
+          over_united = subst (λ es. IsOverLimitUnited old.limit (edge window batch) ws (committed_ranges batch.txns es)) es
               (one.united, one.unites, omega (arith, over, same));
-          no_room = subst (λ es. HasNoRoomToWrite (raised (edge window batch) old) (committed batch.txns es)) es
-              (one.united, one.unites, subst (λ n. ¬ HasRoomFor n (made_room n (raised (edge window batch) old))) same none);
+          no_room = subst (λ es. HasNoRoomToWrite (with_edge (edge window batch) old) (committed_ranges batch.txns es)) es
+              (one.united, one.unites, subst (λ n. ¬ HasRoomFor n (made_room n (with_edge (edge window batch) old))) same none);
         }
 
     -- the batch is refused
     pub refuses : (when_full : WhenFull)
-        → ¬ HasRoomFor (length spans) (made_room (length spans) (raised (edge window batch) old))
+        → ¬ HasRoomFor (length spans) (made_room (length spans) (with_edge (edge window batch) old))
         → ((ws : List Write) → Rooted old ws → old.limit < 1 + 2 * (live_count (edge window batch) ws + length spans))
         → Fails when_full window old old batch ArenaFull
     refuses when_full none bound = record {
@@ -121,9 +121,9 @@ module _ (window : ℤ) (batch : Batch) (old : Steps) (entries : List Entry)
         → ((ws : List Write) → MapCovers old ws → MapCovers now ws)
         → ((ws : List Write) → Rooted old ws → Rooted now ws)
         → now.limit ≡ old.limit
-        → (when_full ≡ Refuse → HasRoomFor (length spans) (made_room (length spans) (raised (edge window batch) old)))
-        → (error ≡ step.Full → ¬ HasRoomFor (length spans) (made_room (length spans) (raised (edge window batch) old)))
-        → (¬ HasRoomFor (length spans) (made_room (length spans) (raised (edge window batch) old)) → error ≡ step.Full)
+        → (when_full ≡ Refuse → HasRoomFor (length spans) (made_room (length spans) (with_edge (edge window batch) old)))
+        → (error ≡ step.Full → ¬ HasRoomFor (length spans) (made_room (length spans) (with_edge (edge window batch) old)))
+        → (¬ HasRoomFor (length spans) (made_room (length spans) (with_edge (edge window batch) old)) → error ≡ step.Full)
         → (error ≡ step.Full → (ws : List Write) → Rooted old ws
         → old.limit < 1 + 2 * (live_count (edge window batch) ws + length spans))
         → Fails when_full window old now batch stop
@@ -146,9 +146,9 @@ module _ (window : ℤ) (batch : Batch) (old : Steps) (entries : List Entry)
       refused = λ refuse arena. absurd (not_full stop is arena);
       full = λ arena. absurd (not_full stop is arena);
       memory = λ memory ws reply before right.
-          let made = made_room (length spans) (raised (edge window batch) old) in
+          let made = made_room (length spans) (with_edge (edge window batch) old) in
           let room : HasRoomFor (length spans) made = room_unless (length spans) made full not_step in
-          inr (subst (λ es. HasRoomToWrite (raised (edge window batch) old) (committed batch.txns es))
+          inr (subst (λ es. HasRoomToWrite (with_edge (edge window batch) old) (committed_ranges batch.txns es))
           (same_entries only ws reply before right) (has_room room));
     }
       where

@@ -36,7 +36,7 @@ use Rattle.keyspace.specs.declared.txn.Txn.{Txn}
 use Rattle.keyspace.specs.declared.reply.Verdict.{Verdict}
 use Rattle.keyspace.specs.declared.reply.Verdict.TheVariants.{Conflict, TooOld, Committed}
 use Rattle.keyspace.specs.declared.reply.Entry.{Entry}
-use Rattle.keyspace.specs.Writes.{counted}
+use Rattle.keyspace.specs.Writes.{counted_ranges}
 use Rattle.keyspace.specs.Judge.{meets_earlier, places_from, in_conflict_at}
 use Rattle.keyspace.proofs.callers.Judging.{entry_same}
 use Rattle.conflict.specs.InBatch.{first_met, unless_met, by_verdict, in_batch}
@@ -133,7 +133,7 @@ any_by_position i test (x ∷ xs) = elim (test x) as (λ b.
     ]
 
 -- what isn't committed writes nothing
-pub none_counted : (v : Verdict) (ranges : List Range) → (v ≡ Committed → ⊥) → counted v ranges ≡ []
+pub none_counted : (v : Verdict) (ranges : List Range) → (v ≡ Committed → ⊥) → counted_ranges v ranges ≡ []
 none_counted Committed ranges h = absurd (h refl)
 none_counted TooOld ranges h = refl
 none_counted Conflict ranges h = refl

@@ -30,7 +30,7 @@ use Rattle.keys.specs.declared.range.Range.{Range}
 use Rattle.keyspace.specs.declared.txn.Txn.{Txn}
 use Rattle.keyspace.specs.declared.reply.Entry.{Entry}
 use Rattle.keyspace.specs.declared.reply.Verdict.TheVariants.{Conflict, TooOld, Committed}
-use Rattle.keyspace.specs.Writes.{Write, counted}
+use Rattle.keyspace.specs.Writes.{Write, counted_ranges}
 use Rattle.keyspace.specs.Judge.{
   is_too_old,
   is_hit,
@@ -159,9 +159,9 @@ pub each_history_first : HistoryFirst
 each_history_first oldest ws written [] = refl
 each_history_first oldest ws written (t ∷ ts) =
     let first = history_first oldest ws written t in
-    let own = λ (e : Entry). judge_txns oldest ws (written ++ counted e.verdict t.writes) ts in
+    let own = λ (e : Entry). judge_txns oldest ws (written ++ counted_ranges e.verdict t.writes) ts in
     let rest = each_history_first oldest ws
-    (written ++ counted (in_batch written t (by_history oldest ws t)).verdict t.writes) ts in
+    (written ++ counted_ranges (in_batch written t (by_history oldest ws t)).verdict t.writes) ts in
     let tails : own (judge_txn oldest ws written t) ≡ own (in_batch written t (by_history oldest ws t)) =
     ap own first in
     ap (λ (e : Entry). e ∷ own (judge_txn oldest ws written t)) first

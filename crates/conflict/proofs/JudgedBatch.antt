@@ -4,7 +4,7 @@ use Rattle.std.proofs.Math.Seq.{take-append_seam}
 use Rattle.keys.specs.declared.range.Range.{Range}
 use Rattle.keyspace.specs.declared.txn.Txn.{Txn}
 use Rattle.keyspace.specs.declared.reply.Entry.{Entry}
-use Rattle.keyspace.specs.Writes.{counted}
+use Rattle.keyspace.specs.Writes.{counted_ranges}
 use Rattle.conflict.specs.InBatch.{in_batch, in_batches}
 
 -- the batch leaves an entry a transaction
@@ -13,7 +13,7 @@ pub length-in_batches : (written : List Range) (ts : List Txn) (es : List Entry)
 length-in_batches written [] es same = refl
 length-in_batches written (t ∷ ts) [] same = cc
 length-in_batches written (t ∷ ts) (e ∷ es) same =
-    ap suc (length-in_batches (written ++ counted (in_batch written t e).verdict t.writes) ts es (suc_same same))
+    ap suc (length-in_batches (written ++ counted_ranges (in_batch written t e).verdict t.writes) ts es (suc_same same))
   where
     suc_same : {m n : ℕ} → suc m ≡ suc n → m ≡ n
     suc_same h = omega (arith, h)

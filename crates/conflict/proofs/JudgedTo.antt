@@ -31,7 +31,7 @@ use Rattle.keyspace.specs.declared.txn.Txn.{Txn}
 use Rattle.keyspace.specs.declared.reply.Verdict.{Verdict}
 use Rattle.keyspace.specs.declared.reply.Verdict.TheVariants.{Conflict, TooOld, Committed}
 use Rattle.keyspace.specs.declared.reply.Entry.{Entry}
-use Rattle.keyspace.specs.Writes.{counted, committed}
+use Rattle.keyspace.specs.Writes.{counted_ranges, committed_ranges}
 use Rattle.keys.specs.GapRuns.{HaveBegin}
 use Rattle.keyspace.specs.storage.BatchRanges.{ranges_of_txn, ranges_in}
 use Rattle.conflict.specs.InBatch.{in_batch, in_batches}
@@ -43,16 +43,16 @@ use Rattle.conflict.proofs.FirstMet.{none_counted, closed_entry}
 
 -- one more transaction that is judged
 pub committed_push : (ts : List Txn) (es : List Entry) (t : Txn) (e : Entry) → length ts ≡ length es
-    → committed (ts ++ t ∷ []) (es ++ e ∷ []) ≡ committed ts es ++ counted e.verdict t.writes
-committed_push [] [] t e same = append-nil (counted e.verdict t.writes)
+    → committed_ranges (ts ++ t ∷ []) (es ++ e ∷ []) ≡ committed_ranges ts es ++ counted_ranges e.verdict t.writes
+committed_push [] [] t e same = append-nil (counted_ranges e.verdict t.writes)
 committed_push [] (f ∷ es) t e same = absurd (omega arith)
 committed_push (u ∷ ts) [] t e same = absurd (omega arith)
 committed_push (u ∷ ts) (f ∷ es) t e same =
-    ap (λ rs. counted f.verdict u.writes ++ rs) (committed_push ts es t e (omega arith))
-    ∙ sym (append_assoc (counted f.verdict u.writes) (committed ts es) (counted e.verdict t.writes))
+    ap (λ rs. counted_ranges f.verdict u.writes ++ rs) (committed_push ts es t e (omega arith))
+    ∙ sym (append_assoc (counted_ranges f.verdict u.writes) (committed_ranges ts es) (counted_ranges e.verdict t.writes))
 
 -- what holds of all ranges holds of those that count
-pub all_counted : (P : Range → Type 0) (v : Verdict) (ranges : List Range) → All P ranges → All P (counted v ranges)
+pub all_counted : (P : Range → Type 0) (v : Verdict) (ranges : List Range) → All P ranges → All P (counted_ranges v ranges)
 all_counted P Committed ranges all = all
 all_counted P TooOld ranges all = All-nil P
 all_counted P Conflict ranges all = All-nil P
@@ -62,9 +62,9 @@ module _ (keys : List (List ℕ)) (entire : List Entry) where
   -- are those of the ranges of us.
   pub record JudgedTo (runs : List (ℕ × ℕ)) (marks : List Bool) (ts : List Txn) (ds : List Entry) (us : List Txn)
       (es : List Entry) : Type 0 where
-    pub judged : ds ++ in_batches (committed ts ds) us es ≡ entire
-    pub marked : AreWrittenGaps keys marks (committed ts ds)
-    pub have_begins : All (HaveBegin keys) (committed ts ds)
+    pub judged : ds ++ in_batches (committed_ranges ts ds) us es ≡ entire
+    pub marked : AreWrittenGaps keys marks (committed_ranges ts ds)
+    pub have_begins : All (HaveBegin keys) (committed_ranges ts ds)
     pub left : AreRunsOf keys runs (ranges_in us)
 
   module _ (runs : List (ℕ × ℕ)) (marks : List Bool) (ts us : List Txn) (ds es : List Entry) (t : Txn) (e : Entry)
@@ -75,13 +75,13 @@ module _ (keys : List (List ℕ)) (entire : List Entry) where
 
     -- one more is judged, and what it writes is marked
     one_more_judged : (d : Entry) (new : List Bool) → length ts ≡ length ds
-        → d ≡ in_batch (committed ts ds) t e
-        → AreWrittenGaps keys new (committed ts ds ++ counted d.verdict t.writes)
+        → d ≡ in_batch (committed_ranges ts ds) t e
+        → AreWrittenGaps keys new (committed_ranges ts ds ++ counted_ranges d.verdict t.writes)
         → JudgedTo (drop (length (ranges_of_txn t)) runs) new (ts ++ t ∷ []) (ds ++ d ∷ []) us es
     one_more_judged d new same is marked =
-        let before = committed ts ds in
+        let before = committed_ranges ts ds in
         let writes = committed_push ts ds t d same in
-        let rest = λ (d : Entry). in_batches (before ++ counted d.verdict t.writes) us es in
+        let rest = λ (d : Entry). in_batches (before ++ counted_ranges d.verdict t.writes) us es in
         record {
           judged = ap (λ rs. (ds ++ d ∷ []) ++ in_batches rs us es) writes
               ∙ append_assoc ds (d ∷ []) (rest d)
@@ -128,10 +128,10 @@ module _ (keys : List (List ℕ)) (entire : List Entry) where
             → ((written : List Range) → AreWrittenGaps keys marks written → All (HaveBegin keys) written
             → d ≡ in_batch written t e)
             → ((written : List Range) → AreWrittenGaps keys marks written → All (HaveBegin keys) written
-            → AreWrittenGaps keys new (written ++ counted d.verdict t.writes))
+            → AreWrittenGaps keys new (written ++ counted_ranges d.verdict t.writes))
             → JudgedBelow (i + 1) (drop (length (ranges_of_txn t)) runs) new txns (set entries i d)
         next_judged d new judges marks_more =
-            let before = committed (take i txns) (take i entries) in
+            let before = committed_ranges (take i txns) (take i entries) in
             let txns_to : take (i + 1) txns ≡ take i txns ++ t ∷ [] =
             take_more txns i t inside ∙ ap (λ u. take i txns ++ u ∷ []) (sym is_next) in
             let entries_to = take_more_set entries i d (omega arith) in
@@ -155,7 +155,7 @@ module _ (keys : List (List ℕ)) (entire : List Entry) where
   pub judged_all : (i : ℕ) (runs : List (ℕ × ℕ)) (marks : List Bool) (txns : List Txn) (entries : List Entry)
       → JudgedBelow i runs marks txns entries → length entries ≤ i → entries ≡ entire
   judged_all i runs marks txns entries so_far end =
-      let written = committed (take i txns) (take i entries) in
+      let written = committed_ranges (take i txns) (take i entries) in
       sym (ap (λ es. take i entries ++ in_batches written (drop i txns) es) (drop_all i entries end)
       ∙ ap (λ es. take i entries ++ es) (nothing_left written (drop i txns))
       ∙ append-nil (take i entries) ∙ take_all i entries end)

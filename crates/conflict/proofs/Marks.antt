@@ -9,9 +9,9 @@ use Rattle.keyspace.specs.declared.reply.Verdict.{Verdict}
 use Rattle.keyspace.specs.declared.reply.Verdict.TheVariants.{Conflict, TooOld, Committed}
 use Rattle.keyspace.specs.declared.txn.Txn.{Txn}
 use Rattle.keyspace.specs.declared.reply.Entry.{Entry}
-use Rattle.keyspace.specs.Writes.{counted, committed}
+use Rattle.keyspace.specs.Writes.{counted_ranges, committed_ranges}
 use Rattle.keyspace.specs.storage.BatchRanges.{marks_of_txn, ranges_in, ranges_of_txn, write_marks}
-use Rattle.conflict.specs.Union.{picked}
+use Rattle.conflict.specs.Union.{marked_ranges}
 use Rattle.conflict.proofs.JudgedTo.{committed_push}
 
 -- whether the writes of the verdict count
@@ -20,7 +20,7 @@ counts Committed = true
 counts TooOld = false
 counts Conflict = false
 
-counted_if : (verdict : Verdict) (ranges : List Range) → cond (counts verdict) ranges [] ≡ counted verdict ranges
+counted_if : (verdict : Verdict) (ranges : List Range) → cond (counts verdict) ranges [] ≡ counted_ranges verdict ranges
 counted_if Committed ranges = refl
 counted_if TooOld ranges = refl
 counted_if Conflict ranges = refl
@@ -38,11 +38,11 @@ own_count t e = omega (
   length-append t.reads t.writes,
 )
 
-own_picked : (t : Txn) (e : Entry) → picked (own_marks t e) (ranges_of_txn t) ≡ counted e.verdict t.writes
+own_picked : (t : Txn) (e : Entry) → marked_ranges (own_marks t e) (ranges_of_txn t) ≡ counted_ranges e.verdict t.writes
 own_picked t e =
     picked-append (replicate (length t.reads) false) (replicate (length t.writes) (counts e.verdict)) t.reads t.writes
     (length-replicate (length t.reads) false)
-    ∙ ap (λ rs. rs ++ picked (replicate (length t.writes) (counts e.verdict)) t.writes) (picked-replicate false t.reads)
+    ∙ ap (λ rs. rs ++ marked_ranges (replicate (length t.writes) (counts e.verdict)) t.writes) (picked-replicate false t.reads)
     ∙ picked-replicate (counts e.verdict) t.writes
     ∙ counted_if e.verdict t.writes
 
@@ -81,7 +81,7 @@ determined_at (m ∷ marks) (w ∷ writes) all (suc index) marked = determined_a
 
 -- The marks are those of the ranges of the first transactions.
 pub record AreMarksOf (marks : List Bool) (txns : List Txn) (entries : List Entry) : Type 0 where
-  pub written : picked marks (ranges_in txns) ≡ committed txns entries
+  pub written : marked_ranges marks (ranges_in txns) ≡ committed_ranges txns entries
   pub count : length marks ≡ length (ranges_in txns)
   pub determine : AllZip Determines marks (write_marks txns)
 
@@ -90,10 +90,10 @@ marks_push : (marks : List Bool) (ts : List Txn) (es : List Entry) (t : Txn) (e 
 marks_push marks ts es t e same were =
     let more : ranges_in ts ++ ranges_of_txn t ≡ ranges_in (ts ++ t ∷ []) = flat_map_more ranges_of_txn [] ts t in
     record {
-      written = ap (picked (marks ++ own_marks t e)) (sym more)
+      written = ap (marked_ranges (marks ++ own_marks t e)) (sym more)
           ∙ picked-append marks (own_marks t e) (ranges_in ts) (ranges_of_txn t) were.count
-          ∙ ap (λ rs. rs ++ picked (own_marks t e) (ranges_of_txn t)) were.written
-          ∙ ap (λ rs. committed ts es ++ rs) (own_picked t e)
+          ∙ ap (λ rs. rs ++ marked_ranges (own_marks t e) (ranges_of_txn t)) were.written
+          ∙ ap (λ rs. committed_ranges ts es ++ rs) (own_picked t e)
           ∙ sym (committed_push ts es t e same);
       count = omega (
         arith,

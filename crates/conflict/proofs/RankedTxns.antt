@@ -10,7 +10,7 @@ use Rattle.keys.specs.declared.range.Range.{Range}
 use Rattle.keys.proofs.callers.Meeting.{meets_by_ends, meets_from_test}
 use Rattle.keyspace.specs.storage.BatchRanges.{ranges_in, ranges_of_txn, writes_in}
 use Rattle.keyspace.specs.Judge.{in_conflict_at, meets_earlier, places_from}
-use Rattle.keyspace.specs.Writes.{counted}
+use Rattle.keyspace.specs.Writes.{counted_ranges}
 use Rattle.keyspace.specs.declared.reply.Entry.{Entry}
 use Rattle.keyspace.specs.declared.reply.Verdict.{Verdict}
 use Rattle.keyspace.specs.declared.reply.Verdict.TheVariants.{Conflict, TooOld, Committed}
@@ -126,10 +126,10 @@ module _ (ranked_as : Range → Range) (all : List Range) where
       let same = in_batch_equal ranked_as written t e
       (λ k i lt. met_equal written (get_or t.reads k i) among (reads k i lt)) in
       ap₂ (λ (x : Entry) (ws : List Range).
-      x ∷ in_batches (written ++ counted x.verdict ws) (ranked_txns ranked_as txns) entries) same
+      x ∷ in_batches (written ++ counted_ranges x.verdict ws) (ranked_txns ranked_as txns) entries) same
       (map_itself ranked_as t.writes stay.0)
       ∙ ap (λ rest. d ∷ rest)
-      (batches_equal (written ++ counted d.verdict t.writes) txns entries
-      (All-append (Contains all) written (counted d.verdict t.writes) among
+      (batches_equal (written ++ counted_ranges d.verdict t.writes) txns entries
+      (All-append (Contains all) written (counted_ranges d.verdict t.writes) among
       (all_counted (Contains all) d.verdict t.writes own.0))
       own.1 stay.1 as_ranked.1)

@@ -7,13 +7,13 @@ use Rattle.stepmap.specs.Boundary.{Boundary, AreUpTo}
 use Rattle.stepmap.specs.StepMap.{Steps, new_map}
 use Rattle.stepmap.specs.Limit.{HasRoomFor, after_round, made_room}
 use Rattle.keyspace.specs.Writes.{with_write}
-use Rattle.conflict.specs.ConflictSet.{raised}
+use Rattle.conflict.specs.ConflictSet.{with_edge}
 use Rattle.conflict.specs.Unknown.{every_key, unknown_until}
 
 pub up_to_later : (version later : ℤ) (bs : List Boundary) → version ≤ℤ later → AreUpTo version bs → AreUpTo later bs
 up_to_later version later bs late up = λ k d within. let h = up k d within in omega (arith, ints, late, h)
 
-pub room_to_start : (limit : ℕ) (edge : ℤ) (m : Steps) → m ≡ raised edge (new_map limit) → 3 ≤ limit → HasRoomFor 1 m
+pub room_to_start : (limit : ℕ) (edge : ℤ) (m : Steps) → m ≡ with_edge edge (new_map limit) → 3 ≤ limit → HasRoomFor 1 m
 room_to_start limit edge m is enough = subst (HasRoomFor 1) (sym is) (omega (arith, enough))
 
 le_test : (a b : ℕ) → a ≤ b → nat_le a b ≡ true

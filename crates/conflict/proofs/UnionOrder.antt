@@ -16,41 +16,41 @@ use Rattle.keys.proofs.callers.Meeting.{before_unless_empty}
 use Rattle.keys.proofs.callers.SomeElement.{Any-cases, Any-first, Any-later, Any-left, Any-none, Any-parts, Any-right}
 use Rattle.stepmap.specs.Counting.{filled_count}
 use Rattle.stepmap.specs.Uniting.{IsEndIn, Unites}
-use Rattle.conflict.specs.Union.{picked, HaveWrittenInOrder}
+use Rattle.conflict.specs.Union.{marked_ranges, HaveWrittenInOrder}
 
 -- the range, if there is one
-abbrev found : Option Range → List Range
-found (Some range) = range ∷ []
-found None = []
+abbrev range_if_some : Option Range → List Range
+range_if_some (Some range) = range ∷ []
+range_if_some None = []
 
 -- the range at the index, if it is marked
 abbrev pub marked_at : List Bool → List Range → ℕ → List Range
-marked_at marks ranges index = cond (get_or marks index false) (found (slice_get ranges index)) []
+marked_at marks ranges index = cond (get_or marks index false) (range_if_some (slice_get ranges index)) []
 
 -- those at the indices
-abbrev pub listed : List Bool → List Range → List ℕ → List Range
-listed marks ranges order = flat_map (marked_at marks ranges) order
+abbrev pub listed_ranges : List Bool → List Range → List ℕ → List Range
+listed_ranges marks ranges order = flat_map (marked_at marks ranges) order
 
 module _ (marks : List Bool) (ranges : List Range) (order : List ℕ) (i index : ℕ) (inside : i < length order)
     (is : get_or order i index ≡ index) where
   next_listed : (more : List Range) → marked_at marks ranges index ≡ more
-      → listed marks ranges (take i order) ++ more ≡ listed marks ranges (take (i + 1) order)
+      → listed_ranges marks ranges (take i order) ++ more ≡ listed_ranges marks ranges (take (i + 1) order)
   next_listed more same =
-      ap (λ rs. listed marks ranges (take i order) ++ rs) (sym same)
+      ap (λ rs. listed_ranges marks ranges (take i order) ++ rs) (sym same)
       ∙ flat_map_more (marked_at marks ranges) [] (take i order) index
-      ∙ ap (λ e. listed marks ranges (take i order ++ e ∷ [])) (sym is)
-      ∙ ap (listed marks ranges) (sym (take_more order i index inside))
+      ∙ ap (λ e. listed_ranges marks ranges (take i order ++ e ∷ [])) (sym is)
+      ∙ ap (listed_ranges marks ranges) (sym (take_more order i index inside))
 
   -- a marked range is one more
   pub marked_next : (range : Range) → slice_get ranges index ≡ Some range → get_or marks index false ≡ true
-      → listed marks ranges (take i order) ++ range ∷ [] ≡ listed marks ranges (take (i + 1) order)
+      → listed_ranges marks ranges (take i order) ++ range ∷ [] ≡ listed_ranges marks ranges (take (i + 1) order)
   marked_next range at marked = next_listed (range ∷ []) (rw (marked, at) refl)
 
   -- one that isn't adds none
   pub unmarked_next : get_or marks index false ≡ false
-      → listed marks ranges (take i order) ≡ listed marks ranges (take (i + 1) order)
+      → listed_ranges marks ranges (take i order) ≡ listed_ranges marks ranges (take (i + 1) order)
   unmarked_next marked =
-      sym (append-nil (listed marks ranges (take i order))) ∙ next_listed [] (rw marked refl)
+      sym (append-nil (listed_ranges marks ranges (take i order))) ∙ next_listed [] (rw marked refl)
 
 All-flat_map : {X Y : Type 0} (P : Y → Type 0) (f : X → List Y) (xs : List X) → All (λ x. All P (f x)) xs
     → All P (flat_map f xs)
@@ -64,12 +64,12 @@ All-flat_map {X = X} P f (x ∷ xs) all =
 all_marked : (P : Range → Type 0) (marks : List Bool) (ranges : List Range) (index : ℕ)
     → ((r : Range) → slice_get ranges index ≡ Some r → P r) → All P (marked_at marks ranges index)
 all_marked P marks ranges index holds =
-    elim (get_or marks index false) as (λ b. All P (cond b (found (slice_get ranges index)) [])) [
+    elim (get_or marks index false) as (λ b. All P (cond b (range_if_some (slice_get ranges index)) [])) [
       | true ↦ of (slice_get ranges index) refl
       | false ↦ All-nil P
     ]
   where
-    of : (o : Option Range) → slice_get ranges index ≡ o → All P (found o)
+    of : (o : Option Range) → slice_get ranges index ≡ o → All P (range_if_some o)
     of None at = All-nil P
     of (Some r) at = All-cons P r [] (holds r at) (All-nil P)
 
@@ -77,7 +77,7 @@ all_marked P marks ranges index holds =
 pub listed_before : (marks : List Bool) (ranges : List Range) (order : List ℕ) (i index : ℕ) (range : Range)
     → AllPairs (BeginsFirst ranges) order → i < length order → get_or order i index ≡ index
     → slice_get ranges index ≡ Some range
-    → All (λ e. IsAtMost e.begin range.begin) (listed marks ranges (take i order))
+    → All (λ e. IsAtMost e.begin range.begin) (listed_ranges marks ranges (take i order))
 listed_before marks ranges order i index range pairs inside is at =
     All-flat_map (λ e. IsAtMost e.begin range.begin) (marked_at marks ranges) (take i order) (λ k d below.
     let before : k < i = omega (arith, length-take i order, below) in
@@ -123,7 +123,7 @@ count_in f (x ∷ xs) =
 -- listed by their indices the marked ranges that aren't empty are those in order
 listed_filled : (f : ℕ → List Range) (first : ℕ) (marks : List Bool) (ranges : List Range)
     → ((k : ℕ) → f (first + k) ≡ marked_at marks ranges k)
-    → flat_map f (filled_from first ranges) ≡ filter is_filled (picked marks ranges)
+    → flat_map f (filled_from first ranges) ≡ filter is_filled (marked_ranges marks ranges)
 listed_filled f first [] [] same = refl
 listed_filled f first (mark ∷ marks) [] same = refl
 listed_filled f first [] (r ∷ ranges) same =
@@ -145,19 +145,19 @@ listed_filled f first (mark ∷ marks) (r ∷ ranges) same =
     let next : first + 1 + k ≡ first + suc k = omega arith in ap f next ∙ same (suc k)))
   where
     by : (m : Bool) → f first ≡ cond m (r ∷ []) []
-        → flat_map f (filled_from (first + 1) ranges) ≡ filter is_filled (picked marks ranges)
+        → flat_map f (filled_from (first + 1) ranges) ≡ filter is_filled (marked_ranges marks ranges)
         → flat_map f (cond (is_filled r) (first ∷ filled_from (first + 1) ranges) (filled_from (first + 1) ranges))
-        ≡ filter is_filled (cond m (r ∷ picked marks ranges) (picked marks ranges))
+        ≡ filter is_filled (cond m (r ∷ marked_ranges marks ranges) (marked_ranges marks ranges))
     by true here rest =
         let G = filled_from (first + 1) ranges in
-        let Q = filter is_filled (picked marks ranges) in
+        let Q = filter is_filled (marked_ranges marks ranges) in
         elim (is_filled r) as (λ b. flat_map f (cond b (first ∷ G) G) ≡ cond b (r ∷ Q) Q) [
           | true ↦ flat_map-cons f first G ∙ ap (λ l. l ++ flat_map f G) here ∙ ap (λ l. r ∷ l) rest
           | false ↦ rest
         ]
     by false here rest =
         let G = filled_from (first + 1) ranges in
-        let Q = filter is_filled (picked marks ranges) in
+        let Q = filter is_filled (marked_ranges marks ranges) in
         elim (is_filled r) as (λ b. flat_map f (cond b (first ∷ G) G) ≡ Q) [
           | true ↦ flat_map-cons f first G ∙ ap (λ l. l ++ flat_map f G) here ∙ rest
           | false ↦ rest
@@ -239,27 +239,27 @@ unchosen : (marks : List Bool) (ranges : List Range) (order : List ℕ) (are : H
     → are.chosen index ≡ false → marked_at marks ranges index ≡ []
 unchosen marks ranges order are index out = by (get_or marks index false) refl
   where
-    by : (b : Bool) → get_or marks index false ≡ b → cond b (found (slice_get ranges index)) [] ≡ []
+    by : (b : Bool) → get_or marks index false ≡ b → cond b (range_if_some (slice_get ranges index)) [] ≡ []
     by true marked = let both : false ≡ true = sym out ∙ are.all index marked in cc
     by false marked = refl
 
 -- what unites the marked ranges in the order of their begins unites them
 pub unites_picked : (marks : List Bool) (ranges : List Range) (order : List ℕ) (us : List Range)
-    → HaveWrittenInOrder ranges marks order → Unites us (listed marks ranges order)
-    → Unites us (picked marks ranges)
+    → HaveWrittenInOrder ranges marks order → Unites us (listed_ranges marks ranges order)
+    → Unites us (marked_ranges marks ranges)
 unites_picked marks ranges order us are =
     let f = marked_at marks ranges in
     let filled = filter are.chosen (filled_from 0 ranges) in
     let moved = are.in_order.all in
-    let all : flat_map f filled ≡ filter is_filled (picked marks ranges) =
+    let all : flat_map f filled ≡ filter is_filled (marked_ranges marks ranges) =
     left_out f are.chosen (unchosen marks ranges order are) (filled_from 0 ranges)
     ∙ listed_filled f 0 marks ranges (λ k. let none : 0 + k ≡ k = omega arith in ap f none) in
     let back = IsPermutation-sym filled order moved in
-    unites_equal us (listed marks ranges order) (picked marks ranges) (record {
-      there = λ P some a. any_filtered P (picked marks ranges) (subst (Any P) all
+    unites_equal us (listed_ranges marks ranges order) (marked_ranges marks ranges) (record {
+      there = λ P some a. any_filtered P (marked_ranges marks ranges) (subst (Any P) all
           (any_from f P filled (any_moved (λ i. Any P (f i)) order filled back (any_in f P order a))));
       back = λ P some a. any_from f P order (any_moved (λ i. Any P (f i)) filled order moved
-          (any_in f P filled (subst (Any P) (sym all) (any_filter P some (picked marks ranges) a))));
+          (any_in f P filled (subst (Any P) (sym all) (any_filter P some (marked_ranges marks ranges) a))));
       count = count_in f order ∙ sum_by-IsPermutation (λ i. filled_count (f i)) filled order moved
-          ∙ sym (count_in f filled) ∙ ap filled_count all ∙ count_filter (picked marks ranges);
+          ∙ sym (count_in f filled) ∙ ap filled_count all ∙ count_filter (marked_ranges marks ranges);
     })

@@ -3,7 +3,7 @@ use Rattle.std.specs.Prelude.{◌≡◌, ℤ, ◌⊎◌, List, ◌++◌, None, I
 use Rattle.keys.specs.declared.range.Range.{Range}
 use Rattle.keyspace.specs.declared.batch.Batch.{Batch}
 use Rattle.keyspace.specs.declared.reply.Reply.{Reply}
-use Rattle.keyspace.specs.Writes.{Write, committed, writes_of}
+use Rattle.keyspace.specs.Writes.{Write, committed_ranges, writes_of}
 use Rattle.keyspace.specs.Judged.{edge as oldest, Judged}
 use Rattle.stepmap.specs.Boundary.{AreUpTo}
 use Rattle.stepmap.specs.StepMap.{Steps}
@@ -18,7 +18,7 @@ use Rattle.conflict.specs.ConflictSet.{
   IsSwept,
   IsOverLimit,
   IsOverLimitUnited,
-  raised,
+  with_edge,
   HasRoomToWrite,
   HasNoRoomToWrite,
   stop_after,
@@ -27,11 +27,11 @@ use Rattle.conflict.specs.Pace.{IsPaced}
 
 -- the write ranges that the reply commits
 abbrev pub commits_of : Batch → Reply → List Range
-commits_of batch reply = committed batch.txns reply.entries
+commits_of batch reply = committed_ranges batch.txns reply.entries
 
 -- The step map with its edge raised to that of the batch.
 abbrev pub raised_for : ℤ → Batch → Steps → Steps
-raised_for window batch m = raised (oldest window batch) m
+raised_for window batch m = with_edge (oldest window batch) m
 
 -- The reply is the right one after all writes that the step map covers, and then it also covers what
 -- the reply commits. What is committed fits within the limit.
@@ -57,7 +57,7 @@ pub record IsFull (window : ℤ) (old : Steps) (ws : List Write) (batch : Batch)
   pub no_room : HasNoRoomToWrite (raised_for window batch old) (commits_of batch reply)
 
 -- The batch isn't resolved, for this reason. The step map covers what it covered before. A refused
--- batch leaves it as it is. A stop for memory comes before a complete round is swept, or what is
+-- batch leaves it is. A stop for memory comes before a complete round is swept, or what is
 -- committed fits then.
 pub record Fails (when_full : WhenFull) (window : ℤ) (old new : Steps) (batch : Batch)
     (stop : SetStop) : Type 0 where

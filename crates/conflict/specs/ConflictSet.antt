@@ -99,8 +99,8 @@ IsOverLimitUnited limit edge ws ranges =
     (united : List Range) × Unites united ranges × (limit < 1 + 2 * (live_count edge ws + length united))
 
 -- the step map with its edge raised to this one
-abbrev pub raised : ℤ → Steps → Steps
-raised edge m = record m { edge = edge }
+abbrev pub with_edge : ℤ → Steps → Steps
+with_edge edge m = record m { edge = edge }
 
 -- ranges that unite these can be written within the limit, at the latest after a complete round of the sweep
 abbrev pub HasRoomToWrite : Steps → List Range → Type 0

@@ -7,7 +7,7 @@ use Rattle.keyspace.specs.declared.txn.Txn.{Txn}
 use Rattle.keyspace.specs.declared.reply.Verdict.{Verdict}
 use Rattle.keyspace.specs.declared.reply.Verdict.TheVariants.{Conflict, TooOld, Committed}
 use Rattle.keyspace.specs.declared.reply.Entry.{Entry}
-use Rattle.keyspace.specs.Writes.{Write, counted}
+use Rattle.keyspace.specs.Writes.{Write, counted_ranges}
 use Rattle.keyspace.specs.Judge.{meets_earlier, places_from, in_conflict_at, judge_txn, judge_txns}
 
 -- the entry of the history alone: nothing of the batch is written yet
@@ -36,7 +36,7 @@ in_batch written t e = by_verdict e.verdict written t e
 -- in order, each after what the committed ones before it write
 abbrev pub in_batches : List Range → List Txn → List Entry → List Entry
 in_batches written (t ∷ ts) (e ∷ es) =
-    in_batch written t e ∷ in_batches (written ++ counted (in_batch written t e).verdict t.writes) ts es
+    in_batch written t e ∷ in_batches (written ++ counted_ranges (in_batch written t e).verdict t.writes) ts es
 in_batches written [] es = []
 in_batches written (t ∷ ts) [] = []
 

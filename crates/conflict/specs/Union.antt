@@ -3,7 +3,7 @@ use Rattle.std.specs.Prelude.{◌≡◌, ◌⊎◌, ℕ, Bool, true, false, List
 use Rattle.std.specs.List.{AllZip}
 use Rattle.keys.specs.Range.{IsEmpty}
 use Rattle.keys.specs.GapRuns.{runs_of, AreChosenInOrder, IsBeginIn}
-pub use Rattle.keys.specs.Singles.{picked}
+pub use Rattle.keys.specs.Singles.{marked_ranges}
 use Rattle.keys.specs.declared.range.Range.{Range}
 use Rattle.stepmap.specs.StepMap.{lengths}
 use Rattle.stepmap.specs.Uniting.{Unites}

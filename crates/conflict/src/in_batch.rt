@@ -8,7 +8,7 @@ ghost use Rattle.keys.specs.declared.range.Range.{Range};
 ghost use Rattle.keys.specs.GapRuns.{HaveBegin};
 ghost use Rattle.keys.specs.Singles.{AreRankedFor};
 ghost use Rattle.keyspace.specs.declared.reply.Verdict.TheVariants.{Committed};
-ghost use Rattle.keyspace.specs.Writes.{counted};
+ghost use Rattle.keyspace.specs.Writes.{counted_ranges};
 ghost use Rattle.keyspace.specs.Judge.{meets_earlier};
 ghost use Rattle.keyspace.specs.declared.txn.Txn.{Txn};
 ghost use Rattle.keyspace.specs.storage.BatchRanges.{ranges_in, writes_in};
@@ -68,7 +68,8 @@ fn judge_open(
         → IsShapedAs txn.now ranked → AreRunsOf keys runs.now (ranked.reads ++ ranked.writes)
         → AreWrittenGaps keys gaps.old written → All (HaveBegin keys) written
         → (entry.new ≡ in_batch written ranked entry.old)
-        × AreWrittenGaps keys gaps.new (written ++ counted entry.new.verdict ranked.writes)) }
+        × AreWrittenGaps keys gaps.new
+          (written ++ counted_ranges entry.new.verdict ranked.writes)) }
     ensures count { length gaps.new ≡ length gaps.old }
 {
     let (reads, writes) = runs.split_at(txn.reads.len());

@@ -9,7 +9,8 @@ ghost use Rattle.keys.specs.GapRuns.{run_or_none};
 ghost use Rattle.keys.specs.Singles.{AreRankedFor};
 ghost use Rattle.keys.specs.declared.range.Range.{Range};
 ghost use Rattle.stepmap.specs.Uniting.{Unites};
-ghost use Rattle.conflict.specs.Union.{picked, AreSpanned, AreUnited, HaveRuns, HaveWrittenInOrder};
+ghost use Rattle.conflict.specs.Union.{marked_ranges, AreSpanned, AreUnited, HaveRuns};
+ghost use Rattle.conflict.specs.Union.{HaveWrittenInOrder};
 
 use keys::{GapRuns, RangeList};
 use std::alloc::{AllocError, Global};
@@ -67,7 +68,7 @@ impl Union {
         requires count { length written.now ≡ length (L.ranges ranges.now) }
         ensures united { OnOk result ((united : List Range)
             × AreSpanned (L.ranges ranges.now) self.new united
-            × Unites united (picked written.now (L.ranges ranges.now))) }
+            × Unites united (marked_ranges written.now (L.ranges ranges.now))) }
     {
         let runs = ranks.runs();
         self.spans.clear();

@@ -5,12 +5,12 @@ ghost use Rattle.std.specs.Prelude.{◌≡◌, ◌≤◌, ℕ, true, false, List
 ghost use Rattle.std.specs.Prelude.{MatchOption, OnOk, slice_get, slice_index_or};
 ghost use Rattle.keys.specs.declared.range.Range.{Range};
 ghost use Rattle.keyspace.specs.storage.BatchRanges.{is_write_in, ranges_in};
-ghost use Rattle.keyspace.specs.Writes.{committed};
+ghost use Rattle.keyspace.specs.Writes.{committed_ranges};
 ghost use Rattle.stepmap.specs.StepMap as map_of;
 ghost use Rattle.stepmap.specs.Writing.{AreApart};
 ghost use Rattle.stepmap.specs.Laws.{IsWriting};
 ghost use Rattle.conflict.specs.declared.union.UnitedSpan as span_type;
-ghost use Rattle.conflict.specs.Union.{picked, Spans, AreSpanned, IsUnion};
+ghost use Rattle.conflict.specs.Union.{marked_ranges, Spans, AreSpanned, IsUnion};
 ghost use Rattle.conflict.specs.Pace.{after_writes};
 
 use crate::union::{Union, UnitedSpan};
@@ -44,7 +44,7 @@ impl UnitedWrites {
     pub fn gather(&mut self, batch: &Batch, entries: &[Entry]) -> Result<(), AllocError>
         requires entries { length entries.now ≡ length batch.now.txns }
         ensures union { OnOk result (IsUnion (ranges_in batch.now.txns) self.new.union
-            self.new.lengths.items (committed batch.now.txns entries.now)) }
+            self.new.lengths.items (committed_ranges batch.now.txns entries.now)) }
     {
         mark_written(&mut self.written, batch, entries)?;
         let ranges = batch.txns.ranges();
@@ -78,8 +78,8 @@ impl UnitedWrites {
 // unspecified.
 fn mark_written(written: &mut Vec<bool>, batch: &Batch, entries: &[Entry]) -> Result<(), AllocError>
     requires entries { length entries.now ≡ length batch.now.txns }
-    ensures written { OnOk result (picked written.new.items (ranges_in batch.now.txns)
-        ≡ committed batch.now.txns entries.now) }
+    ensures written { OnOk result (marked_ranges written.new.items (ranges_in batch.now.txns)
+        ≡ committed_ranges batch.now.txns entries.now) }
     ensures count { OnOk result (length written.new.items ≡ length (ranges_in batch.now.txns)) }
     ensures writes { OnOk result ((index : ℕ) → slice_index_or written.new.items index false ≡ true
         → is_write_in batch.now.txns index ≡ true) }

@@ -11,7 +11,7 @@ use Rattle.keys.specs.Range.{ranges_meet}
 use Rattle.keys.proofs.callers.Booleans.{false_unless}
 use Rattle.keyspace.specs.declared.txn.Txn.{Txn}
 use Rattle.keyspace.specs.declared.reply.Entry.{Entry}
-use Rattle.keyspace.specs.Writes.{committed, counted}
+use Rattle.keyspace.specs.Writes.{committed_ranges, counted_ranges}
 use Rattle.explanations.specs.Written.{Written, written_by, written_from}
 use Rattle.explanations.specs.Explains.{explains}
 
@@ -103,7 +103,7 @@ module _ (proxy : ℕ) (version : ℤ) (j : ℕ) (snapshot : ℤ) (range : Range
   from_later txn [] es l = refl
   from_later txn (t ∷ ts) [] l = refl
   from_later txn (t ∷ ts) (e ∷ es) l =
-      let ranges = counted e.verdict t.writes in
+      let ranges = counted_ranges e.verdict t.writes in
       list_any-append (explains version j snapshot range) (written_by proxy version txn ranges)
       (written_from proxy version (txn + 1) ts es)
       ∙ ap (λ b. b || list_any (explains version j snapshot range) (written_from proxy version (txn + 1) ts es))
@@ -113,15 +113,15 @@ module _ (proxy : ℕ) (version : ℤ) (j : ℕ) (snapshot : ℤ) (range : Range
   -- of the writes of the batch itself those of the transactions before index j pass
   pub any_earlier : (txn k : ℕ) (ts : List Txn) (es : List Entry) → j ≡ txn + k
       → list_any (explains version j snapshot range) (written_from proxy version txn ts es)
-      ≡ list_any (ranges_meet range) (committed (take k ts) (take k es))
+      ≡ list_any (ranges_meet range) (committed_ranges (take k ts) (take k es))
   any_earlier txn zero ts es e = from_later txn ts es (omega arith)
   any_earlier txn (suc k) [] es e = refl
   any_earlier txn (suc k) (t ∷ ts) [] e = refl
   any_earlier txn (suc k) (t ∷ ts) (entry ∷ es) e =
-      let ranges = counted entry.verdict t.writes in
+      let ranges = counted_ranges entry.verdict t.writes in
       list_any-append (explains version j snapshot range) (written_by proxy version txn ranges)
       (written_from proxy version (txn + 1) ts es)
       ∙ ap (λ b. b || list_any (explains version j snapshot range) (written_from proxy version (txn + 1) ts es))
       (by_earlier txn ranges (omega arith))
       ∙ ap (λ b. list_any (ranges_meet range) ranges || b) (any_earlier (txn + 1) k ts es (omega arith))
-      ∙ sym (list_any-append (ranges_meet range) ranges (committed (take k ts) (take k es)))
+      ∙ sym (list_any-append (ranges_meet range) ranges (committed_ranges (take k ts) (take k es)))

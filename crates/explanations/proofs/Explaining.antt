@@ -24,7 +24,7 @@ use Rattle.keyspace.specs.Judge.{is_hit, meets_earlier}
 use Rattle.keyspace.specs.Chain.{IsChain}
 use Rattle.keyspace.proofs.callers.Judging.{any_from_test, test_from_any, range_hit_from_test, test_from_range_hit}
 use Rattle.explanations.specs.Written.{Written, written_in, all_written}
-use Rattle.explanations.specs.Explains.{explains, explaining, explaining_range, explaining_txn, newest_of}
+use Rattle.explanations.specs.Explains.{explains, explaining_writes, explaining_range, explaining_txn, newest_of}
 use Rattle.explanations.specs.History.{HistoryState, Keeps}
 use Rattle.explanations.proofs.Passing.{filter_none, some_left, any_if_left, any_same, All-left, All-both}
 use Rattle.explanations.proofs.Origins.{IsWrittenAt, without_origin, same_writes, all_at}
@@ -36,7 +36,7 @@ at_most_through a b c h k = omega (arith, ints)
 
 -- those of a transaction that is there
 at_txn : (ps : List Processed) (b : Batch) (j i : ℕ) (t : Txn) → slice_get b.txns j ≡ Some t
-    → explaining ps b j i ≡ explaining_range (all_written ps) b.version j t.snapshot (slice_get t.reads i)
+    → explaining_writes ps b j i ≡ explaining_range (all_written ps) b.version j t.snapshot (slice_get t.reads i)
 at_txn ps b j i t at = ap (λ (o : Option Txn). explaining_txn (all_written ps) b.version j o i) at
 
 module _ (window : ℤ) (ps : List Processed) (p : Processed) (chain : IsChain window (ps ++ p ∷ [])) (j : ℕ) (t : Txn) where
@@ -88,7 +88,7 @@ module _ (window : ℤ) (ps : List Processed) (p : Processed) (chain : IsChain w
 
   pub explained_if_in_conflict : (i : ℕ) → slice_get p.batch.txns j ≡ Some t
       → (IsHit (writes ps) t i ⊎ MeetsEarlier (earlier p.batch p.reply j) t i)
-      ↔ (explaining (ps ++ p ∷ []) p.batch j i ≢ [])
+      ↔ (explaining_writes (ps ++ p ∷ []) p.batch j i ≢ [])
   explained_if_in_conflict i at =
       let same = at_txn (ps ++ p ∷ []) p.batch j i t at in
       let by_range = explained_range (slice_get t.reads i) in
@@ -96,7 +96,7 @@ module _ (window : ℤ) (ps : List Processed) (p : Processed) (chain : IsChain w
 
 pub each_conflict_explained : (window : ℤ) (ps : List Processed) (p : Processed) → IsChain window (ps ++ p ∷ [])
     → (j : ℕ) (e : Entry) → slice_get p.reply.entries j ≡ Some e → e.verdict ≡ Conflict
-    → (i : ℕ) × (explaining (ps ++ p ∷ []) p.batch j i ≢ [])
+    → (i : ℕ) × (explaining_writes (ps ++ p ∷ []) p.batch j i ≢ [])
 each_conflict_explained window ps p chain j e at conflict =
     let own = chain ps p [] refl in
     let within = slice_get_within p.reply.entries j e at in
@@ -110,7 +110,7 @@ each_conflict_explained window ps p chain j e at conflict =
 pub dropped_explain_nothing : (window : ℤ) (ps : List Processed) (h : HistoryState) → IsChain window ps → Keeps ps h
     → (b : Batch) → newest_of h.kept ≡ Some b
     → (j i : ℕ) (t : Txn) → slice_get b.txns j ≡ Some t → h.edge ≤ℤ t.snapshot
-    → explaining ps b j i ≡ explaining h.kept b j i
+    → explaining_writes ps b j i ≡ explaining_writes h.kept b j i
 dropped_explain_nothing window ps h chain keeps b newest j i t at young =
     at_txn ps b j i t at ∙ by_range (slice_get t.reads i) ∙ sym (at_txn h.kept b j i t at)
   where

@@ -14,7 +14,7 @@ use Rattle.keyspace.specs.declared.txn.Txn.{Txn}
 use Rattle.keyspace.specs.declared.batch.Batch.{Batch}
 use Rattle.keyspace.specs.declared.reply.Entry.{Entry}
 use Rattle.keyspace.specs.Processed.{Processed}
-use Rattle.keyspace.specs.Writes.{counted}
+use Rattle.keyspace.specs.Writes.{counted_ranges}
 use Rattle.explanations.specs.declared.explanation.Explanation.{Explanation}
 use Rattle.explanations.specs.Written.{Written, written_by, written_from, written_in, all_written}
 use Rattle.explanations.specs.Explains.{explains, explaining_range, explaining_txn, explaining_of, explaining_newest, newest_of}
@@ -118,12 +118,12 @@ pub found_txn : (test : Written → Bool) (proxy : ℕ) (version : ℤ) (ts : Li
     (ws : List Written) (o : Option Explanation) (own_proxy : ℕ) (own_version : ℤ) (ranges : List Range)
     → IsFound ((ws ++ filter test (written_from proxy version 0 (take n ts) (take n es)))
     ++ filter test (written_by own_proxy own_version n ranges)) o
-    → own_proxy ≡ proxy → own_version ≡ version → ranges ≡ counted e.verdict t.writes
+    → own_proxy ≡ proxy → own_version ≡ version → ranges ≡ counted_ranges e.verdict t.writes
     → slice_get ts n ≡ Some t → slice_get es n ≡ Some e
     → IsFound (ws ++ filter test (written_from proxy version 0 (take (n + 1) ts) (take (n + 1) es))) o
 found_txn test proxy version ts es n t e ws o own_proxy own_version ranges found proxy_is version_is ranges_are at_t at_e =
     let before = written_from proxy version 0 (take n ts) (take n es) in
-    let own = written_by proxy version n (counted e.verdict t.writes) in
+    let own = written_by proxy version n (counted_ranges e.verdict t.writes) in
     found_of _ _ o
     (ap (λ k. (ws ++ filter test before) ++ filter test (written_by k own_version n ranges)) proxy_is
     ∙ ap (λ v. (ws ++ filter test before) ++ filter test (written_by proxy v n ranges)) version_is
@@ -136,7 +136,7 @@ found_txn test proxy version ts es n t e ws o own_proxy own_version ranges found
 pub found_same : (test : Written → Bool) (proxy : ℕ) (version : ℤ) (ts : List Txn) (es : List Entry) (n : ℕ) (t : Txn) (e : Entry)
     (ws : List Written) (o : Option Explanation)
     → IsFound (ws ++ filter test (written_from proxy version 0 (take n ts) (take n es))) o
-    → [] ≡ counted e.verdict t.writes → slice_get ts n ≡ Some t → slice_get es n ≡ Some e
+    → [] ≡ counted_ranges e.verdict t.writes → slice_get ts n ≡ Some t → slice_get es n ≡ Some e
     → IsFound (ws ++ filter test (written_from proxy version 0 (take (n + 1) ts) (take (n + 1) es))) o
 found_same test proxy version ts es n t e ws o found none at_t at_e =
     found_txn test proxy version ts es n t e ws o proxy version []
@@ -195,7 +195,7 @@ module _ (version : ℤ) (j : ℕ) (snapshot : ℤ) (range : Range) where
       let test = explains version j snapshot range in
       let t = some_at ts from (omega (arith, same, fit)) in
       let e = some_at es from (omega (arith, same, fit_es)) in
-      let ranges = counted e.0.verdict t.0.writes in
+      let ranges = counted_ranges e.0.verdict t.0.writes in
       let before = ws ++ filter test (written_from proxy own_version 0 (take from ts) (take from es)) in
       let nothing = none_by proxy own_version from ranges (none from t.0 e.0 (omega arith) (omega (arith, same)) t.1 e.1) in
       skipped proxy own_version ts es (from + 1) n to ws o (omega (arith, same)) fit fit_es

@@ -8,7 +8,7 @@ use Rattle.std.proofs.lemmas.List.Sorted.{All-permutation, Contains-permutation}
 use Rattle.keys.specs.Hash.{IsHashOf}
 use Rattle.keys.specs.declared.range.Range.{Range}
 use Rattle.keys.proofs.callers.Lists.{part_more}
-use Rattle.keyspace.specs.Writes.{counted}
+use Rattle.keyspace.specs.Writes.{counted_ranges}
 use Rattle.keyspace.specs.declared.txn.Txn.{Txn}
 use Rattle.keyspace.specs.declared.reply.Entry.{Entry}
 use Rattle.explanations.specs.declared.writer_index.Writer.{Writer}
@@ -89,7 +89,7 @@ pub record IsIndexTo (index : WriterIndex) (n : ℕ) (ts : List Txn) (es : List 
 
 -- the entry of one more
 writers_more : (ws more : List Writer) (n : ℕ) (ts : List Txn) (es : List Entry) (t : Txn) (e : Entry) → HasWritersTo ws n ts es
-    → slice_get ts n ≡ Some t → slice_get es n ≡ Some e → All (IsWrittenBy more n) (counted e.verdict t.writes)
+    → slice_get ts n ≡ Some t → slice_get es n ≡ Some e → All (IsWrittenBy more n) (counted_ranges e.verdict t.writes)
     → HasWritersTo (ws ++ more) (n + 1) ts es
 writers_more ws more n ts es t e before at_t at_e own j u f below at_u at_f =
     ⊎_elim
@@ -98,16 +98,16 @@ writers_more ws more n ts es t e before at_t at_e own j u f below at_u at_f =
     let here_e : slice_get es n ≡ Some f = subst (λ (k : ℕ). slice_get es k ≡ Some f) same at_f in
     let is_t : t ≡ u = cc in
     let is_e : e ≡ f = cc in
-    let all : All (IsWrittenBy more n) (counted f.verdict u.writes) =
-    subst (λ (x : Entry). All (IsWrittenBy more n) (counted x.verdict u.writes)) is_e
-    (subst (λ (x : Txn). All (IsWrittenBy more n) (counted e.verdict x.writes)) is_t own) in
-    subst (λ (k : ℕ). All (IsWrittenBy (ws ++ more) k) (counted f.verdict u.writes)) (sym same)
+    let all : All (IsWrittenBy more n) (counted_ranges f.verdict u.writes) =
+    subst (λ (x : Entry). All (IsWrittenBy more n) (counted_ranges x.verdict u.writes)) is_e
+    (subst (λ (x : Txn). All (IsWrittenBy more n) (counted_ranges e.verdict x.writes)) is_t own) in
+    subst (λ (k : ℕ). All (IsWrittenBy (ws ++ more) k) (counted_ranges f.verdict u.writes)) (sym same)
     (All-weaker (IsWrittenBy more n) (IsWrittenBy (ws ++ more) n)
-    (λ range written. (written.0, Contains-append_right ws more _ written.1)) (counted f.verdict u.writes) all))
+    (λ range written. (written.0, Contains-append_right ws more _ written.1)) (counted_ranges f.verdict u.writes) all))
     (λ other.
     ⊎_elim
     (λ (lower : j < n).
-    All-weaker (IsWrittenBy ws j) (IsWrittenBy (ws ++ more) j) (λ range. written_left ws more j range) (counted f.verdict u.writes)
+    All-weaker (IsWrittenBy ws j) (IsWrittenBy (ws ++ more) j) (λ range. written_left ws more j range) (counted_ranges f.verdict u.writes)
     (before j u f lower at_u at_f))
     (λ (higher : n < j). absurd (omega (arith, higher, below)))
     other)
@@ -115,7 +115,7 @@ writers_more ws more n ts es t e before at_t at_e own j u f below at_u at_f =
 
 -- one transaction more
 pub index_more : (old new : WriterIndex) (n : ℕ) (ts : List Txn) (es : List Entry) (t : Txn) (e : Entry) → IsIndexTo old n ts es
-    → AddsWrites old new n (counted e.verdict t.writes) → n < length ts → slice_get ts n ≡ Some t → slice_get es n ≡ Some e
+    → AddsWrites old new n (counted_ranges e.verdict t.writes) → n < length ts → slice_get ts n ≡ Some t → slice_get es n ≡ Some e
     → IsIndexTo new (n + 1) ts es
 index_more old new n ts es t e before adds inside at_t at_e = record {
   within =
@@ -137,6 +137,6 @@ index_sorted old new n ts es before past moved sorted same = record {
   within = All-permutation (λ (w : Writer). w.txn < length ts) old.writers.items new.writers.items moved before.within;
   complete = λ none j t e below at_t at_e.
       All-weaker (IsWrittenBy old.writers.items j) (IsWrittenBy new.writers.items j)
-      (λ range written. (written.0, Contains-permutation old.writers.items new.writers.items _ moved written.1)) (counted e.verdict t.writes)
+      (λ range written. (written.0, Contains-permutation old.writers.items new.writers.items _ moved written.1)) (counted_ranges e.verdict t.writes)
       (before.complete (sym same ∙ none) j t e (omega (arith, below, past)) at_t at_e);
 }

@@ -11,7 +11,7 @@ use Rattle.keys.specs.Hash.{hash_of, IsHashOf}
 use Rattle.keys.specs.Range.{ranges_meet}
 use Rattle.keys.specs.declared.range.Range.{Range}
 use Rattle.keys.proofs.callers.SingleRanges.{apart_by_hashes}
-use Rattle.keyspace.specs.Writes.{counted}
+use Rattle.keyspace.specs.Writes.{counted_ranges}
 use Rattle.keyspace.specs.declared.txn.Txn.{Txn}
 use Rattle.keyspace.specs.declared.reply.Entry.{Entry}
 use Rattle.explanations.specs.declared.writer_index.Writer.{Writer}
@@ -40,7 +40,7 @@ module _ (ts : List Txn) (es : List Entry) (index : WriterIndex) (is : IsIndexOf
       → NoneWrote ts es range from to
   none_wrote to within none j t e low high at_t at_e =
       All-weaker (IsWrittenBy writers j) (λ (other : Range). ranges_meet range other ≡ false) (λ other written. apart j other (none j low high) written)
-      (counted e.verdict t.writes) (is.complete singles j t e (omega (arith, within, high)) at_t at_e)
+      (counted_ranges e.verdict t.writes) (is.complete singles j t e (omega (arith, within, high)) at_t at_e)
 
   pub found_itself : (i : ℕ) → i < length writers → ((d : Writer) → writer_cmp (get_or writers i d) (writer from) ≡ Equal)
       → IsNextWriter ts es range from (Some from)

@@ -8,7 +8,7 @@ use Rattle.keys.specs.declared.range.Range.{Range}
 use Rattle.keyspace.specs.declared.txn.Txn.{Txn}
 use Rattle.keyspace.specs.declared.reply.Entry.{Entry}
 use Rattle.keyspace.specs.Processed.{Processed}
-use Rattle.keyspace.specs.Writes.{Write, writes, writes_of, at_version, committed, counted}
+use Rattle.keyspace.specs.Writes.{Write, writes, writes_of, at_version, committed_ranges, counted_ranges}
 use Rattle.explanations.specs.Written.{Written, written_by, written_from, written_in, all_written}
 
 abbrev pub written_at : ℕ → ℤ → ℕ → Range → Written
@@ -26,15 +26,15 @@ same_by proxy version txn [] = refl
 same_by proxy version txn (range ∷ ranges) = ap (λ ws. write_at version range ∷ ws) (same_by proxy version txn ranges)
 
 same_from : (proxy : ℕ) (version : ℤ) (txn : ℕ) (ts : List Txn) (es : List Entry)
-    → map without_origin (written_from proxy version txn ts es) ≡ at_version version (committed ts es)
+    → map without_origin (written_from proxy version txn ts es) ≡ at_version version (committed_ranges ts es)
 same_from proxy version txn [] es = refl
 same_from proxy version txn (t ∷ ts) [] = refl
 same_from proxy version txn (t ∷ ts) (e ∷ es) =
-    let own = counted e.verdict t.writes in
+    let own = counted_ranges e.verdict t.writes in
     map-append without_origin (written_by proxy version txn own) (written_from proxy version (txn + 1) ts es)
     ∙ ap (λ ws. ws ++ map without_origin (written_from proxy version (txn + 1) ts es)) (same_by proxy version txn own)
     ∙ ap (λ ws. at_version version own ++ ws) (same_from proxy version (txn + 1) ts es)
-    ∙ sym (map-append (write_at version) own (committed ts es))
+    ∙ sym (map-append (write_at version) own (committed_ranges ts es))
 
 pub same_writes : (ps : List Processed) → map without_origin (all_written ps) ≡ writes ps
 same_writes [] = refl
@@ -55,7 +55,7 @@ from_at : (P : ℤ → Type 0) (proxy : ℕ) (version : ℤ) (txn : ℕ) (ts : L
 from_at P proxy version txn [] es h = All-nil (IsWrittenAt P)
 from_at P proxy version txn (t ∷ ts) [] h = All-nil (IsWrittenAt P)
 from_at P proxy version txn (t ∷ ts) (e ∷ es) h =
-    let own = counted e.verdict t.writes in
+    let own = counted_ranges e.verdict t.writes in
     All-append (IsWrittenAt P) (written_by proxy version txn own) (written_from proxy version (txn + 1) ts es)
     (All-map (IsWrittenAt P) (written_at proxy version txn) own (λ k d l. h))
     (from_at P proxy version (txn + 1) ts es h)
@@ -73,28 +73,28 @@ all_at P (p ∷ ps) h =
 more_from : (proxy : ℕ) (version : ℤ) (first last : ℕ) (ts : List Txn) (es : List Entry) (n : ℕ) (t : Txn) (e : Entry)
     → last ≡ first + n → slice_get ts n ≡ Some t → slice_get es n ≡ Some e
     → written_from proxy version first (take (suc n) ts) (take (suc n) es)
-    ≡ written_from proxy version first (take n ts) (take n es) ++ written_by proxy version last (counted e.verdict t.writes)
+    ≡ written_from proxy version first (take n ts) (take n es) ++ written_by proxy version last (counted_ranges e.verdict t.writes)
 more_from proxy version first last [] es n t e same at_t at_e = absurd cc
 more_from proxy version first last (s ∷ ts) [] n t e same at_t at_e = absurd cc
 more_from proxy version first last (s ∷ ts) (f ∷ es) zero t e same at_t at_e =
     let same_t : s ≡ t = cc in
     let same_e : f ≡ e = cc in
     let same_txn : first ≡ last = omega arith in
-    append-nil (written_by proxy version first (counted f.verdict s.writes))
-    ∙ ap (λ (txn : ℕ). written_by proxy version txn (counted f.verdict s.writes)) same_txn
-    ∙ ap (λ (x : Entry). written_by proxy version last (counted x.verdict s.writes)) same_e
-    ∙ ap (λ (x : Txn). written_by proxy version last (counted e.verdict x.writes)) same_t
+    append-nil (written_by proxy version first (counted_ranges f.verdict s.writes))
+    ∙ ap (λ (txn : ℕ). written_by proxy version txn (counted_ranges f.verdict s.writes)) same_txn
+    ∙ ap (λ (x : Entry). written_by proxy version last (counted_ranges x.verdict s.writes)) same_e
+    ∙ ap (λ (x : Txn). written_by proxy version last (counted_ranges e.verdict x.writes)) same_t
 more_from proxy version first last (s ∷ ts) (f ∷ es) (suc n) t e same at_t at_e =
-    let own = written_by proxy version first (counted f.verdict s.writes) in
+    let own = written_by proxy version first (counted_ranges f.verdict s.writes) in
     ap (λ ws. own ++ ws) (more_from proxy version (first + 1) last ts es n t e (omega arith) at_t at_e)
     ∙ sym (append_assoc own (written_from proxy version (first + 1) (take n ts) (take n es))
-    (written_by proxy version last (counted e.verdict t.writes)))
+    (written_by proxy version last (counted_ranges e.verdict t.writes)))
 
 -- the writes of a transaction more
 pub written_more : (proxy : ℕ) (version : ℤ) (ts : List Txn) (es : List Entry) (n : ℕ) (t : Txn) (e : Entry)
     → slice_get ts n ≡ Some t → slice_get es n ≡ Some e
     → written_from proxy version 0 (take (n + 1) ts) (take (n + 1) es)
-    ≡ written_from proxy version 0 (take n ts) (take n es) ++ written_by proxy version n (counted e.verdict t.writes)
+    ≡ written_from proxy version 0 (take n ts) (take n es) ++ written_by proxy version n (counted_ranges e.verdict t.writes)
 written_more proxy version ts es n t e at_t at_e =
     let next : n + 1 ≡ suc n = omega arith in
     ap (λ k. written_from proxy version 0 (take k ts) (take k es)) next

@@ -26,8 +26,8 @@ explaining_txn ws version j None i = []
 explaining_txn ws version j (Some t) i = explaining_range ws version j t.snapshot (slice_get t.reads i)
 
 -- those of read range i of the transaction at index j of the batch
-abbrev pub explaining : List Processed → Batch → ℕ → ℕ → List Written
-explaining ps b j i = explaining_txn (all_written ps) b.version j (slice_get b.txns j) i
+abbrev pub explaining_writes : List Processed → Batch → ℕ → ℕ → List Written
+explaining_writes ps b j i = explaining_txn (all_written ps) b.version j (slice_get b.txns j) i
 
 -- the batch processed last
 abbrev pub newest_of : List Processed → Option Batch
@@ -38,7 +38,7 @@ newest_of (p ∷ q ∷ ps) = newest_of (q ∷ ps)
 -- those of read range i of the transaction at index j of the batch processed last
 abbrev pub explaining_of : List Processed → Option Batch → ℕ → ℕ → List Written
 explaining_of ps None j i = []
-explaining_of ps (Some b) j i = explaining ps b j i
+explaining_of ps (Some b) j i = explaining_writes ps b j i
 
 abbrev pub explaining_newest : List Processed → ℕ → ℕ → List Written
 explaining_newest ps j i = explaining_of ps (newest_of ps) j i

@@ -6,7 +6,7 @@ use Rattle.std.specs.List.Sorted.{IsSorted}
 use Rattle.keys.specs.Hash.{hash_of}
 use Rattle.keys.specs.Range.{IsSingle, ranges_meet}
 use Rattle.keys.specs.declared.range.Range.{Range}
-use Rattle.keyspace.specs.Writes.{counted}
+use Rattle.keyspace.specs.Writes.{counted_ranges}
 use Rattle.keyspace.specs.declared.txn.Txn.{Txn}
 use Rattle.keyspace.specs.declared.reply.Entry.{Entry}
 use Rattle.explanations.specs.declared.writer_index.Writer.{Writer}
@@ -15,7 +15,7 @@ use Rattle.explanations.specs.declared.writer_index.WriterIndex.{WriterIndex}
 -- No committed transaction from one index on and below another wrote a range that overlaps this one.
 abbrev pub NoneWrote : List Txn → List Entry → Range → ℕ → ℕ → Type 0
 NoneWrote ts es range from to = (j : ℕ) (t : Txn) (e : Entry) → from ≤ j → j < to → slice_get ts j ≡ Some t → slice_get es j ≡ Some e
-    → All (λ other. ranges_meet range other ≡ false) (counted e.verdict t.writes)
+    → All (λ other. ranges_meet range other ≡ false) (counted_ranges e.verdict t.writes)
 
 -- the next transaction, from this index on, that may have written a range that overlaps this one; none if no other did
 abbrev pub IsNextWriter : List Txn → List Entry → Range → ℕ → Option ℕ → Type 0
@@ -33,7 +33,7 @@ IsWrittenBy writers j range = IsSingle range × Contains writers (record { hash 
 -- each committed transaction below index n is among these writers, with each range that it wrote
 abbrev pub HasWritersTo : List Writer → ℕ → List Txn → List Entry → Type 0
 HasWritersTo writers n ts es = (j : ℕ) (t : Txn) (e : Entry) → j < n → slice_get ts j ≡ Some t → slice_get es j ≡ Some e
-    → All (IsWrittenBy writers j) (counted e.verdict t.writes)
+    → All (IsWrittenBy writers j) (counted_ranges e.verdict t.writes)
 
 -- the index of a batch: its writers in order, and all of them unless some range isn't a single key
 pub record IsIndexOf (index : WriterIndex) (ts : List Txn) (es : List Entry) : Type 0 where

@@ -4,7 +4,7 @@ use Rattle.keys.specs.declared.range.Range.{Range}
 use Rattle.keyspace.specs.declared.txn.Txn.{Txn}
 use Rattle.keyspace.specs.declared.reply.Entry.{Entry}
 use Rattle.keyspace.specs.Processed.{Processed}
-use Rattle.keyspace.specs.Writes.{counted}
+use Rattle.keyspace.specs.Writes.{counted_ranges}
 
 -- a write range of a committed transaction
 pub record Written : Type 0 where
@@ -23,7 +23,7 @@ written_by proxy version txn ranges =
 -- the writes of the transactions whose entries say committed, in order; the first of them has this index
 abbrev pub written_from : ℕ → ℤ → ℕ → List Txn → List Entry → List Written
 written_from proxy version txn (t ∷ ts) (e ∷ es) =
-    written_by proxy version txn (counted e.verdict t.writes) ++ written_from proxy version (txn + 1) ts es
+    written_by proxy version txn (counted_ranges e.verdict t.writes) ++ written_from proxy version (txn + 1) ts es
 written_from proxy version txn [] es = []
 written_from proxy version txn (t ∷ ts) [] = []
 

@@ -7,7 +7,7 @@ ghost use Rattle.keys.specs.declared.range.Range.{Range};
 ghost use Rattle.keyspace.specs.declared.batch.TheConstants.{MAX_TXNS};
 ghost use Rattle.keyspace.specs.declared.reply.Entry.{Entry as EntryValue};
 ghost use Rattle.keyspace.specs.declared.txn.Txn.{Txn};
-ghost use Rattle.keyspace.specs.Writes.{counted};
+ghost use Rattle.keyspace.specs.Writes.{counted_ranges};
 ghost use Rattle.explanations.specs.Writers.{AddsWrites, IsIndexOf, IsNextWriter};
 
 use keyspace::{Entry, Txns, Verdict};
@@ -55,7 +55,7 @@ impl WriterIndex {
         requires few { length txns.now ≤ MAX_TXNS }
         requires within { txn < length txns.now }
         ensures adds { OnOk result ((t : Txn) → slice_get txns.now txn ≡ Some t
-            → AddsWrites self.old self.new txn (counted verdict t.writes)) }
+            → AddsWrites self.old self.new txn (counted_ranges verdict t.writes)) }
     {
         match verdict {
             Verdict::Committed => self.add_writes(txns, txn),

@@ -22,7 +22,7 @@ use Rattle.wire.specs.Fields.{BatchFields}
 use Rattle.wire.specs.Spelling.{single_key, is_single_key, TxnHolds, BatchHolds}
 use Rattle.wire.proofs.callers.Singles.{single_is}
 use Rattle.wire.proofs.callers.Numbers.{at_least}
-use Rattle.json_lines.specs.KeyForm.{backslash, is_printable, byte_form, key_form, after_byte, spelled_from, spelled}
+use Rattle.json_lines.specs.KeyForm.{backslash, is_printable, byte_form, key_form, after_byte, spelled_from, spelled_key}
 use Rattle.json_lines.specs.Values.{◌>>=◌, integer_of, each, count, list_in, are_among}
 use Rattle.json_lines.specs.Ranges.{key_within, ends_in, pair_in, range_in}
 use Rattle.json_lines.specs.Batches.{txn_in, txn_members, batch_in, batch_members, batch_of, are_versions}
@@ -31,17 +31,17 @@ use Rattle.json_lines.proofs.Numbers.{integer_parses}
 
 -- ---- keys
 
-form_reads_first : (b : ℕ) (rest : List ℕ) → b < 256 → spelled (byte_form b ++ rest) ≡ after_byte b (spelled rest)
+form_reads_first : (b : ℕ) (rest : List ℕ) → b < 256 → spelled_key (byte_form b ++ rest) ≡ after_byte b (spelled_key rest)
 unfolding byte_form spelled_from
 form_reads_first b rest small =
     elim (cases_Bool (b == backslash)) [
       | inl is ↦ let e : b ≡ 92 = eqb-true b 92 is in
-          subst (λ (x : ℕ). spelled (byte_form x ++ rest) ≡ after_byte x (spelled rest)) (sym e) refl
+          subst (λ (x : ℕ). spelled_key (byte_form x ++ rest) ≡ after_byte x (spelled_key rest)) (sym e) refl
       | inr other ↦ elim (cases_Bool (is_printable b)) [
         | inl shown ↦
             let form : byte_form b ≡ b ∷ [] = rw (other, shown) refl in
-            let read : spelled (b ∷ rest) ≡ after_byte b (spelled rest) = rw (other, shown) refl in
-            ap (λ (t : List ℕ). spelled (t ++ rest)) form ∙ read
+            let read : spelled_key (b ∷ rest) ≡ after_byte b (spelled_key rest) = rw (other, shown) refl in
+            ap (λ (t : List ℕ). spelled_key (t ++ rest)) form ∙ read
         | inr hidden ↦
             let h = digit_char (b / 16) in
             let l = digit_char (b % 16) in
@@ -52,14 +52,14 @@ form_reads_first b rest small =
             and_from (is_digit h 16) (is_digit l 16) (lt-ltb (digit_value h) 16 (omega (arith, high)))
             (lt-ltb (digit_value l) 16 (omega (arith, low))) in
             let value : digit_value h * 16 + digit_value l ≡ b = omega (arith, high, low) in
-            ap (λ (t : List ℕ). spelled (t ++ rest)) form
-            ∙ ap (λ (t : Bool). cond t (after_byte (digit_value h * 16 + digit_value l) (spelled rest)) None) tests
-            ∙ ap (λ (n : ℕ). after_byte n (spelled rest)) value
+            ap (λ (t : List ℕ). spelled_key (t ++ rest)) form
+            ∙ ap (λ (t : Bool). cond t (after_byte (digit_value h * 16 + digit_value l) (spelled_key rest)) None) tests
+            ∙ ap (λ (n : ℕ). after_byte n (spelled_key rest)) value
       ]
     ]
 
 -- every byte string has a printed form, which spells it
-pub form_reads : (key : List ℕ) → IsBytes key → spelled (key_form key) ≡ Some key
+pub form_reads : (key : List ℕ) → IsBytes key → spelled_key (key_form key) ≡ Some key
 unfolding spelled_from
 form_reads [] h = refl
 form_reads (b ∷ bs) h =

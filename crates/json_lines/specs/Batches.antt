@@ -5,7 +5,7 @@ use Rattle.json.specs.Find.{as_bool}
 use Rattle.keyspace.specs.declared.batch.TheConstants.{MAX_TXNS}
 use Rattle.wire.specs.Fields.{TxnFields, BatchFields}
 use Rattle.json_lines.specs.Names.{name_of}
-use Rattle.json_lines.specs.Values.{◌>>=◌, number_in, list_in, has_only, if_so, required, optional}
+use Rattle.json_lines.specs.Values.{◌>>=◌, number_in, list_in, has_only, if_so, required_member, optional}
 use Rattle.json_lines.specs.Ranges.{ranges_in}
 use Rattle.json_lines.specs.declared.member.Member.TheVariants.{Previous, Version, Received, Transactions, Snapshot, Report, Reads, Writes}
 
@@ -21,10 +21,10 @@ report_in j = optional as_bool false (name_of Report) j
 
 unfoldable pub txn_members : Json → Option TxnFields
 txn_members j = do
-  snapshot ← required number_in (name_of Snapshot) j
+  snapshot ← required_member number_in (name_of Snapshot) j
   report ← report_in j
-  reads ← required ranges_in (name_of Reads) j
-  writes ← required ranges_in (name_of Writes) j
+  reads ← required_member ranges_in (name_of Reads) j
+  writes ← required_member ranges_in (name_of Writes) j
   ok ← if_so (int_le (pos 0) snapshot)
   Some (record { snapshot = snapshot; marked = report; reads = reads; writes = writes })
 
@@ -46,10 +46,10 @@ are_versions previous version received =
 
 unfoldable pub batch_members : Json → Option BatchFields
 batch_members j = do
-  previous ← required number_in (name_of Previous) j
-  version ← required number_in (name_of Version) j
+  previous ← required_member number_in (name_of Previous) j
+  version ← required_member number_in (name_of Version) j
   received ← received_in j
-  txns ← required txns_in (name_of Transactions) j
+  txns ← required_member txns_in (name_of Transactions) j
   ok ← if_so (are_versions previous version received)
   Some (record { previous = previous; version = version; received = received; txns = txns })
 

@@ -55,8 +55,8 @@ spelled_from after_x (a ∷ b ∷ cs) =
     if is_digit a 16 && is_digit b 16 then after_byte (digit_value a * 16 + digit_value b) (spelled_from plain cs)
     else None
 
-abbrev pub spelled : List ℕ → Option (List ℕ)
-spelled text = spelled_from plain text
+abbrev pub spelled_key : List ℕ → Option (List ℕ)
+spelled_key text = spelled_from plain text
 
 -- the value of a hexadecimal digit
 abbrev pub hex_value : ℕ → Option ℕ

@@ -8,13 +8,13 @@ use Rattle.keyspace.specs.storage.Fields.{RangeFields}
 use Rattle.keyspace.specs.declared.txn.TheConstants.{MAX_RANGES}
 use Rattle.wire.specs.Spelling.{single_key}
 use Rattle.wire.specs.declared.single.TheConstants.{MAX_SINGLE_KEY_LENGTH}
-use Rattle.json_lines.specs.KeyForm.{spelled}
+use Rattle.json_lines.specs.KeyForm.{spelled_key}
 use Rattle.json_lines.specs.Values.{◌>>=◌, list_in}
 
 -- a key of at most n bytes
 unfoldable pub key_within : ℕ → List ℕ → Option (List ℕ)
 key_within limit text = do
-  key ← spelled text
+  key ← spelled_key text
   if nat_le (length key) limit then Some key else None
 
 -- the line, with its line feed or without one, spells the key

@@ -9,7 +9,7 @@ use Rattle.keyspace.specs.declared.reply.Verdict.{Verdict}
 use Rattle.keyspace.specs.declared.reply.Verdict.TheVariants as verdict
 use Rattle.wire.specs.Fields.{EntryFields, ReplyFields}
 use Rattle.json_lines.specs.Names.{name_of}
-use Rattle.json_lines.specs.Values.{◌>>=◌, number_in, list_in, has_only, if_so, required}
+use Rattle.json_lines.specs.Values.{◌>>=◌, number_in, list_in, has_only, if_so, required_member}
 use Rattle.json_lines.specs.declared.member.Member.TheVariants.{Version, Verdicts, Conflict}
 
 abbrev pub verdict_names : List ℕ → Option Verdict
@@ -48,7 +48,7 @@ conflict_with places = record { verdict = verdict.Conflict; places = places }
 -- a conflict with its report
 unfoldable pub report_in : Json → Option EntryFields
 report_in j =
-    if_so (has_only (name_of Conflict ∷ []) j) >>= λ _. option_map conflict_with (required places_in (name_of Conflict) j)
+    if_so (has_only (name_of Conflict ∷ []) j) >>= λ _. option_map conflict_with (required_member places_in (name_of Conflict) j)
 
 abbrev pub plain_in : List ℕ → Option EntryFields
 plain_in word = option_map plain_entry (verdict_names word)
@@ -69,8 +69,8 @@ entries_in j = list_in entry_in MAX_TXNS j
 
 unfoldable pub reply_members : Json → Option ReplyFields
 reply_members j = do
-  version ← required number_in (name_of Version) j
-  entries ← required entries_in (name_of Verdicts) j
+  version ← required_member number_in (name_of Version) j
+  entries ← required_member entries_in (name_of Verdicts) j
   ok ← if_so (int_le (pos 0) version)
   Some (record { version = version; entries = entries })
 

@@ -47,12 +47,12 @@ count no_items = 0
 count (item j js) = suc (count js)
 
 -- the items of an array of at most n of them
-abbrev pub limited : ℕ → Json → Option Items
-limited limit j = as_array j >>= λ js. if nat_le (count js) limit then Some js else None
+abbrev pub items_at_most : ℕ → Json → Option Items
+items_at_most limit j = as_array j >>= λ js. if nat_le (count js) limit then Some js else None
 
 -- an array of at most n items, each read
 unfoldable pub list_in : {A : Type 0} → (Json → Option A) → ℕ → Json → Option (List A)
-list_in one limit j = limited limit j >>= each one
+list_in one limit j = items_at_most limit j >>= each one
 
 -- a member of that name is there
 abbrev pub has_member : List ℕ → Members → Bool
@@ -75,8 +75,8 @@ has_only names (array js) = false
 has_only names (object ms) = are_among names ms
 
 -- a member that has to be there, read
-abbrev pub required : {A : Type 0} → (Json → Option A) → List ℕ → Json → Option A
-required one name j = get name j >>= one
+abbrev pub required_member : {A : Type 0} → (Json → Option A) → List ℕ → Json → Option A
+required_member one name j = get name j >>= one
 
 -- a member with a default if it is missing
 abbrev pub optional_or : {A : Type 0} → (Json → Option A) → A → Option Json → Option A

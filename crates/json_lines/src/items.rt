@@ -3,7 +3,7 @@
 ghost use Rattle.std.specs.Prelude.{◌≡◌, ◌≤◌, IfOk, vec_len};
 ghost use Rattle.json.specs.Find.{as_array};
 ghost use Rattle.json.specs.Value.{value_view, items_view};
-ghost use Rattle.json_lines.specs.Values.{Reads, limited};
+ghost use Rattle.json_lines.specs.Values.{Reads, items_at_most};
 
 use crate::cause::Cause;
 use crate::place::LinePlace;
@@ -32,7 +32,7 @@ pub fn few_items_of<'v, 'a>(
     place: LinePlace,
 ) -> Result<&'v Vec<Value<'a>>, LineRefusal>
     ensures reads { Reads (λ items. items_view items.now.items) result
-        (limited limit (value_view value.now)) }
+        (items_at_most limit (value_view value.now)) }
     ensures few { IfOk result (λ items. vec_len items.now ≤ limit) }
 {
     let items = items_of(value, place)?;

@@ -4,7 +4,7 @@ ghost use Rattle.std.specs.Prelude.{◌≡◌, ◌<◌, ◌++◌, ◌∷◌, [],
 ghost use Rattle.std.specs.Prelude.{vec_len, option_map};
 ghost use Rattle.std.specs.Char.{digit_char};
 ghost use Rattle.json_lines.specs.KeyForm.{is_printable, byte_form, key_form, hex_value, number_at};
-ghost use Rattle.json_lines.specs.KeyForm.{escaped_at, byte_at, quoted_key, spelled};
+ghost use Rattle.json_lines.specs.KeyForm.{escaped_at, byte_at, quoted_key, spelled_key};
 ghost use Rattle.keys.specs.declared.key.TheConstants.{MAX_KEY_LENGTH};
 ghost use Rattle.json_lines.specs.Ranges.{IsKeyLine, key_within};
 ghost use Rattle.json_lines.specs.Values.{Reads};
@@ -181,7 +181,7 @@ fn key_within(
 
 // Reads a key from its text.
 fn bytes_of(alloc: Global, text: &[u8], place: LinePlace) -> Result<Vec<u8>, LineRefusal>
-    ensures reads { Reads (λ key. key.items) result (spelled text.now) }
+    ensures reads { Reads (λ key. key.items) result (spelled_key text.now) }
 {
     let mut key = Vec::new(alloc);
     let mut rest = text;

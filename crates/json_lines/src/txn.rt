@@ -5,7 +5,7 @@ ghost use Rattle.json.specs.Value.{value_view, items_view};
 ghost use Rattle.keyspace.specs.storage.Fields.{txn_fields};
 ghost use Rattle.keyspace.specs.declared.batch.TheConstants.{MAX_TXNS};
 ghost use Rattle.json_lines.specs.Batches.{txn_in, txn_members, report_in, txns_in};
-ghost use Rattle.json_lines.specs.Values.{Reads, each, number_in, required};
+ghost use Rattle.json_lines.specs.Values.{Reads, each, number_in, required_member};
 ghost use Rattle.json_lines.specs.Names.{name_of};
 
 use crate::cause::Cause;
@@ -83,7 +83,7 @@ fn members_of(alloc: Global, value: &Value<'_>, place: LinePlace) -> Result<Txn,
 /// Reads the integer of a required member.
 pub fn number_at(value: &Value<'_>, member: Member, place: LinePlace) -> Result<i64, LineRefusal>
     ensures reads { Reads (λ n. n) result
-        (required number_in (name_of member) (value_view value.now)) }
+        (required_member number_in (name_of member) (value_view value.now)) }
 {
     let place = place.member(member);
     number_of(required(value, member, place)?, place)

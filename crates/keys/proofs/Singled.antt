@@ -16,7 +16,7 @@ use Rattle.keys.specs.Range.{is_filled, IsEmpty, IsSingle, Meets}
 use Rattle.keys.specs.GapRuns.{filled_from, rank, run_or_none, runs_of, AreRanked, HaveBegin, GapRunsView}
 use Rattle.keys.specs.Sorting.{begin_at, begin_of, indices_of, AreInBeginOrder}
 use Rattle.keys.specs.Numbering.{run_at, IsFilledAt, IsNumbered, OthersStay}
-use Rattle.keys.specs.Singles.{counts_at, is_in_cells, is_marked, picked, AreInCells, AreNumberedAmong, AreRankedFor, HaveInOrder, IsRankedAs, IsSingleAt}
+use Rattle.keys.specs.Singles.{counts_at, is_in_cells, is_marked, marked_ranges, AreInCells, AreNumberedAmong, AreRankedFor, HaveInOrder, IsRankedAs, IsSingleAt}
 use Rattle.keys.specs.declared.range.Range.{Range}
 use Rattle.keys.specs.declared.gap_runs.begin_sort.HeadedIndex.{HeadedIndex}
 use Rattle.keys.proofs.callers.KeyOrder.{at_most_antisym, at_most_itself}
@@ -44,8 +44,8 @@ single_filled range single =
     filled_unless range (λ empty. absurd (omega (arith, ap length (empty ∙ single), length_push range.begin 0)))
 
 -- the empty range where another begins
-emptied : Range → Range
-emptied range = record {
+empty_at_begin : Range → Range
+empty_at_begin range = record {
   begin = range.begin;
   end = range.begin;
   begin_is_key = range.begin_is_key;
@@ -55,7 +55,7 @@ emptied range = record {
 
 -- what a range is ranked as
 pub ranked_in : List Bool → Range → Range
-ranked_in cells range = cond (is_in_cells cells (hash_of range.begin)) range (emptied range)
+ranked_in cells range = cond (is_in_cells cells (hash_of range.begin)) range (empty_at_begin range)
 
 -- what passes is kept
 contains_passed : (p : ℕ → Bool) (xs : List ℕ) (x : ℕ) → Contains xs x → p x ≡ true → Contains (filter p xs) x
@@ -130,13 +130,13 @@ module _ (p : ℕ → Bool) (ranges : List Range) (headed : List HeadedIndex)
 -- what holds of each range that is marked holds of those picked
 all_picked : (P : Range → Type 0) (marks : List Bool) (ranges : List Range)
     → ((index : ℕ) (range : Range) → slice_get ranges index ≡ Some range → is_marked marks index ≡ true → P range)
-    → All P (picked marks ranges)
+    → All P (marked_ranges marks ranges)
 all_picked P [] ranges holds = All-nil P
 all_picked P (mark ∷ marks) [] holds = All-nil P
 all_picked P (mark ∷ marks) (range ∷ ranges) holds =
     let rest = all_picked P marks ranges (λ index other at marked. holds (suc index) other at marked) in
-    elim mark as (λ b. mark ≡ b → All P (cond b (range ∷ picked marks ranges) (picked marks ranges))) [
-      | true ↦ λ marked. All-cons P range (picked marks ranges) (holds 0 range refl marked) rest
+    elim mark as (λ b. mark ≡ b → All P (cond b (range ∷ marked_ranges marks ranges) (marked_ranges marks ranges))) [
+      | true ↦ λ marked. All-cons P range (marked_ranges marks ranges) (holds 0 range refl marked) rest
       | false ↦ λ unmarked. rest
     ] refl
 
@@ -183,8 +183,8 @@ module _ (ranges : List Range) (hashes : List (Option ℕ)) (singles : All IsSin
 
     -- a range outside the cells meets none of those that are marked
     ranked_by : (range : Range) (b : Bool) → IsSingle range → is_in_cells cells (hash_of range.begin) ≡ b
-        → IsRankedAs (picked marks ranges) range (cond b range (emptied range))
-    unfolding emptied
+        → IsRankedAs (marked_ranges marks ranges) range (cond b range (empty_at_begin range))
+    unfolding empty_at_begin
     ranked_by range true single e = inl refl
     ranked_by range false single e =
         inr (
@@ -195,17 +195,17 @@ module _ (ranges : List Range) (hashes : List (Option ℕ)) (singles : All IsSin
               (ap (λ key. is_in_cells cells (hash_of key)) (sym same) ∙ e) (in_cell index other at marked)),
         )
 
-    pub each_ranked : All (λ range. IsRankedAs (picked marks ranges) range (ranked_in cells range)) ranges
+    pub each_ranked : All (λ range. IsRankedAs (marked_ranges marks ranges) range (ranked_in cells range)) ranges
     unfolding ranked_in
     each_ranked k d lt =
         let range = get_or ranges k d in
         ranked_by range (is_in_cells cells (hash_of range.begin)) (singles k d lt) refl
 
-    pub ranked_itself : All (λ range. ranked_in cells range ≡ range) (picked marks ranges)
+    pub ranked_itself : All (λ range. ranked_in cells range ≡ range) (marked_ranges marks ranges)
     unfolding ranked_in
     ranked_itself =
         all_picked (λ range. ranked_in cells range ≡ range) marks ranges (λ index range at marked.
-        ap (λ b. cond b range (emptied range)) (in_cell index range at marked))
+        ap (λ b. cond b range (empty_at_begin range)) (in_cell index range at marked))
 
     counts_if_in : (index : ℕ) (range : Range) (b : Bool) → slice_get ranges index ≡ Some range
         → is_in_cells cells (hash_of range.begin) ≡ b → counts_at cells ranges index ≡ b
@@ -255,8 +255,8 @@ module _ (ranges : List Range) (hashes : List (Option ℕ)) (singles : All IsSin
             (begin_of_listed ranges headed index (listed index range at determined)))
 
         begin_by : (index : ℕ) (range : Range) (b : Bool) → slice_get ranges index ≡ Some range
-            → is_in_cells cells (hash_of range.begin) ≡ b → HaveBegin keys (cond b range (emptied range))
-        unfolding emptied
+            → is_in_cells cells (hash_of range.begin) ≡ b → HaveBegin keys (cond b range (empty_at_begin range))
+        unfolding empty_at_begin
         begin_by index range true at determined filled = has_key index range at determined
         begin_by index range false at determined filled = absurd (filled refl)
 
@@ -268,8 +268,8 @@ module _ (ranges : List Range) (hashes : List (Option ℕ)) (singles : All IsSin
 
         run_by : (index : ℕ) (range : Range) (b : Bool) → slice_get ranges index ≡ Some range
             → is_in_cells cells (hash_of range.begin) ≡ b
-            → run_at runs index ≡ run_or_none keys (cond b range (emptied range))
-        unfolding emptied
+            → run_at runs index ≡ run_or_none keys (cond b range (empty_at_begin range))
+        unfolding empty_at_begin
         run_by index range true at determined =
             let single = single_at index range at in
             let filled = single_filled range single in
@@ -283,7 +283,7 @@ module _ (ranges : List Range) (hashes : List (Option ℕ)) (singles : All IsSin
             (listed index range at determined)
             ∙ own ∙ sym (ap (λ b. cond b (rank keys range.begin, rank keys range.end) (0, 0)) filled)
         run_by index range false at determined =
-            let empty : is_filled (emptied range) ≡ false = empty_if (emptied range) refl in
+            let empty : is_filled (empty_at_begin range) ≡ false = empty_if (empty_at_begin range) refl in
             others index (λ has.
             not_true (counts_at cells ranges index) (counts_if_in index range false at determined) (listed_counts index has))
             ∙ ap (λ rs. run_at rs index) none

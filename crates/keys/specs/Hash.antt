@@ -7,8 +7,8 @@ use Rattle.keys.specs.declared.key_hashes.TheConstants.{FACTOR}
 use Rattle.keys.specs.declared.range.Range.{Range}
 
 -- a word of eight bytes is mixed in
-abbrev pub mixed : ℕ → ℕ → ℕ
-mixed hash word = ((hash * FACTOR) % 2 ^ 64 + word) % 2 ^ 64
+abbrev pub mixed_hash : ℕ → ℕ → ℕ
+mixed_hash hash word = ((hash * FACTOR) % 2 ^ 64 + word) % 2 ^ 64
 
 -- where the last eight bytes of a key begin; at its begin where it has fewer
 abbrev pub last_eight : List ℕ → ℕ
@@ -23,7 +23,7 @@ places_of key =
 -- the words at these places, mixed into the length
 unfoldable pub mixture_of : List ℕ → ℕ
 mixture_of key =
-    (fold (λ hash place. mixed hash (head_of (drop place key))) (length key) (places_of key) * FACTOR) % 2 ^ 64
+    (fold (λ hash place. mixed_hash hash (head_of (drop place key))) (length key) (places_of key) * FACTOR) % 2 ^ 64
 
 -- the high half of that, in which keys differ that differ in a few bytes
 abbrev pub hash_of : List ℕ → ℕ

@@ -13,10 +13,10 @@ abbrev pub is_marked : List Bool → ℕ → Bool
 is_marked marks index = slice_index_or marks index false
 
 -- the ranges whose mark is set, in order
-abbrev pub picked : List Bool → List Range → List Range
-picked [] ranges = []
-picked (mark ∷ marks) [] = []
-picked (mark ∷ marks) (range ∷ ranges) = if mark then range ∷ picked marks ranges else picked marks ranges
+abbrev pub marked_ranges : List Bool → List Range → List Range
+marked_ranges [] ranges = []
+marked_ranges (mark ∷ marks) [] = []
+marked_ranges (mark ∷ marks) (range ∷ ranges) = if mark then range ∷ marked_ranges marks ranges else marked_ranges marks ranges
 
 -- the range meets none of the others
 abbrev pub MeetsNone : List Range → Range → Type 0

@@ -2,7 +2,7 @@
 
 ghost use Rattle.std.specs.Prelude.{◌≡◌, ◌↔◌, ◌^◌, ◌<◌, List, All, Any, IfOk, IsTrue};
 ghost use Rattle.keys.specs.Head.{head_of};
-ghost use Rattle.keys.specs.Hash.{hash_of, mixed, mixture_of, AreHashesOf};
+ghost use Rattle.keys.specs.Hash.{hash_of, mixed_hash, mixture_of, AreHashesOf};
 ghost use Rattle.keys.specs.Range.{IsSingle};
 ghost use Rattle.keys.specs.declared.range.Range.{Range};
 
@@ -88,7 +88,7 @@ fn mixture(key: &[u8]) -> u64
 
 // Mixes in the first eight bytes.
 fn mix(hash: u64, bytes: &[u8]) -> u64
-    ensures mixed { result ≡ mixed hash (head_of bytes.now) }
+    ensures mixed { result ≡ mixed_hash hash (head_of bytes.now) }
 {
     hash.wrapping_mul(FACTOR).wrapping_add(key_head(bytes))
 }

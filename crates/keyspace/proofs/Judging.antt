@@ -40,7 +40,7 @@ use Rattle.keyspace.specs.declared.reply.Verdict.{Verdict}
 use Rattle.keyspace.specs.declared.reply.Verdict.TheVariants.{Conflict, TooOld, Committed}
 use Rattle.keyspace.specs.declared.reply.Entry.{Entry}
 use Rattle.keyspace.specs.declared.reply.Reply.{Reply}
-use Rattle.keyspace.specs.Writes.{Write, counted, committed}
+use Rattle.keyspace.specs.Writes.{Write, counted_ranges, committed_ranges}
 use Rattle.keyspace.specs.Judged.{
   edge,
   IsTooOld,
@@ -318,8 +318,8 @@ module _ (ws : List Write) (earlier : List Range) (t : Txn) where
 abbrev pub Entries : ℤ → List Write → List Range → List Txn → List Entry → Type 0
 Entries edge ws before ts es = (j : ℕ) (t : Txn) (e : Entry) → slice_get ts j ≡ Some t
     → slice_get es j ≡ Some e →
-    HasVerdict edge ws (before ++ committed (take j ts) (take j es)) t e.verdict
-    × HasReport ws (before ++ committed (take j ts) (take j es)) t e
+    HasVerdict edge ws (before ++ committed_ranges (take j ts) (take j es)) t e.verdict
+    × HasReport ws (before ++ committed_ranges (take j ts) (take j es)) t e
 
 some_same : {A : Type 0} (a b : A) → Some a ≡ Some b → a ≡ b
 some_same a b e = cc
@@ -338,8 +338,8 @@ entries_judged edge ws before (s ∷ ts) zero t e p q =
       judge_txn-report ws before s edge,
     )
 entries_judged edge ws before (s ∷ ts) (suc j) t e p q =
-    let own = counted (judge_txn edge ws before s).verdict s.writes in
-    let rest = committed (take j ts) (take j (judge_txns edge ws (before ++ own) ts)) in
+    let own = counted_ranges (judge_txn edge ws before s).verdict s.writes in
+    let rest = committed_ranges (take j ts) (take j (judge_txns edge ws (before ++ own) ts)) in
     subst (λ ranges. HasVerdict edge ws ranges t e.verdict
     × HasReport ws ranges t e) (append_assoc before own rest)
     (entries_judged edge ws (before ++ own) ts j t e p q)
@@ -354,13 +354,13 @@ same_entries edge ws before (t ∷ ts) (e ∷ es) n h =
     subst (λ ranges. HasVerdict edge ws ranges t e.verdict
     × HasReport ws ranges t e) (append-nil before) (h 0 t e refl refl) in
     let same = same_entry ws before t edge e first.0 first.1 in
-    let own = counted e.verdict t.writes in
+    let own = counted_ranges e.verdict t.writes in
     let more : es ≡ judge_txns edge ws (before ++ own) ts =
     same_entries edge ws (before ++ own) ts es (omega arith)
     (λ j u f p q. subst (λ ranges. HasVerdict edge ws ranges u f.verdict
-    × HasReport ws ranges u f) (sym (append_assoc before own (committed (take j ts) (take j es))))
+    × HasReport ws ranges u f) (sym (append_assoc before own (committed_ranges (take j ts) (take j es))))
     (h (suc j) u f p q)) in
-    let tails = ap (λ (x : Entry). judge_txns edge ws (before ++ counted x.verdict t.writes) ts) same in
+    let tails = ap (λ (x : Entry). judge_txns edge ws (before ++ counted_ranges x.verdict t.writes) ts) same in
     cc
 
 -- `judge` gives a reply that is right

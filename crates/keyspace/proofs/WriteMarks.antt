@@ -2,7 +2,7 @@
 use Rattle.std.proofs.Common.{◌≡◌, ℕ, ◌-◌, ◌+◌, ◌<◌, ◌≤◌, Bool, true, false, List, [], ◌∷◌, ◌++◌, length, map, filter, take, drop, get_or, replicate, flat_map, slice_range, refl, sym, ap, ap₂, subst, ◌∙◌, arith, All, append-nil, append_assoc, length-append, length-drop, length-take}
 use Rattle.std.proofs.lemmas.List.{length-map, length-replicate, take_all, take_more}
 use Rattle.keys.specs.GapRuns.{AreChosenInOrder}
-use Rattle.keys.specs.Singles.{is_marked, picked, HaveInOrder}
+use Rattle.keys.specs.Singles.{is_marked, marked_ranges, HaveInOrder}
 use Rattle.keys.specs.declared.range.Range.{Range}
 use Rattle.keys.proofs.callers.Picked.{picked-append, picked-replicate}
 use Rattle.keys.proofs.callers.GapRuns.{chosen_among}
@@ -112,7 +112,7 @@ by_rows buffer spans from (row ∷ rows) to are within =
     ∙ ap₂ ◌++◌ (ap₂ marks_for (sym count) (sym more)) (by_rows buffer spans row.end rows to are.1 within)
 
 -- the write ranges are those whose marks are set
-picked_of_txn : (t : Txn) → picked (marks_of_txn t) (ranges_of_txn t) ≡ t.writes
+picked_of_txn : (t : Txn) → marked_ranges (marks_of_txn t) (ranges_of_txn t) ≡ t.writes
 picked_of_txn t =
     picked-append (replicate (length t.reads) false) (replicate (length t.writes) true) t.reads t.writes
     (length-replicate (length t.reads) false)
@@ -127,7 +127,7 @@ marks_count t = omega (
   length-append t.reads t.writes,
 )
 
-picked_writes : (txns : List Txn) → picked (write_marks txns) (ranges_in txns) ≡ writes_in txns
+picked_writes : (txns : List Txn) → marked_ranges (write_marks txns) (ranges_in txns) ≡ writes_in txns
 picked_writes [] = refl
 picked_writes (t ∷ txns) =
     picked-append (marks_of_txn t) (write_marks txns) (ranges_of_txn t) (ranges_in txns) (marks_count t)
@@ -160,6 +160,6 @@ module _ (buffer : List ℕ) (spans : List Span) (rows : List Row) (tables : Are
 
   -- and those picked
   pub picked_reported : (marks : List Bool) (ranges : List Range) → marks ≡ marks_of_rows rows → ranges ≡ ranges_in txns
-      → picked marks ranges ≡ writes_in txns
+      → marked_ranges marks ranges ≡ writes_in txns
   picked_reported marks ranges same_marks same_ranges =
-      ap₂ picked (same_marks ∙ marks_reported) same_ranges ∙ picked_writes txns
+      ap₂ marked_ranges (same_marks ∙ marks_reported) same_ranges ∙ picked_writes txns

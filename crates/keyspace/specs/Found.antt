@@ -29,12 +29,12 @@ is_received ps proxy version =
     list_any (λ p. (p.proxy == proxy) && int_le version p.batch.received) ps
 
 -- the reply of the proxy's batch of this version, unless a later batch of the proxy has given it up
-abbrev pub kept : List Processed → ℕ → ℤ → Option Reply
-kept [] proxy version = None
-kept (p ∷ ps) proxy version =
+abbrev pub kept_reply : List Processed → ℕ → ℤ → Option Reply
+kept_reply [] proxy version = None
+kept_reply (p ∷ ps) proxy version =
     if (p.proxy == proxy) && int_eq p.batch.version version && not (is_received ps proxy version)
     then Some p.reply
-    else kept ps proxy version
+    else kept_reply ps proxy version
 
 abbrev pub reply_or_never : ℤ → Option Reply → Answer
 reply_or_never version (Some reply) = answers.Reply reply
@@ -42,4 +42,4 @@ reply_or_never version None = answers.Never version
 
 -- the answer to a repeat of the proxy's batch of this version
 abbrev pub found : List Processed → ℕ → ℤ → Answer
-found ps proxy version = reply_or_never version (kept ps proxy version)
+found ps proxy version = reply_or_never version (kept_reply ps proxy version)

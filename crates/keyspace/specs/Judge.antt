@@ -31,7 +31,7 @@ use Rattle.keyspace.specs.declared.reply.Entry.{Entry}
 use Rattle.keyspace.specs.declared.reply.Reply.{Reply}
 use Rattle.keyspace.specs.declared.batch.TheConstants.{MAX_TXNS}
 use Rattle.keys.specs.Range.{ranges_meet}
-use Rattle.keyspace.specs.Writes.{Write, counted}
+use Rattle.keyspace.specs.Writes.{Write, counted_ranges}
 use Rattle.keyspace.specs.Judged.{edge}
 
 abbrev pub is_too_old : ℤ → Txn → Bool
@@ -82,7 +82,7 @@ judge_txn oldest ws written t =
 
 -- the ranges written by then, with those of this transaction where they count
 abbrev pub written_with : ℤ → List Write → List Range → Txn → List Range
-written_with oldest ws written t = written ++ counted (judge_txn oldest ws written t).verdict t.writes
+written_with oldest ws written t = written ++ counted_ranges (judge_txn oldest ws written t).verdict t.writes
 
 -- in order, each after the writes of those before it
 abbrev pub judge_txns : ℤ → List Write → List Range → List Txn → List Entry

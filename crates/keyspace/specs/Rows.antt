@@ -82,18 +82,18 @@ plain_answer (reported.Reply r) = Replied (number_of r.version) (map (λ e. (e.v
 plain_answer (reported.Never version) = Never (number_of version)
 plain_answer (reported.Held version) = Held (number_of version)
 
-abbrev pub answered : List Step → ℕ → List PlainAnswer
-answered log proxy = map plain_answer (answers WINDOW log proxy)
+abbrev pub plain_answers : List Step → ℕ → List PlainAnswer
+plain_answers log proxy = map plain_answer (answers WINDOW log proxy)
 
-abbrev pub committed : Verdict × List ℕ
-committed = (Committed, [])
+abbrev pub committed_entry : Verdict × List ℕ
+committed_entry = (Committed, [])
 
-abbrev pub too_old : Verdict × List ℕ
-too_old = (TooOld, [])
+abbrev pub too_old_entry : Verdict × List ℕ
+too_old_entry = (TooOld, [])
 
 -- in conflict, with the places of the report
-abbrev pub conflict : List ℕ → Verdict × List ℕ
-conflict places = (Conflict, places)
+abbrev pub conflict_entry : List ℕ → Verdict × List ℕ
+conflict_entry places = (Conflict, places)
 
 -- the key of one letter
 abbrev pub letter : ℕ → List ℕ
@@ -151,7 +151,7 @@ module _ (limits : Limits) where
   opening = Take 0 (batch (negsuc 0) 0 (negsuc 0) [] refl)
 
   abbrev pub after_opening : List Step → List PlainAnswer
-  after_opening log = answered (opening ∷ log) 0
+  after_opening log = plain_answers (opening ∷ log) 0
 
   -- [a, b), [b, c), [c, d), [e, f), [x, y)
   abbrev pub ab : Range
@@ -215,61 +215,61 @@ module _ (limits : Limits) where
   pub record WorkedRows : Type 0 where
     pub empty_batch : after_opening [] ≡ Replied 0 [] ∷ []
     pub snapshot_at_write : after_opening (write_then_read 100)
-        ≡ Replied 0 [] ∷ Replied 100 (committed ∷ []) ∷ Replied 200 (committed ∷ []) ∷ []
+        ≡ Replied 0 [] ∷ Replied 100 (committed_entry ∷ []) ∷ Replied 200 (committed_entry ∷ []) ∷ []
     pub snapshot_before_write : after_opening (write_then_read 99)
-        ≡ Replied 0 [] ∷ Replied 100 (committed ∷ []) ∷ Replied 200 (conflict [] ∷ []) ∷ []
+        ≡ Replied 0 [] ∷ Replied 100 (committed_entry ∷ []) ∷ Replied 200 (conflict_entry [] ∷ []) ∷ []
     pub snapshot_at_edge : after_opening (write_then_read_at_edge 100)
-        ≡ Replied 0 [] ∷ Replied 100 (committed ∷ []) ∷ Replied 5000100 (committed ∷ []) ∷ []
+        ≡ Replied 0 [] ∷ Replied 100 (committed_entry ∷ []) ∷ Replied 5000100 (committed_entry ∷ []) ∷ []
     pub snapshot_below_edge : after_opening (write_then_read_at_edge 99)
-        ≡ Replied 0 [] ∷ Replied 100 (committed ∷ []) ∷ Replied 5000100 (too_old ∷ []) ∷ []
+        ≡ Replied 0 [] ∷ Replied 100 (committed_entry ∷ []) ∷ Replied 5000100 (too_old_entry ∷ []) ∷ []
     pub write_only_far_ahead : after_opening (sent 0 9000000 (write_ab ∷ []) refl ∷ [])
-        ≡ Replied 0 [] ∷ Replied 9000000 (committed ∷ []) ∷ []
+        ≡ Replied 0 [] ∷ Replied 9000000 (committed_entry ∷ []) ∷ []
     pub same_batch_ignores_snapshot : after_opening
         (sent 0 100 (txn 0 false [] (single ∷ []) refl ∷ txn 100 true (single ∷ []) [] refl ∷ []) refl ∷ [])
-        ≡ Replied 0 [] ∷ Replied 100 (committed ∷ conflict (0 ∷ []) ∷ []) ∷ []
+        ≡ Replied 0 [] ∷ Replied 100 (committed_entry ∷ conflict_entry (0 ∷ []) ∷ []) ∷ []
     pub conflict_writes_do_not_count : after_opening
         (sent 0 100 (write_ab ∷ txn 0 false (ab ∷ []) (xy ∷ []) refl ∷ txn 0 false (xy ∷ []) [] refl
         ∷ []) refl ∷ [])
-        ≡ Replied 0 [] ∷ Replied 100 (committed ∷ conflict [] ∷ committed ∷ []) ∷ []
+        ≡ Replied 0 [] ∷ Replied 100 (committed_entry ∷ conflict_entry [] ∷ committed_entry ∷ []) ∷ []
     pub touching_ranges_do_not_meet : after_opening
         (sent 0 100 (txn 0 false [] (bc ∷ []) refl ∷ []) refl ∷ sent 100 200 (read_ab 0 ∷ []) refl ∷ [])
-        ≡ Replied 0 [] ∷ Replied 100 (committed ∷ []) ∷ Replied 200 (committed ∷ []) ∷ []
+        ≡ Replied 0 [] ∷ Replied 100 (committed_entry ∷ []) ∷ Replied 200 (committed_entry ∷ []) ∷ []
     pub empty_read_range : after_opening
         (sent 0 100 (txn 0 false [] (range (letter 97) (letter 122) refl ∷ []) refl ∷ []) refl
         ∷ sent 100 200 (txn 0 false (nothing ∷ []) [] refl ∷ []) refl
         ∷ sent 200 5000100 (txn 99 false (nothing ∷ []) [] refl ∷ []) refl ∷ [])
-        ≡ Replied 0 [] ∷ Replied 100 (committed ∷ []) ∷ Replied 200 (committed ∷ [])
-        ∷ Replied 5000100 (too_old ∷ []) ∷ []
+        ≡ Replied 0 [] ∷ Replied 100 (committed_entry ∷ []) ∷ Replied 200 (committed_entry ∷ [])
+        ∷ Replied 5000100 (too_old_entry ∷ []) ∷ []
     pub report_history_hits : after_opening (reads_of_three 50)
-        ≡ Replied 0 [] ∷ Replied 100 (committed ∷ []) ∷ Replied 200 (committed ∷ conflict (0 ∷ 2 ∷ []) ∷ [])
+        ≡ Replied 0 [] ∷ Replied 100 (committed_entry ∷ []) ∷ Replied 200 (committed_entry ∷ conflict_entry (0 ∷ 2 ∷ []) ∷ [])
         ∷ []
     pub report_batch_place : after_opening (reads_of_three 100)
-        ≡ Replied 0 [] ∷ Replied 100 (committed ∷ []) ∷ Replied 200 (committed ∷ conflict (1 ∷ []) ∷ []) ∷ []
+        ≡ Replied 0 [] ∷ Replied 100 (committed_entry ∷ []) ∷ Replied 200 (committed_entry ∷ conflict_entry (1 ∷ []) ∷ []) ∷ []
     pub batch_place_skips_empty_range : after_opening
         (sent 0 100 (txn 0 false [] (range (letter 97) (letter 99) refl ∷ range (letter 101) (letter 103) refl
         ∷ []) refl
         ∷ txn 0 true (range (letter 99) (letter 101) refl ∷ range (letter 98) (letter 98) refl
         ∷ range (letter 102) (letter 104) refl ∷ []) [] refl ∷ []) refl ∷ [])
-        ≡ Replied 0 [] ∷ Replied 100 (committed ∷ conflict (2 ∷ []) ∷ []) ∷ []
+        ≡ Replied 0 [] ∷ Replied 100 (committed_entry ∷ conflict_entry (2 ∷ []) ∷ []) ∷ []
     pub repeat_answered_again : after_opening
         (sent 0 100 (read_and_write_ab ∷ []) refl ∷ sent 0 100 (read_and_write_ab ∷ []) refl ∷ [])
-        ≡ Replied 0 [] ∷ Replied 100 (committed ∷ []) ∷ Replied 100 (committed ∷ []) ∷ []
+        ≡ Replied 0 [] ∷ Replied 100 (committed_entry ∷ []) ∷ Replied 100 (committed_entry ∷ []) ∷ []
     -- the second batch says that the reply of the first was received
     pub repeat_after_given_up : after_opening
         (sent 0 100 (write_ab ∷ []) refl ∷ Take 0 (batch (pos 100) 200 (pos 100) [] refl)
         ∷ sent 0 100 (write_ab ∷ []) refl ∷ [])
-        ≡ Replied 0 [] ∷ Replied 100 (committed ∷ []) ∷ Replied 200 [] ∷ Never 100 ∷ []
-    pub repeat_by_another_proxy : answered repeated_by_another 0 ≡ Replied 0 [] ∷ Never 100 ∷ []
-    pub repeat_by_another_proxy_to_proxy_1 : answered repeated_by_another 1 ≡ Replied 100 [] ∷ []
+        ≡ Replied 0 [] ∷ Replied 100 (committed_entry ∷ []) ∷ Replied 200 [] ∷ Never 100 ∷ []
+    pub repeat_by_another_proxy : plain_answers repeated_by_another 0 ≡ Replied 0 [] ∷ Never 100 ∷ []
+    pub repeat_by_another_proxy_to_proxy_1 : plain_answers repeated_by_another 1 ≡ Replied 100 [] ∷ []
     pub held_repeat_answered_twice : after_opening
         (empty_from 0 100 200 refl ∷ empty_from 0 100 200 refl ∷ empty_from 0 0 100 refl ∷ [])
         ≡ Replied 0 [] ∷ Replied 100 [] ∷ Replied 200 [] ∷ Replied 200 [] ∷ []
     pub held_overtaken : after_opening
         (empty_from 0 150 300 refl ∷ empty_from 0 100 200 refl ∷ empty_from 0 0 100 refl ∷ [])
         ≡ Replied 0 [] ∷ Replied 100 [] ∷ Replied 200 [] ∷ Never 300 ∷ []
-    pub least_previous_leaves_first : answered left_in_turn 0
+    pub least_previous_leaves_first : plain_answers left_in_turn 0
         ≡ Replied 0 [] ∷ Replied 100 [] ∷ Never 160 ∷ []
-    pub least_previous_leaves_first_to_proxy_1 : answered left_in_turn 1 ≡ Never 55 ∷ Replied 200 [] ∷ []
+    pub least_previous_leaves_first_to_proxy_1 : plain_answers left_in_turn 1 ≡ Never 55 ∷ Replied 200 [] ∷ []
     pub off_chain_and_held : after_opening
         (empty_from 0 0 100 refl ∷ empty_from 0 100 200 refl ∷ empty_from 0 150 300 refl
         ∷ empty_from 0 900 1000 refl ∷ Finish ∷ [])

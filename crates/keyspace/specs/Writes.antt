@@ -28,20 +28,20 @@ abbrev pub ranges_of : List Write → List Range
 ranges_of ws = map (λ w. w.range) ws
 
 -- what counts of a transaction's write ranges under this verdict: those of a committed transaction, and no other
-abbrev pub counted : Verdict → List Range → List Range
-counted Committed ranges = ranges
-counted TooOld ranges = []
-counted Conflict ranges = []
+abbrev pub counted_ranges : Verdict → List Range → List Range
+counted_ranges Committed ranges = ranges
+counted_ranges TooOld ranges = []
+counted_ranges Conflict ranges = []
 
 -- the write ranges of the transactions whose entries say committed, in order
-abbrev pub committed : List Txn → List Entry → List Range
-committed (t ∷ ts) (e ∷ es) = counted e.verdict t.writes ++ committed ts es
-committed [] es = []
-committed (t ∷ ts) [] = []
+abbrev pub committed_ranges : List Txn → List Entry → List Range
+committed_ranges (t ∷ ts) (e ∷ es) = counted_ranges e.verdict t.writes ++ committed_ranges ts es
+committed_ranges [] es = []
+committed_ranges (t ∷ ts) [] = []
 
 -- the same of a batch and its reply, each at the batch's version
 abbrev pub writes_of : Batch → Reply → List Write
-writes_of b r = at_version b.version (committed b.txns r.entries)
+writes_of b r = at_version b.version (committed_ranges b.txns r.entries)
 
 -- all writes committed so far
 abbrev pub writes : List Processed → List Write
@@ -49,4 +49,4 @@ writes ps = flat_map (λ p. writes_of p.batch p.reply) ps
 
 -- the write ranges of the transactions before index j that the reply calls committed
 abbrev pub earlier : Batch → Reply → ℕ → List Range
-earlier b r j = committed (take j b.txns) (take j r.entries)
+earlier b r j = committed_ranges (take j b.txns) (take j r.entries)

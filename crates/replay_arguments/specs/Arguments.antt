@@ -20,7 +20,7 @@ use Rattle.replay_output.specs.declared.options.reports.Reports.TheVariants.{Ask
 use Rattle.replay_summary.specs.declared.text.SummaryForm.{SummaryForm}
 use Rattle.replay_summary.specs.declared.text.SummaryForm.TheVariants as summaries
 use Rattle.replay_arguments.specs.Command.{replay_app}
-pub use Rattle.replay_arguments.specs.KeptInputs.{KeepsInputs, named, standard_input}
+pub use Rattle.replay_arguments.specs.KeptInputs.{KeepsInputs, given_names, standard_input}
 use Rattle.replay_arguments.specs.declared.arguments.details.TheConstants.{MAX_TOP}
 use Rattle.replay_arguments.specs.declared.arguments.shard_options.Sharding.{Sharding}
 use Rattle.replay_arguments.specs.declared.arguments.shard_options.TheConstants.{MAX_RESOLVERS}

@@ -22,7 +22,7 @@ use Rattle.replay_arguments.specs.Arguments.{
   IsPlain,
   IsTaken,
   KeepsInputs,
-  named,
+  given_names,
   rows_of_words,
 }
 use Rattle.replay_arguments.specs.declared.arguments.CommandLine.{CommandLine}
@@ -53,7 +53,7 @@ pub record AsksToStream (rows : List Row) (files : ℕ) (form : Form) (names : L
   pub streamed : HoldsStream rows true
   pub no_summary : HoldsSummary rows form None
   pub unexplained : HoldsExplain rows false
-  pub records : map (λ name. name.now) names ≡ named (all_of (codes "replies") rows)
+  pub records : map (λ name. name.now) names ≡ given_names (all_of (codes "replies") rows)
   pub each : (length names ≡ 0) ⊎ (length names ≡ files)
 
 -- All answers are to be compared with the replies in the files of these names, one per file of batches.

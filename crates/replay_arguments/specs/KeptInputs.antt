@@ -9,9 +9,9 @@ abbrev pub standard_input : List ℕ
 standard_input = codes "-"
 
 -- the names that are given, or none
-abbrev pub named : Option (List (List ℕ)) → List (List ℕ)
-named None = []
-named (Some names) = names
+abbrev pub given_names : Option (List (List ℕ)) → List (List ℕ)
+given_names None = []
+given_names (Some names) = names
 
 -- whether this is one of the names
 abbrev pub is_among : List ℕ → List (List ℕ) → Bool
@@ -41,8 +41,8 @@ writes_input files replies points output summary records =
 -- the same for the names that are found
 abbrev pub has_written_input : List Row → Bool
 has_written_input rows =
-    writes_input (named (all_of (codes "FILE") rows)) (named (all_of (codes "check") rows)) (first_of (codes "split-points") rows)
-    (first_of (codes "output") rows) (first_of (codes "summary-to") rows) (named (all_of (codes "replies") rows))
+    writes_input (given_names (all_of (codes "FILE") rows)) (given_names (all_of (codes "check") rows)) (first_of (codes "split-points") rows)
+    (first_of (codes "output") rows) (first_of (codes "summary-to") rows) (given_names (all_of (codes "replies") rows))
 
 -- no file that is written is one that is read
 abbrev pub KeepsInputs : List Row → Type 0

@@ -4,7 +4,7 @@ use Rattle.std.specs.Borrow.{Bor}
 use Rattle.clap.specs.Words.{Row, all_of, first_of}
 use Rattle.limits.specs.declared.settings.TheConstants.{MAX_PROXIES}
 use Rattle.replay_output.specs.declared.options.form.Form.TheVariants.{Kept}
-use Rattle.replay_arguments.specs.Arguments.{HasInputOnce, HoldsSummaryFile, IsBeside, KeepsInputs, named}
+use Rattle.replay_arguments.specs.Arguments.{HasInputOnce, HoldsSummaryFile, IsBeside, KeepsInputs, given_names}
 use Rattle.replay_arguments.specs.declared.arguments.names.Names.{Names}
 use Rattle.replay_arguments.specs.declared.arguments.print_options.Printing.{Printing}
 
@@ -22,7 +22,7 @@ pub record HoldsNames (rows : List Row) (printing : Printing) (names : Names) : 
   pub kept : KeepsInputs rows
   pub replies : printing.style.form ≡ Kept → all_of (codes "check") rows ≡ Some (texts names.replies)
   pub as_many : printing.style.form ≡ Kept → length names.replies.now ≡ length names.files.now
-  pub records : texts names.records ≡ named (all_of (codes "replies") rows)
+  pub records : texts names.records ≡ given_names (all_of (codes "replies") rows)
   pub records_each : (length names.records.now ≡ 0) ⊎ (length names.records.now ≡ length names.files.now)
   pub recorded : is_some (all_of (codes "replies") rows) ≡ true → printing.is_streamed ≡ true
   pub output : first_of (codes "output") rows ≡ option_map (λ name. name.now) names.output

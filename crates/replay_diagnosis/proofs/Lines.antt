@@ -12,7 +12,7 @@ use Rattle.replay_diagnosis.specs.declared.run_findings.Finding.{Finding}
 use Rattle.replay_diagnosis.specs.declared.run_findings.Finding.TheVariants as found
 use Rattle.replay_diagnosis.specs.declared.run_findings.RunFinding.{RunFinding}
 use Rattle.replay_diagnosis.specs.declared.run_findings.RunFinding.TheVariants as run
-use Rattle.replay_diagnosis.specs.Remedy.{advice, finding_text, position_text, remedy_line, run_finding_text, run_remedy_line, shown, shown_byte, unreadable_text}
+use Rattle.replay_diagnosis.specs.Remedy.{advice, finding_text, position_text, remedy_line, run_finding_text, run_remedy_line, shown_name, shown_byte, unreadable_text}
 use Rattle.replay_diagnosis.specs.Laws.{FindingFits, IsIndentedLine, PositionFits, RunFindingFits, has_line_feed}
 
 abbrev IsWithin : List ℕ → Type 0
@@ -45,7 +45,7 @@ shown_byte_within byte =
           ]
     ]
 
-shown_within : (name : List ℕ) → IsWithin (shown name)
+shown_within : (name : List ℕ) → IsWithin (shown_name name)
 shown_within [] = refl
 shown_within (byte ∷ name) = ap₂ (λ (a b : Bool). a || b) (shown_byte_within byte) (shown_within name)
 
@@ -108,9 +108,9 @@ run_finding_within run.Output fits = refl
 
 pub remedy_is_line : (name : List ℕ) (finding : Finding) → FindingFits finding → IsIndentedLine (remedy_line name finding)
 remedy_is_line name finding fits = (
-  shown name ++ finding_text finding,
-  ap (λ (t : List ℕ). t ++ codes "\n") (append_assoc (codes "  ") (shown name) (finding_text finding)),
-  both (shown name) (finding_text finding) (shown_within name) (finding_within finding fits),
+  shown_name name ++ finding_text finding,
+  ap (λ (t : List ℕ). t ++ codes "\n") (append_assoc (codes "  ") (shown_name name) (finding_text finding)),
+  both (shown_name name) (finding_text finding) (shown_within name) (finding_within finding fits),
 )
 
 pub run_remedy_is_line : (finding : RunFinding) → RunFindingFits finding → IsIndentedLine (run_remedy_line finding)

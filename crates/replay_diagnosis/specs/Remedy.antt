@@ -16,8 +16,8 @@ abbrev pub shown_byte : ℕ → ℕ
 shown_byte byte = if is_control byte then 63 else byte
 
 -- the name of a file, on one line
-abbrev pub shown : List ℕ → List ℕ
-shown name = map shown_byte name
+abbrev pub shown_name : List ℕ → List ℕ
+shown_name name = map shown_byte name
 
 abbrev pub position_text : Position → List ℕ
 position_text at = codes "frame " ++ decimal at.frame ++ codes " at byte " ++ decimal at.offset
@@ -48,7 +48,7 @@ finding_text (found.NotAFrame at fault) = codes " has no frame of a batch as " +
 
 -- the line about the file of this name
 abbrev pub remedy_line : List ℕ → Finding → List ℕ
-remedy_line name finding = codes "  " ++ shown name ++ finding_text finding ++ codes "\n"
+remedy_line name finding = codes "  " ++ shown_name name ++ finding_text finding ++ codes "\n"
 
 -- what was found of a run, and what to do
 abbrev pub run_finding_text : RunFinding → List ℕ

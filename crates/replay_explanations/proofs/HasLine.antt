@@ -12,7 +12,7 @@ use Rattle.keyspace.specs.Chain.{IsChain}
 use Rattle.keyspace.specs.Writes.{writes, earlier}
 use Rattle.keyspace.specs.Judged.{IsHit, MeetsEarlier, IsReported, HasReport}
 use Rattle.explanations.specs.Written.{Written, all_written, newest_write}
-use Rattle.explanations.specs.Explains.{explaining, explaining_range, explaining_txn}
+use Rattle.explanations.specs.Explains.{explaining_writes, explaining_range, explaining_txn}
 use Rattle.explanations.proofs.callers.Chains.{explained_if_in_conflict, each_conflict_explained}
 use Rattle.replay_explanations.specs.declared.form.ExplanationForm.{ExplanationForm}
 use Rattle.replay_explanations.specs.declared.form.ExplanationForm.TheVariants.{Words, Json}
@@ -85,18 +85,18 @@ module _ (form : ExplanationForm) (window : ℤ) (ps : List Processed) (p : Proc
   line : ℕ → List ℕ
   line i = line_at form (ps ++ p ∷ []) p.batch j t i
 
-  by_range : (i : ℕ) → explaining (ps ++ p ∷ []) p.batch j i
+  by_range : (i : ℕ) → explaining_writes (ps ++ p ∷ []) p.batch j i
       ≡ explaining_range (all_written (ps ++ p ∷ [])) p.batch.version j t.snapshot (slice_get t.reads i)
   by_range i = ap (λ (o : Option Txn). explaining_txn (all_written (ps ++ p ∷ [])) p.batch.version j o i) at_t
 
-  line_there : (i : ℕ) → explaining (ps ++ p ∷ []) p.batch j i ≢ [] → line i ≢ []
+  line_there : (i : ℕ) → explaining_writes (ps ++ p ∷ []) p.batch j i ≢ [] → line i ≢ []
   unfolding line
   line_there i some none =
       line_of_range form p.batch.version j i (slice_get t.reads i) (all_written (ps ++ p ∷ [])) t.snapshot
       (λ no. some (by_range i ∙ no))
       (ap (read_line form p.batch.version j i (slice_get t.reads i)) (sym (by_range i)) ∙ none)
 
-  explained : (i : ℕ) → line i ≢ [] → explaining (ps ++ p ∷ []) p.batch j i ≢ []
+  explained : (i : ℕ) → line i ≢ [] → explaining_writes (ps ++ p ∷ []) p.batch j i ≢ []
   unfolding line
   explained i some none =
       some (ap (read_line form p.batch.version j i (slice_get t.reads i)) none ∙ no_line form p.batch.version j i (slice_get t.reads i))

@@ -11,7 +11,7 @@ use Rattle.keyspace.specs.declared.reply.Verdict.TheVariants.{Conflict, TooOld, 
 use Rattle.keyspace.specs.Processed.{Processed}
 use Rattle.keyspace.specs.Chain.{IsChain}
 use Rattle.keyspace.specs.Judged.{edge}
-use Rattle.explanations.specs.Explains.{explaining, newest_of}
+use Rattle.explanations.specs.Explains.{explaining_writes, newest_of}
 use Rattle.explanations.specs.History.{HistoryState, Keeps}
 use Rattle.explanations.proofs.callers.Following.{same_explaining}
 use Rattle.replay_explanations.specs.declared.form.ExplanationForm.{ExplanationForm}
@@ -32,13 +32,13 @@ module _ (form : ExplanationForm) (window : ℤ) (ps : List Processed) (p : Proc
     (keeps : Keeps (ps ++ p ∷ []) h) (newest : newest_of h.kept ≡ Some p.batch) (low : h.edge ≤ℤ edge window p.batch) where
   read_same : (j : ℕ) (t : Txn) (e : Entry) → slice_get p.batch.txns j ≡ Some t → slice_get p.reply.entries j ≡ Some e
       → e.verdict ≡ Conflict → (i : ℕ)
-      → read_line form p.batch.version j i (slice_get t.reads i) (explaining (ps ++ p ∷ []) p.batch j i)
-      ≡ read_line form p.batch.version j i (slice_get t.reads i) (explaining h.kept p.batch j i)
+      → read_line form p.batch.version j i (slice_get t.reads i) (explaining_writes (ps ++ p ∷ []) p.batch j i)
+      ≡ read_line form p.batch.version j i (slice_get t.reads i) (explaining_writes h.kept p.batch j i)
   read_same j t e at_t at_e is i = go (slice_get t.reads i) refl
     where
       go : (o : Option Range) → slice_get t.reads i ≡ o
-          → read_line form p.batch.version j i o (explaining (ps ++ p ∷ []) p.batch j i)
-          ≡ read_line form p.batch.version j i o (explaining h.kept p.batch j i)
+          → read_line form p.batch.version j i o (explaining_writes (ps ++ p ∷ []) p.batch j i)
+          ≡ read_line form p.batch.version j i o (explaining_writes h.kept p.batch j i)
       go None none = refl
       go (Some range) read =
           ap (read_line form p.batch.version j i (Some range))

@@ -7,12 +7,12 @@ use Rattle.explanations.specs.Written.{Written}
 use Rattle.json_lines.specs.KeyForm.{byte_form}
 
 -- a character of printable ASCII within a string: quotes and backslashes have a backslash before them
-abbrev pub escaped : ℕ → List ℕ
-escaped character = if (character == 34) || (character == 92) then 92 ∷ character ∷ [] else character ∷ []
+abbrev pub escaped_character : ℕ → List ℕ
+escaped_character character = if (character == 34) || (character == 92) then 92 ∷ character ∷ [] else character ∷ []
 
 -- the printed form of a byte, within a string
 abbrev pub byte_json : ℕ → List ℕ
-byte_json byte = flat_map escaped (byte_form byte)
+byte_json byte = flat_map escaped_character (byte_form byte)
 
 -- a key in its printed form, as a string
 abbrev pub key_json : List ℕ → List ℕ

@@ -11,7 +11,7 @@ use Rattle.keyspace.specs.declared.reply.Verdict.TheVariants.{Conflict, TooOld, 
 use Rattle.keyspace.specs.Judged.{edge}
 use Rattle.keyspace.specs.Processed.{Processed}
 use Rattle.explanations.specs.Written.{Written, newest_write}
-use Rattle.explanations.specs.Explains.{explaining}
+use Rattle.explanations.specs.Explains.{explaining_writes}
 use Rattle.json_lines.specs.KeyForm.{quoted_key}
 use Rattle.replay_explanations.specs.declared.form.ExplanationForm.{ExplanationForm}
 use Rattle.replay_explanations.specs.declared.form.ExplanationForm.TheVariants.{Words, Json}
@@ -59,7 +59,7 @@ indices_from first (suc n) = first ∷ indices_from (first + 1) n
 
 -- the line of read range i of the transaction at index j of the batch that was processed last; there is none if no write explains it
 abbrev pub line_at : ExplanationForm → List Processed → Batch → ℕ → Txn → ℕ → List ℕ
-line_at form ps b j t i = read_line form b.version j i (slice_get t.reads i) (explaining ps b j i)
+line_at form ps b j t i = read_line form b.version j i (slice_get t.reads i) (explaining_writes ps b j i)
 
 -- the lines of the conflicting transaction at index j of that batch, in the order of its read ranges, whether or not it has a report
 abbrev pub conflict_lines : ExplanationForm → List Processed → Batch → ℕ → Txn → List ℕ

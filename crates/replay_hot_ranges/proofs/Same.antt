@@ -11,7 +11,7 @@ use Rattle.keyspace.specs.Processed.{Processed}
 use Rattle.keyspace.specs.Chain.{IsChain}
 use Rattle.keyspace.specs.Judged.{edge}
 use Rattle.explanations.specs.Written.{all_written, newest_write}
-use Rattle.explanations.specs.Explains.{explaining, explaining_range, explaining_txn, newest_of}
+use Rattle.explanations.specs.Explains.{explaining_writes, explaining_range, explaining_txn, newest_of}
 use Rattle.explanations.specs.History.{HistoryState, Keeps}
 use Rattle.explanations.proofs.callers.Following.{same_explaining}
 use Rattle.replay_hot_ranges.specs.Conflicts.{InConflict, conflict_of, conflicts_of, in_conflict, rejected_by, rejected_from}
@@ -38,7 +38,7 @@ rejected_same ps qs b first (t ∷ ts) (e ∷ es) h =
 module _ (window : ℤ) (ps : List Processed) (p : Processed) (h : HistoryState) (chain : IsChain window (ps ++ p ∷ []))
     (keeps : Keeps (ps ++ p ∷ []) h) (newest_is : newest_of h.kept ≡ Some p.batch) (low : h.edge ≤ℤ edge window p.batch) where
   at_read : (qs : List Processed) (j i : ℕ) (t : Txn) (range : Range) → slice_get p.batch.txns j ≡ Some t → slice_get t.reads i ≡ Some range
-      → explaining qs p.batch j i ≡ explaining_range (all_written qs) p.batch.version j t.snapshot (Some range)
+      → explaining_writes qs p.batch j i ≡ explaining_range (all_written qs) p.batch.version j t.snapshot (Some range)
   at_read qs j i t range at read =
       ap (λ (o : Option Txn). explaining_txn (all_written qs) p.batch.version j o i) at
       ∙ ap (explaining_range (all_written qs) p.batch.version j t.snapshot) read

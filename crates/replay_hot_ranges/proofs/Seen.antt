@@ -8,7 +8,7 @@ use Rattle.keyspace.specs.Judged.{edge}
 use Rattle.explanations.specs.Explains.{newest_of}
 use Rattle.explanations.specs.History.{Keeps}
 use Rattle.explanations.proofs.callers.Following.{chain_before, edge_within, follows_more}
-use Rattle.replay_hot_ranges.specs.Conflicts.{InConflict, rejected, rejected_after, rejected_from, rejected_last}
+use Rattle.replay_hot_ranges.specs.Conflicts.{InConflict, rejected_txns, rejected_after, rejected_from, rejected_last}
 use Rattle.replay_hot_ranges.specs.HotRanges.{HasCounted, HasSeen}
 use Rattle.replay_hot_ranges.specs.RangeTally.{AreTallies}
 use Rattle.replay_hot_ranges.specs.declared.hot_ranges.HotRanges.{HotRanges}
@@ -43,16 +43,16 @@ module _ (e f : HotRanges) (p : Processed) (open_before : e.has_failed ≡ false
     low : f.history.edge ≤ℤ edge f.history.window p.batch
     low = edge_within e.history f.history p same_window keeps edge_is ps old_chain counted.follows
 
-    rejected_more : rejected ps ++ rejected_from f.history.kept p.batch 0 p.batch.txns p.reply.entries ≡ rejected (ps ++ p ∷ [])
+    rejected_more : rejected_txns ps ++ rejected_from f.history.kept p.batch 0 p.batch.txns p.reply.entries ≡ rejected_txns (ps ++ p ∷ [])
     rejected_more =
-        ap (λ (xs : List (List InConflict)). rejected ps ++ xs)
+        ap (λ (xs : List (List InConflict)). rejected_txns ps ++ xs)
         (sym (same_rejected f.history.window ps p f.history chain (keeps ps counted.follows.keeps) newest low))
         ∙ sym (rejected_after-more [] ps p)
 
     counted_more : HasCounted f (ps ++ p ∷ [])
     counted_more = record {
       follows = follows_more e.history f.history p same_window keeps edge_is ps old_chain counted.follows;
-      tallies = subst (λ (txns : List (List InConflict)). AreTallies txns f.tallies) rejected_more (added (rejected ps) counted.tallies);
+      tallies = subst (λ (txns : List (List InConflict)). AreTallies txns f.tallies) rejected_more (added (rejected_txns ps) counted.tallies);
     }
 
   -- one batch more is counted

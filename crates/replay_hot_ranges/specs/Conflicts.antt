@@ -50,5 +50,5 @@ rejected_after before [] = []
 rejected_after before (p ∷ ps) = rejected_last (before ++ p ∷ []) p ++ rejected_after (before ++ p ∷ []) ps
 
 -- The transactions that were rejected as conflicts, each by its conflicts.
-abbrev pub rejected : List Processed → List (List InConflict)
-rejected ps = rejected_after [] ps
+abbrev pub rejected_txns : List Processed → List (List InConflict)
+rejected_txns ps = rejected_after [] ps

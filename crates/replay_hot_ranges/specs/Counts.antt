@@ -4,7 +4,7 @@ use Rattle.std.specs.List.{list_any}
 use Rattle.std.specs.Str.{bytes_eq}
 use Rattle.keys.specs.declared.range.Range.{Range}
 use Rattle.keyspace.specs.Processed.{Processed}
-use Rattle.replay_hot_ranges.specs.Conflicts.{InConflict, rejected}
+use Rattle.replay_hot_ranges.specs.Conflicts.{InConflict, rejected_txns}
 
 -- a range by its begin and its end
 abbrev pub Ends : Type 0
@@ -33,8 +33,8 @@ count_of side txns ends = count_by (is_about side ends) txns
 
 -- how many transactions were rejected with this read range in conflict
 abbrev pub read_count : List Processed → Ends → ℕ
-read_count ps ends = count_of read_side (rejected ps) ends
+read_count ps ends = count_of read_side (rejected_txns ps) ends
 
 -- how many were rejected with a read range whose newest conflicting write wrote this range
 abbrev pub written_count : List Processed → Ends → ℕ
-written_count ps ends = count_of written_side (rejected ps) ends
+written_count ps ends = count_of written_side (rejected_txns ps) ends

@@ -16,8 +16,8 @@ word_text ConflictJson = codes ",\"conflict\""
 word_text PlacesJson = codes ",{\"conflict\":["
 
 -- the word of this number
-abbrev pub numbered : ℕ → Word
-numbered number =
+abbrev pub word_of_number : ℕ → Word
+word_of_number number =
     if number == 0 then Committed
     else if number == 1 then TooOld
     else if number == 2 then Conflict
@@ -32,16 +32,16 @@ IsUnit unit = unit < FIRST_WORD + WORDS * MOST_IN_A_ROW
 
 -- the word that a unit represents
 abbrev pub word_of : ℕ → Word
-word_of unit = numbered ((unit - FIRST_WORD) % WORDS)
+word_of unit = word_of_number ((unit - FIRST_WORD) % WORDS)
 
 -- how many times in a row it repeats that word
 abbrev pub times_of : ℕ → ℕ
 times_of unit = (unit - FIRST_WORD) / WORDS + 1
 
 -- the text of a unit: below the first word that letter alone, and from there on its word, repeated
-abbrev pub spelled : ℕ → List ℕ
-spelled unit = if ltb unit FIRST_WORD then unit ∷ [] else repeat (times_of unit) (word_text (word_of unit))
+abbrev pub text_of_unit : ℕ → List ℕ
+text_of_unit unit = if ltb unit FIRST_WORD then unit ∷ [] else repeat (times_of unit) (word_text (word_of unit))
 
 -- the text of units in their order
-abbrev pub spelled_all : List ℕ → List ℕ
-spelled_all units = flat_map spelled units
+abbrev pub text_of_units : List ℕ → List ℕ
+text_of_units units = flat_map text_of_unit units

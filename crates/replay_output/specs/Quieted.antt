@@ -13,5 +13,5 @@ abbrev pub quiet_style : Style → Style
 quiet_style style = record style { filter = quiet_filter style.filter }
 
 -- the same options, with which no line is shown
-abbrev pub quieted : Options → Options
-quieted options = record options { style = quiet_style options.style }
+abbrev pub options_quieted : Options → Options
+options_quieted options = record options { style = quiet_style options.style }

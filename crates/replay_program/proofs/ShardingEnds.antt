@@ -14,7 +14,7 @@ use Rattle.replay_arguments.specs.declared.opened_files.written.WrittenFile.TheV
 use Rattle.replay_arguments.specs.Opening.{written_line}
 use Rattle.replay_output.specs.declared.options.Options.{Options}
 use Rattle.replay_output.specs.declared.start.StartError.TheVariants as start
-use Rattle.replay_output.specs.Quieted.{quieted}
+use Rattle.replay_output.specs.Quieted.{options_quieted}
 use Rattle.replay_stream.specs.Sinks.{SinkState}
 use Rattle.replay_tasks.specs.declared.met.Met.{Met}
 use Rattle.replay_program.specs.declared.program.several_resolvers.opened.ShardingError.TheVariants as why
@@ -46,10 +46,10 @@ module _ (points : List (List ℕ)) (options : Options) (files : List (Option (L
       subst (λ (s : Option Stop). IfSome s (λ stop. MetStopByShards points options files stop met.version error)) (sym none) tt
 
   -- what the shards met doesn't depend on which lines are shown
-  pub shards_met_quieted : HasMetByShards points (quieted options) files met error → HasMetByShards points options files met error
+  pub shards_met_quieted : HasMetByShards points (options_quieted options) files met error → HasMetByShards points options files met error
   shards_met_quieted has = go met.stop has
     where
-      go : (stop : Option Stop) → IfSome stop (λ s. MetStopByShards points (quieted options) files s met.version error)
+      go : (stop : Option Stop) → IfSome stop (λ s. MetStopByShards points (options_quieted options) files s met.version error)
           → IfSome stop (λ s. MetStopByShards points options files s met.version error)
       go None has = tt
       go (Some s) has = record {

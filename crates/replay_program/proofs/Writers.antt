@@ -16,10 +16,10 @@ use Rattle.replay_tasks.specs.Replayed.{DidNotStart, Written}
 use Rattle.replay_program.specs.Streamed.{FailsToStream}
 
 -- so many places, of which the first have these items
-abbrev pub padded : {X : Type 0} → ℕ → List X → List (Option X)
-padded zero xs = []
-padded (suc n) [] = None ∷ padded n []
-padded (suc n) (x ∷ xs) = Some x ∷ padded n xs
+abbrev pub padded_list : {X : Type 0} → ℕ → List X → List (Option X)
+padded_list zero xs = []
+padded_list (suc n) [] = None ∷ padded_list n []
+padded_list (suc n) (x ∷ xs) = Some x ∷ padded_list n xs
 
 abbrev error_or : {X E : Type 0} → E → Result X E → E
 error_or other (Ok x) = other
@@ -37,16 +37,16 @@ empty (x ∷ xs) none = absurd (omega (arith, none))
 pub padded_next : {X : Type 0} (n : ℕ) (done : List (Option X)) (xs rest : List X) (count others : ℕ) (next : Option X)
     (all : List (Option X)) → count ≡ length xs → others ≡ length rest
     → MatchOption next ((count ≡ 0) × (others ≡ 0)) (λ x. (xs ≡ x ∷ rest) × (others + 1 ≡ count))
-    → done ++ padded (suc n) xs ≡ all → (done ++ next ∷ []) ++ padded n rest ≡ all
+    → done ++ padded_list (suc n) xs ≡ all → (done ++ next ∷ []) ++ padded_list n rest ≡ all
 padded_next {X} n done xs rest count others None all same same_rest steps before =
-    append_assoc done (None ∷ []) (padded n rest)
-    ∙ ap (λ (l : List X). done ++ None ∷ padded n l) (empty rest (sym same_rest ∙ steps.1))
-    ∙ ap (λ (l : List X). done ++ padded (suc n) l) (sym (empty xs (sym same ∙ steps.0))) ∙ before
+    append_assoc done (None ∷ []) (padded_list n rest)
+    ∙ ap (λ (l : List X). done ++ None ∷ padded_list n l) (empty rest (sym same_rest ∙ steps.1))
+    ∙ ap (λ (l : List X). done ++ padded_list (suc n) l) (sym (empty xs (sym same ∙ steps.0))) ∙ before
 padded_next {X} n done xs rest count others (Some x) all same same_rest steps before =
-    append_assoc done (Some x ∷ []) (padded n rest) ∙ ap (λ (l : List X). done ++ padded (suc n) l) (sym steps.0) ∙ before
+    append_assoc done (Some x ∷ []) (padded_list n rest) ∙ ap (λ (l : List X). done ++ padded_list (suc n) l) (sym steps.0) ∙ before
 
 pub padded_at : {X : Type 0} (n : ℕ) (xs : List X) (place : ℕ) (x : X) → length xs ≤ n → slice_get xs place ≡ Some x
-    → slice_get (padded n xs) place ≡ Some (Some x)
+    → slice_get (padded_list n xs) place ≡ Some (Some x)
 padded_at n [] place x few at = absurd (none-some x at)
 padded_at zero (y ∷ xs) place x few at = absurd (omega (arith, few))
 padded_at (suc n) (y ∷ xs) zero x few at = ap (λ (o : Option _). Some o) at
@@ -54,7 +54,7 @@ padded_at (suc n) (y ∷ xs) (suc place) x few at = padded_at n xs place x (omeg
 
 -- behind the items there are none
 padded_beyond : {X : Type 0} (n : ℕ) (xs : List X) (place : ℕ) (o : Option X) → length xs ≤ place
-    → slice_get (padded n xs) place ≡ Some o → o ≡ None
+    → slice_get (padded_list n xs) place ≡ Some o → o ≡ None
 padded_beyond zero xs place o beyond at = absurd (none-some o at)
 padded_beyond (suc n) [] zero o beyond at = sym (same_Some None o at)
 padded_beyond (suc n) [] (suc place) o beyond at = padded_beyond n [] place o (omega arith) at
@@ -64,7 +64,7 @@ padded_beyond (suc n) (x ∷ xs) (suc place) o beyond at = padded_beyond n xs pl
 -- the writers that were opened stand at the numbers of their proxies
 pub have_writers : {W : Type 0} (given_to : W → Option (List ℕ)) (begun : List ℕ → Option (List ℕ)) (names : List (List ℕ))
     (opened : List W) (places : ℕ) → map given_to opened ≡ contents_each begun names → length names ≤ places
-    → HaveWriters begun names (map (option_map given_to) (padded places opened))
+    → HaveWriters begun names (map (option_map given_to) (padded_list places opened))
 have_writers {W} given_to begun names opened places are few =
     let count : length opened ≡ length names = sym (length-map opened given_to) ∙ ap length are ∙ length-map names begun in
     record {
@@ -73,10 +73,10 @@ have_writers {W} given_to begun names opened places are few =
           ap (λ l. slice_get l proxy) are ∙ slice_get-map begun names proxy ∙ ap (option_map begun) at in
           let w = element_of_map given_to opened proxy (begun name) there in
           let here = padded_at places opened proxy w.0 (omega (arith, few, count)) w.1 in
-          slice_get-map (option_map given_to) (padded places opened) proxy ∙ ap (option_map (option_map given_to)) here
+          slice_get-map (option_map given_to) (padded_list places opened) proxy ∙ ap (option_map (option_map given_to)) here
           ∙ ap (λ (b : Option (List ℕ)). Some (Some b)) w.2;
       no_more = λ proxy writer beyond at.
-          let w = element_of_map (option_map given_to) (padded places opened) proxy writer at in
+          let w = element_of_map (option_map given_to) (padded_list places opened) proxy writer at in
           sym w.2 ∙ ap (option_map given_to) (padded_beyond places opened proxy w.0 (omega (arith, count, beyond)) w.1);
     }
 

@@ -15,7 +15,7 @@ use Rattle.replay_arguments.specs.declared.opened_files.written.WrittenFile.TheV
 use Rattle.replay_arguments.specs.Opening.{IsFirstRefused, contents_each, creating_line, opening_line, written_line}
 use Rattle.replay_output.specs.declared.options.Options.{Options}
 use Rattle.replay_output.specs.declared.start.StartError.TheVariants as start
-use Rattle.replay_output.specs.Quieted.{quieted}
+use Rattle.replay_output.specs.Quieted.{options_quieted}
 use Rattle.replay_output.specs.Start.{start_line}
 use Rattle.replay_tasks.specs.declared.check.replies.RepliesError.{RepliesError}
 use Rattle.replay_tasks.specs.declared.met.Met.{Met}
@@ -203,7 +203,7 @@ IsTaskDone state_of files bytes line task.Print report out =
 IsTaskDone state_of files bytes line task.Explain report out =
     IsReplayedWithExplanations line.options bytes out.before out.after
 IsTaskDone state_of files bytes line (task.Summarize form top) report out =
-    IsSummarized form top (quieted line.options) bytes out.before out.after
+    IsSummarized form top (options_quieted line.options) bytes out.before out.after
 IsTaskDone state_of files bytes line (task.Stream records) report out =
     StreamsFiles state_of files.begun line.options bytes (texts records.items) report.recorders.items out.before out.after
 IsTaskDone state_of files bytes line (task.Check replies) report out =
@@ -222,7 +222,7 @@ TaskFails state_of files bytes line task.Print report out error =
     AreNotPrinted state_of files bytes line.options line.summary_to report.summary out error
 TaskFails state_of files bytes line task.Explain report out error = FailsToExplain line.options bytes out error
 TaskFails state_of files bytes line (task.Summarize form top) report out error =
-    FailsToSummarize form top (quieted line.options) bytes out error
+    FailsToSummarize form top (options_quieted line.options) bytes out error
 TaskFails state_of files bytes line (task.Stream records) report out error =
     FailsToStreamFiles state_of files line.options bytes (texts records.items) report.recorders.items out error
 TaskFails state_of files bytes line (task.Check replies) report out error =

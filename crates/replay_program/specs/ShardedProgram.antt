@@ -15,7 +15,7 @@ use Rattle.replay_arguments.specs.declared.opened_files.written.WrittenFile.TheV
 use Rattle.replay_arguments.specs.Opening.{IsFirstRefused, contents_each, opening_line}
 use Rattle.replay_output.specs.declared.options.Options.{Options}
 use Rattle.replay_output.specs.declared.start.StartError.TheVariants as start
-use Rattle.replay_output.specs.Quieted.{quieted}
+use Rattle.replay_output.specs.Quieted.{options_quieted}
 use Rattle.replay_output.specs.Start.{start_line}
 use Rattle.replay_shards.specs.Points.{ArePointLines}
 use Rattle.replay_shards.specs.Sampling.{AreFirstOf}
@@ -152,7 +152,7 @@ abbrev pub IsTaskDoneByShards : {W : Type 0} → (W → SinkState) → NamedFile
 IsTaskDoneByShards state_of files points bytes line task.Print report out =
     ArePrintedByShards state_of files points bytes line.options line.summary_to report.summary out
 IsTaskDoneByShards state_of files points bytes line (task.Summarize form None) report out =
-    IsSummarizedByShards form points (quieted line.options) bytes out.before out.after
+    IsSummarizedByShards form points (options_quieted line.options) bytes out.before out.after
 IsTaskDoneByShards state_of files points bytes line (task.Check replies) report out =
     ChecksFilesByShards (λ count. count ≡ 0) files.contents points line.options bytes (texts replies.items) out.before out.after
 -- the other tasks are those of one resolver
@@ -170,7 +170,7 @@ abbrev pub TaskFailsByShards : {W : Type 0} → (W → SinkState) → NamedFiles
 TaskFailsByShards state_of files points bytes line task.Print report out error =
     AreNotPrintedByShards state_of files points bytes line.options line.summary_to report.summary out error
 TaskFailsByShards state_of files points bytes line (task.Summarize form None) report out error =
-    FailsToSummarizeByShards form points (quieted line.options) bytes out error
+    FailsToSummarizeByShards form points (options_quieted line.options) bytes out error
 TaskFailsByShards state_of files points bytes line (task.Check replies) report out error =
     FailsToCheckFilesByShards files points line.options bytes (texts replies.items) out error
 TaskFailsByShards state_of files points bytes line _ report out error = ⊥

@@ -12,7 +12,7 @@ use Rattle.keyspace.specs.declared.answer.Answer.TheVariants as reported
 use Rattle.keyspace.specs.declared.batch.Batch.{Batch}
 use Rattle.keyspace.specs.declared.reply.Reply.{Reply}
 use Rattle.keyspace.specs.Answer.{version_of_answer}
-use Rattle.keyspace.specs.Found.{found, is_received, kept, reply_or_never}
+use Rattle.keyspace.specs.Found.{found, is_received, kept_reply, reply_or_never}
 use Rattle.keyspace.specs.Judge.{judge}
 use Rattle.keyspace.specs.Laws.{Leaves}
 use Rattle.keyspace.specs.Leaving.{Held, next_due}
@@ -71,10 +71,10 @@ HasVersion p = p.reply.version ≡ p.batch.version
 
 -- so a reply that is found for a version has it
 kept_version : (ps : List Processed) (proxy : ℕ) (version : ℤ) (reply : Reply) → All HasVersion ps
-    → kept ps proxy version ≡ Some reply → reply.version ≡ version
+    → kept_reply ps proxy version ≡ Some reply → reply.version ≡ version
 kept_version [] proxy version reply all h = absurd (none-some reply h)
 kept_version (p ∷ ps) proxy version reply all h =
-    let rest = kept ps proxy version in
+    let rest = kept_reply ps proxy version in
     let later : rest ≡ Some reply → reply.version ≡ version =
     kept_version ps proxy version reply (All-tail HasVersion p ps all) in
     elim (p.proxy == proxy) as (λ own.
@@ -97,7 +97,7 @@ kept_version (p ∷ ps) proxy version reply all h =
 found_version : (ps : List Processed) (proxy : ℕ) (version : ℤ) → All HasVersion ps
     → version_of_answer (found ps proxy version) ≡ version
 found_version ps proxy version all =
-    elim (kept ps proxy version) as (λ o. kept ps proxy version ≡ o → version_of_answer (reply_or_never version o) ≡ version) [
+    elim (kept_reply ps proxy version) as (λ o. kept_reply ps proxy version ≡ o → version_of_answer (reply_or_never version o) ≡ version) [
       | None ↦ λ e. refl
       | Some reply ↦ λ e. kept_version ps proxy version reply all e
     ] refl

@@ -16,7 +16,7 @@ use Rattle.keyspace.specs.Run.{Step, answers, part, run}
 use Rattle.serial.specs.Replies.{AnswersReportVerdicts, IsReplyTo}
 use Rattle.shards.specs.declared.shard_reply.ShardReply.{ShardReply}
 use Rattle.replay_shards.specs.declared.note.Note.{Note}
-use Rattle.replay_shards.specs.Answers.{AreOfOneBatch, FitsIn, HaveReplied, IsHeld, IsNever, IsReplyTogether, noted}
+use Rattle.replay_shards.specs.Answers.{AreOfOneBatch, FitsIn, HaveReplied, IsHeld, IsNever, IsReplyTogether, reply_with_note}
 use Rattle.replay_shards.specs.Merging.{AreMerged, IsOfMatch, Match, answers_at, matches_at, version_of_match}
 use Rattle.replay_shards.specs.Notes.{first_note, first_notes}
 use Rattle.replay_sharded.proofs.CommittedLists.{IsIn, contains, in_filter, index_of, is_in, is_same, partner_before, same_if, to_filter, zip_mapped}
@@ -38,13 +38,13 @@ have_replied (a ∷ own) [] same unsaid unheld = absurd (omega (arith, same))
 have_replied (answer.Reply reply ∷ own) (kept ∷ notes) same unsaid unheld =
     let rest = have_replied own notes (omega (arith, same)) (λ some. unsaid (any_later IsNever (answer.Reply reply) own some))
     (λ some. unheld (any_later IsHeld (answer.Reply reply) own some)) in
-    (noted reply kept ∷ rest.0, (refl, rest.1))
+    (reply_with_note reply kept ∷ rest.0, (refl, rest.1))
 have_replied (answer.Never version ∷ own) (kept ∷ notes) same unsaid unheld =
     absurd (unsaid (any_first IsNever (answer.Never version) own tt))
 have_replied (answer.Held version ∷ own) (kept ∷ notes) same unsaid unheld =
     absurd (unheld (any_first IsHeld (answer.Held version) own tt))
 
-noted_reply : (reply : Reply) (kept : Option (List (List ℕ))) → (noted reply kept).reply ≡ reply
+noted_reply : (reply : Reply) (kept : Option (List (List ℕ))) → (reply_with_note reply kept).reply ≡ reply
 noted_reply reply None = refl
 noted_reply reply (Some reads) = refl
 

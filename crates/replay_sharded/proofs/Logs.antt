@@ -22,7 +22,7 @@ use Rattle.replay_shards.specs.Notes.{notes_of}
 use Rattle.replay_shards.specs.declared.answered.Answered.{Answered}
 use Rattle.replay_shards.specs.declared.note.Note.{Note}
 use Rattle.replay_sharded.specs.declared.shard_run.ShardRun.{ShardRun}
-use Rattle.replay_sharded.specs.Files.{IsFileOf, IsKnown, unread}
+use Rattle.replay_sharded.specs.Files.{IsFileOf, IsKnown, unread_file}
 use Rattle.replay_sharded.specs.Runs.{IsRunOfShard, lines_by}
 use Rattle.replay_sharded.specs.Sharded.{HasRead, HasReadFiles, HaveAllRead, ShardLog}
 use Rattle.replay_sharded.proofs.SameFile.{HasOneSpelling, same_batches}
@@ -85,13 +85,13 @@ pub file_read : (options : Options) (files : List (Option (List ℕ))) (shard : 
     → slice_get files proxy ≡ Some file
     → (own : List Batch) × IsFileOf file own × IsReadOf shard run (part ran.log) proxy own
 file_read options files shard run ran entire proxy file at =
-    let first = mapped_at unread files proxy file at in
-    let lines = found (map unread files) (map lines_by run.answered.items) proxy (unread file) ran.received_count first in
-    let failure = found (map unread files) run.failures.items proxy (unread file) ran.failures_count first in
-    let served = ran.each proxy (unread file) lines.0 failure.0 first lines.1 failure.1 in
+    let first = mapped_at unread_file files proxy file at in
+    let lines = found (map unread_file files) (map lines_by run.answered.items) proxy (unread_file file) ran.received_count first in
+    let failure = found (map unread_file files) run.failures.items proxy (unread_file file) ran.failures_count first in
+    let served = ran.each proxy (unread_file file) lines.0 failure.0 first lines.1 failure.1 in
     let all = served.all_batches entire.complete in
     let clean = all_at IsClean run.failures.items proxy failure.0 entire.clean failure.1 in
-    let batches = originals_of shard (unread file) served.left served.read served.frames_read in (
+    let batches = originals_of shard (unread_file file) served.left served.read served.frames_read in (
       batches.0,
       record { left = served.left.bytes; frames = batches.1; at_end = served.all_read all clean.0 },
       (
@@ -123,7 +123,7 @@ has_read options files shard run ran entire =
       record {
         takes = record {
           proxies =
-              subst (λ (n : ℕ). TakesOnlyFrom n ran.log) (length-map files unread ∙ sym (zip_length IsFileOf files read.0 read.1))
+              subst (λ (n : ℕ). TakesOnlyFrom n ran.log) (length-map files unread_file ∙ sym (zip_length IsFileOf files read.0 read.1))
               ran.proxies;
           clips = λ proxy own at. (read.2 proxy own at).0;
           chain = ran.chain;

@@ -15,7 +15,7 @@ use Rattle.replay_shards.specs.declared.answered.Answered.{Answered}
 use Rattle.replay_shards.specs.declared.note.Note.{Note}
 use Rattle.replay_sharded.specs.declared.shard_run.ShardRun.{ShardRun}
 use Rattle.replay_sharded.specs.Combined.{AreOfProxy}
-use Rattle.replay_sharded.specs.Files.{unread}
+use Rattle.replay_sharded.specs.Files.{unread_file}
 use Rattle.replay_sharded.specs.Runs.{IsRunOfShard, lines_by}
 use Rattle.replay_sharded.specs.Sharded.{answers_by_shard, log_of, notes_kept}
 use Rattle.replay_sharded.proofs.Logs.{logs_of, shard_log}
@@ -30,10 +30,10 @@ module _ (options : Options) (files : List (Option (List ℕ))) (proxy : ℕ) (f
         → (answers_by answered ≡ answers options.window ran.log proxy)
         × (notes_by answered ≡ notes_kept proxy (shard_log options files shard run ran))
     one_answered shard run ran entire answered at =
-        let first = mapped_at unread files proxy file file_at in
-        let failure = found (map unread files) run.failures.items proxy (unread file) ran.failures_count first in
+        let first = mapped_at unread_file files proxy file file_at in
+        let failure = found (map unread_file files) run.failures.items proxy (unread_file file) ran.failures_count first in
         let served =
-        ran.each proxy (unread file) answered.lines.items failure.0 first (mapped_at lines_by run.answered.items proxy answered at)
+        ran.each proxy (unread_file file) answered.lines.items failure.0 first (mapped_at lines_by run.answered.items proxy answered at)
         failure.1 in
         let clean = all_at IsClean run.failures.items proxy failure.0 entire.clean failure.1 in (
           served.all_received (ran.no_stop entire.complete) clean.1,

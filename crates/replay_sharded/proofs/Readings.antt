@@ -18,22 +18,22 @@ use Rattle.replay_shards.specs.declared.note.Note.{Note}
 use Rattle.replay_shards.specs.Clips.{GivesClip, GivesNoClip, bytes_left, shard_of_clips}
 use Rattle.replay_shards.specs.Notes.{note_in}
 use Rattle.replay_sharded.specs.declared.shard_run.ShardRun.{ShardRun}
-use Rattle.replay_sharded.specs.Files.{AreClipsOf, Reading, TakesClip, notes_left, reading_of, unread}
+use Rattle.replay_sharded.specs.Files.{AreClipsOf, Reading, TakesClip, notes_left, reading_of, unread_file}
 use Rattle.replay_sharded.specs.Runs.{IsRunOfShard, KeepsNotes, notes_by}
 use Rattle.replay_sharded.proofs.Viewed.{run_viewed}
 
 module _ {S : Type 0} (remaining : S → Option (List ℕ)) where
   -- nothing was read of streams without notes
   pub unread_all : (clips : List (Clips S)) → All (λ own. own.notes.items ≡ []) clips
-      → map (reading_of remaining) clips ≡ map unread (map (bytes_left remaining) clips)
+      → map (reading_of remaining) clips ≡ map unread_file (map (bytes_left remaining) clips)
   unread_all [] none = refl
   unread_all (own ∷ clips) none =
       let Without : Clips S → Type 0 = λ own. own.notes.items ≡ [] in
-      let first : reading_of remaining own ≡ unread (bytes_left remaining own) =
+      let first : reading_of remaining own ≡ unread_file (bytes_left remaining own) =
       ap (λ (notes : List Note). record { bytes = bytes_left remaining own; notes = notes }) (All-head Without own clips none) in
       let rest = unread_all clips (All-tail Without own clips none) in
       ap (λ (r : Reading). r ∷ map (reading_of remaining) clips) first
-      ∙ ap (λ (l : List Reading). unread (bytes_left remaining own) ∷ l) rest
+      ∙ ap (λ (l : List Reading). unread_file (bytes_left remaining own) ∷ l) rest
 
   -- streams of files and of a shard, without notes, are the clips of those files to it
   pub clips_are_of : (readers : List S) (found : Option Shard) (files : List (Option (List ℕ))) (own : Shard) (clips : List (Clips S))
@@ -41,7 +41,7 @@ module _ {S : Type 0} (remaining : S → Option (List ℕ)) where
       → All (λ stream. stream.notes.items ≡ []) clips → found ≡ Some own → map remaining readers ≡ files
       → AreClipsOf remaining files own clips
   clips_are_of readers found files own clips left of none at read = record {
-    of_files = unread_all clips none ∙ ap (map unread) (left ∙ read);
+    of_files = unread_all clips none ∙ ap (map unread_file) (left ∙ read);
     of_shard = subst (λ (o : Option Shard). All (λ stream. shard_of_clips stream ≡ o) clips) at of;
   }
 

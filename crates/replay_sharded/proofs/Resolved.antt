@@ -20,7 +20,7 @@ use Rattle.replay_shards.specs.declared.note.Note.{Note}
 use Rattle.replay_sharded.specs.declared.combined.Combined.{Combined}
 use Rattle.replay_sharded.specs.Combined.{HasAllAnswers}
 use Rattle.replay_sharded.specs.Files.{IsFileOf}
-use Rattle.replay_sharded.specs.Runs.{keeping}
+use Rattle.replay_sharded.specs.Runs.{keeping_options}
 use Rattle.replay_sharded.specs.Sharded.{
   AreRunsTogether,
   CommitsSerializably,
@@ -95,7 +95,7 @@ pub resolved_except : HasOneSpelling → (points : List (List ℕ)) (options : O
 resolved_except law points options files combined rising runs all rest =
     let lines = map vec_items combined.lines.items in
     let entire = all_entire options.style (length files) runs.runs combined runs.together all runs.proxies in
-    let logs = logs_of (keeping options) files (shards points) runs.runs runs.each entire in
+    let logs = logs_of (keeping_options options) files (shards points) runs.runs runs.each entire in
     let count : length lines ≡ length files =
     length-map combined.lines.items vec_items
     ∙ (sym combined.lines.ok.0 ∙ runs.together.lines_count (length files) runs.proxies) in
@@ -111,7 +111,7 @@ resolved_except law points options files combined rising runs all rest =
     let together = runs.together.each proxy of_proxy.0 failure.0 of_proxy.1 failure.1 in
     let clean = all_at IsClean combined.failures.items proxy failure.0 all.clean failure.1 in
     let both =
-    all_same (keeping options) files proxy file.0 file.1 (shards points) runs.runs runs.each entire together.each together.of_runs in
+    all_same (keeping_options options) files proxy file.0 file.1 (shards points) runs.runs runs.each entire together.each together.of_runs in
     subst (λ (l : List Answer). AreMerged (answers_by_shard options.window (map log_of logs.0) proxy) (map (notes_kept proxy) logs.0) l)
     same
     (subst (λ (l : List (List Note)). AreMerged (answers_by_shard options.window (map log_of logs.0) proxy) l (answers_of of_proxy.0))

@@ -28,8 +28,8 @@ pub record Reading : Type 0 where
   pub notes : List Note
 
 -- nothing was read yet
-abbrev pub unread : Option (List ℕ) → Reading
-unread bytes = record { bytes = bytes; notes = [] }
+abbrev pub unread_file : Option (List ℕ) → Reading
+unread_file bytes = record { bytes = bytes; notes = [] }
 
 -- Between these states the frame of one batch was read, and this is its clip to the shard. The batch's note, if it has one, was put after
 -- the others.
@@ -58,7 +58,7 @@ module _ {S : Type 0} where
   -- the clips of these files to the shard, of which nothing was read yet
   pub record AreClipsOf (remaining : S → Option (List ℕ)) (files : List (Option (List ℕ))) (shard : Shard) (clips : List (Clips S))
       : Type 0 where
-    pub of_files : map (reading_of remaining) clips ≡ map unread files
+    pub of_files : map (reading_of remaining) clips ≡ map unread_file files
     pub of_shard : All (λ own. shard_of_clips own ≡ Some shard) clips
 
   -- every shard has the clips of the same files

@@ -15,11 +15,11 @@ use Rattle.replay_shards.specs.declared.clips.Clips.{Clips}
 use Rattle.replay_shards.specs.declared.note.Note.{Note}
 use Rattle.replay_sharded.specs.declared.runs.StartedShards.{StartedShards}
 use Rattle.replay_sharded.specs.declared.shard_run.ShardRun.{ShardRun}
-use Rattle.replay_sharded.specs.Files.{AreClipsOf, Reading, TakesClip, unread}
+use Rattle.replay_sharded.specs.Files.{AreClipsOf, Reading, TakesClip, unread_file}
 
 -- the same options, with which answers are kept and all have a line
-abbrev pub keeping : Options → Options
-keeping options = record options { style = record { form = Kept; filter = all_lines } }
+abbrev pub keeping_options : Options → Options
+keeping_options options = record options { style = record { form = Kept; filter = all_lines } }
 
 abbrev pub lines_by : Answered → List Line
 lines_by own = own.lines.items
@@ -35,12 +35,12 @@ KeepsNotes run proxy left = IsSomeAnd (slice_get run.answered.items proxy) (λ o
 -- batches in order, and the lines are of its answers.
 abbrev pub IsRunOfShard : Options → List (Option (List ℕ)) → Shard → ShardRun → Type 0
 IsRunOfShard options files shard run =
-    IsRunOver (TakesClip shard) (λ left. IsAtEnd left.bytes) (λ left. IsFaultAt left.bytes) (KeepsNotes run) options (map unread files)
+    IsRunOver (TakesClip shard) (λ left. IsAtEnd left.bytes) (λ left. IsFaultAt left.bytes) (KeepsNotes run) options (map unread_file files)
     (map lines_by run.answered.items) run.failures.items run.complete run.stop
 
 -- of every shard, at its number: the answers are kept
 abbrev pub AreRunsOfShards : Options → List (List ℕ) → List (Option (List ℕ)) → List ShardRun → Type 0
-AreRunsOfShards options points files runs = AllZip (IsRunOfShard (keeping options) files) (shards points) runs
+AreRunsOfShards options points files runs = AllZip (IsRunOfShard (keeping_options options) files) (shards points) runs
 
 module _ {S : Type 0} where
   -- The run of a shard, whatever files its clips are of. It is of as many proxies, and its lines keep the answers if the options say so.

@@ -8,7 +8,7 @@ ghost use Rattle.replay_shards.specs.Clips.{refusal_of_clips};
 ghost use Rattle.replay_sharded.specs.Combined.{HasProxies};
 ghost use Rattle.replay_sharded.specs.Files.{AreClipsOfShards, AreFresh};
 ghost use Rattle.replay_sharded.specs.Runs.{AreRunsOfShards, IsWorkOf};
-ghost use Rattle.replay_sharded.specs.Runs.{given_to, keeping};
+ghost use Rattle.replay_sharded.specs.Runs.{given_to, keeping_options};
 
 use crate::shard_run::{ShardRun, run_shard};
 use replay_output::{Form, Options, StartError, Style};
@@ -81,7 +81,7 @@ pub fn run_shards<
 
 // Returns the same options, with which answers are kept.
 fn keeping(options: Options) -> Options
-    ensures keeping { result ≡ keeping options }
+    ensures keeping { result ≡ keeping_options options }
 {
     let mut options = options;
     options.style = Style::all(Form::Kept);

@@ -9,7 +9,7 @@ use Rattle.shards.specs.declared.shard_reply.ShardReply.{ShardReply}
 use Rattle.shards.proofs.callers.Combining.{take_next}
 use Rattle.replay_shards.specs.declared.note.Note.{Note}
 use Rattle.replay_shards.specs.declared.noted_reply.NotedReply.{NotedReply}
-use Rattle.replay_shards.specs.Answers.{HaveReplied, noted, noted_in, noted_each}
+use Rattle.replay_shards.specs.Answers.{HaveReplied, reply_with_note, noted_in, noted_each}
 use Rattle.replay_shards.specs.Notes.{first_note, first_notes}
 use Rattle.replay_shards.proofs.Replied.{replied_more}
 
@@ -34,9 +34,9 @@ pub one_more : (version : ℤ) (answers : List Answer) (notes : List (Vec Note G
     → HaveReplied (take i answers) (first_notes version (map vec_items (take i notes))) (noted_each old)
     → HaveReplied (take (i + 1) answers) (first_notes version (map vec_items (take (i + 1) notes))) (noted_each new)
 one_more version answers notes old new i reply note own answer_at note_at is of_reply of_note have =
-    let s : noted_in own ≡ noted reply (first_note version note.items) =
-    ap (λ (r : ReplyValue). noted r (option_map (λ (reads : Bor (List (List ℕ))). reads.now) own.reads)) of_reply
-    ∙ ap (noted reply) of_note in
+    let s : noted_in own ≡ reply_with_note reply (first_note version note.items) =
+    ap (λ (r : ReplyValue). reply_with_note r (option_map (λ (reads : Bor (List (List ℕ))). reads.now) own.reads)) of_reply
+    ∙ ap (reply_with_note reply) of_note in
     let all = replied_more (take i answers) (first_notes version (map vec_items (take i notes))) (noted_each old) reply
     (first_note version note.items) (noted_in own) have s in
     subst (λ (l : List ShardReply). HaveReplied (take (i + 1) answers) (first_notes version (map vec_items (take (i + 1) notes))) l)

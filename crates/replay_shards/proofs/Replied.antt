@@ -7,14 +7,14 @@ use Rattle.keyspace.specs.declared.answer.Answer.TheVariants.{Reply, Never, Held
 use Rattle.keyspace.specs.declared.reply.Reply.{Reply as ReplyValue}
 use Rattle.keyspace.specs.Answer.{version_of_answer}
 use Rattle.shards.specs.declared.shard_reply.ShardReply.{ShardReply}
-use Rattle.replay_shards.specs.Answers.{HaveReplied, IsHeld, IsNever, noted}
+use Rattle.replay_shards.specs.Answers.{HaveReplied, IsHeld, IsNever, reply_with_note}
 
 abbrev Notes : Type 0
 Notes = List (Option (List (List ℕ)))
 
 -- one shard more
 pub replied_more : (answers : List Answer) (notes : Notes) (each : List ShardReply) (reply : ReplyValue) (kept : Option (List (List ℕ)))
-    (s : ShardReply) → HaveReplied answers notes each → s ≡ noted reply kept
+    (s : ShardReply) → HaveReplied answers notes each → s ≡ reply_with_note reply kept
     → HaveReplied (answers ++ Reply reply ∷ []) (notes ++ kept ∷ []) (each ++ s ∷ [])
 replied_more [] [] [] reply kept s have is = (is, tt)
 replied_more (Reply r ∷ answers) (n ∷ notes) (first ∷ each) reply kept s have is =
@@ -69,7 +69,7 @@ of_version version (Reply r ∷ answers) (n ∷ notes) (s ∷ each) all have =
     (ap (λ (t : ShardReply). t.reply.version) have.0 ∙ noted_version r n ∙ All-head P (Reply r) answers all)
     (of_version version answers notes each (All-tail P (Reply r) answers all) have.1)
   where
-    noted_version : (reply : ReplyValue) (kept : Option (List (List ℕ))) → (noted reply kept).reply.version ≡ reply.version
+    noted_version : (reply : ReplyValue) (kept : Option (List (List ℕ))) → (reply_with_note reply kept).reply.version ≡ reply.version
     noted_version reply None = refl
     noted_version reply (Some reads) = refl
 of_version version _ _ _ all have = absurd have

@@ -17,11 +17,11 @@ indices_for (e ∷ entries) [] = [] ∷ indices_for entries []
 indices_for (e ∷ entries) (own ∷ reads) = own ∷ indices_for entries reads
 
 -- A shard's reply beside the note of the batch, as `shards` combines it. Without a note the shard can report no read range.
-abbrev pub noted : Reply → Option (List (List ℕ)) → ShardReply
-noted reply note = record { reply = reply; reads = indices_for reply.entries (unwrap_or note []) }
+abbrev pub reply_with_note : Reply → Option (List (List ℕ)) → ShardReply
+reply_with_note reply note = record { reply = reply; reads = indices_for reply.entries (unwrap_or note []) }
 
 abbrev pub noted_in : NotedReply → ShardReply
-noted_in own = noted own.reply.now (option_map (λ reads. reads.now) own.reads)
+noted_in own = reply_with_note own.reply.now (option_map (λ reads. reads.now) own.reads)
 
 abbrev pub noted_each : List NotedReply → List ShardReply
 noted_each each = map noted_in each
@@ -55,7 +55,7 @@ IsHeld (answer.Held version) = ⊤
 -- every shard has replied, and these are the replies, each beside the shard's note of the batch
 abbrev pub HaveReplied : List Answer → List (Option (List (List ℕ))) → List ShardReply → Type 0
 HaveReplied [] [] [] = ⊤
-HaveReplied (answer.Reply reply ∷ answers) (note ∷ notes) (s ∷ each) = (s ≡ noted reply note) × HaveReplied answers notes each
+HaveReplied (answer.Reply reply ∷ answers) (note ∷ notes) (s ∷ each) = (s ≡ reply_with_note reply note) × HaveReplied answers notes each
 HaveReplied _ _ _ = ⊥
 
 -- The answer of all shards to the batch of this version: `Never` if a shard says so, otherwise `Held` if one says so, otherwise the

@@ -4,19 +4,19 @@ use Rattle.std.proofs.Common.{ap, ◌∙◌, arith, length-append}
 use Rattle.std.proofs.lemmas.List.Sums.{sum_by-append, sum_by-take-le}
 use Rattle.replay_summary.specs.declared.counted.Counted.{Counted}
 use Rattle.replay_summary.specs.declared.summary.Summary.{Summary}
-use Rattle.replay_summary.specs.Summary.{Fits, is_first, is_repeat, selected, summary_of, total_of, transactions_in, verdicts}
+use Rattle.replay_summary.specs.Summary.{Fits, is_first, is_repeat, selected_items, summary_of, total_of, transactions_in, verdicts}
 use Rattle.replay_summary.proofs.Selecting.{selected-split}
 
 module _ {X : Type 0} (test : List X → X → Bool) (xs : List X) (k : ℕ) where
-  fewer_selected : length (selected test [] (take k xs)) ≤ length (selected test [] xs)
+  fewer_selected : length (selected_items test [] (take k xs)) ≤ length (selected_items test [] xs)
   fewer_selected =
-      let all : length (selected test [] xs) ≡ length (selected test [] (take k xs)) + length (selected test (take k xs) (drop k xs)) =
-      ap length (selected-split test xs k) ∙ length-append (selected test [] (take k xs)) _ in omega arith
+      let all : length (selected_items test [] xs) ≡ length (selected_items test [] (take k xs)) + length (selected_items test (take k xs) (drop k xs)) =
+      ap length (selected-split test xs k) ∙ length-append (selected_items test [] (take k xs)) _ in omega arith
 
-  less_selected : (f : X → ℕ) → sum_by f (selected test [] (take k xs)) ≤ sum_by f (selected test [] xs)
+  less_selected : (f : X → ℕ) → sum_by f (selected_items test [] (take k xs)) ≤ sum_by f (selected_items test [] xs)
   less_selected f =
-      let all : sum_by f (selected test [] xs) ≡ sum_by f (selected test [] (take k xs)) + sum_by f (selected test (take k xs) (drop k xs)) =
-      ap (sum_by f) (selected-split test xs k) ∙ sum_by-append f (selected test [] (take k xs)) _ in omega arith
+      let all : sum_by f (selected_items test [] xs) ≡ sum_by f (selected_items test [] (take k xs)) + sum_by f (selected_items test (take k xs) (drop k xs)) =
+      ap (sum_by f) (selected-split test xs k) ∙ sum_by-append f (selected_items test [] (take k xs)) _ in omega arith
 
 below_too : (m n : ℕ) → m ≤ n → n < 2 ^ 64 → m < 2 ^ 64
 below_too m n less small = omega arith

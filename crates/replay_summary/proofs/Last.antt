@@ -9,7 +9,7 @@ use Rattle.std.proofs.lemmas.Bool.{cases_Bool}
 use Rattle.std.proofs.lemmas.Int.{ints}
 use Rattle.replay_summary.specs.declared.versions.Versions.{Versions}
 use Rattle.replay_summary.specs.Adding.{is_last}
-use Rattle.replay_summary.specs.Summary.{only, span, spanning}
+use Rattle.replay_summary.specs.Summary.{only, span, span_of_both}
 
 -- none of the items has a version above this one
 abbrev pub NoneAbove : {X : Type 0} → (X → ℤ) → ℤ → List X → Type 0
@@ -45,7 +45,7 @@ same_as_greater v x y above below =
     ]
 
 is_last-spanning : (v x : ℤ) (before : Option Versions) → Below v before → x ≤ℤ v
-    → is_last v (spanning before (only x)) ≡ (is_last v before || int_eq v x)
+    → is_last v (span_of_both before (only x)) ≡ (is_last v before || int_eq v x)
 is_last-spanning v x None below within = refl
 is_last-spanning v x (Some versions) below within = by (int_lt x versions.last) refl
   where
@@ -55,7 +55,7 @@ is_last-spanning v x (Some versions) below within = by (int_lt x versions.last) 
         ∙ ap (λ (b : Bool). int_eq v versions.last || b) (sym (other_below v x (omega (arith, ints))))
     by false not_less = same_as_greater v x versions.last (omega (arith, ints)) within
 
-Below-spanning : (v x : ℤ) (before : Option Versions) → Below v before → x ≤ℤ v → Below v (spanning before (only x))
+Below-spanning : (v x : ℤ) (before : Option Versions) → Below v before → x ≤ℤ v → Below v (span_of_both before (only x))
 Below-spanning v x None below within = within
 Below-spanning v x (Some versions) below within = by (int_lt x versions.last)
   where
@@ -68,10 +68,10 @@ or_assoc true b c = refl
 or_assoc false b c = refl
 
 last_from : (v : ℤ) (before : Option Versions) (xs : List ℤ) → Below v before → NoneAbove (λ x. x) v xs
-    → is_last v (fold spanning before (map only xs)) ≡ (is_last v before || list_any (int_eq v) xs)
+    → is_last v (fold span_of_both before (map only xs)) ≡ (is_last v before || list_any (int_eq v) xs)
 last_from v before [] below none = or_false (is_last v before)
 last_from v before (x ∷ xs) below none =
-    last_from v (spanning before (only x)) xs (Below-spanning v x before below none.0) none.1
+    last_from v (span_of_both before (only x)) xs (Below-spanning v x before below none.0) none.1
     ∙ ap (λ (b : Bool). b || list_any (int_eq v) xs) (is_last-spanning v x before below none.0)
     ∙ or_assoc (is_last v before) (int_eq v x) (list_any (int_eq v) xs)
 

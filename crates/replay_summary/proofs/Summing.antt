@@ -24,7 +24,7 @@ use Rattle.replay_summary.specs.Summary.{
   says_never,
   says_reply,
   span,
-  spanning,
+  span_of_both,
   summary_of,
   total_of,
   transactions_in,
@@ -32,15 +32,15 @@ use Rattle.replay_summary.specs.Summary.{
 }
 use Rattle.replay_summary.proofs.Last.{NoneAbove, last_seen}
 use Rattle.replay_summary.proofs.Rising.{NoneAbove-replies}
-use Rattle.replay_summary.proofs.Selecting.{chosen, selected-more}
+use Rattle.replay_summary.proofs.Selecting.{item_if, selected-more}
 
 -- sums over what is selected
 module _ {X : Type 0} (f : X → ℕ) where
-  sum_by-chosen : (xs : List X) (t : Bool) (x : X) → sum_by f (xs ++ chosen t x) ≡ sum_by f xs + cond t (f x) 0
+  sum_by-chosen : (xs : List X) (t : Bool) (x : X) → sum_by f (xs ++ item_if t x) ≡ sum_by f xs + cond t (f x) 0
   sum_by-chosen xs true x = sum_by_push f xs x
   sum_by-chosen xs false x = ap (sum_by f) (append-nil xs) ∙ sym (add-zero (sum_by f xs))
 
-length-chosen : {X : Type 0} (xs : List X) (t : Bool) (x : X) → length (xs ++ chosen t x) ≡ length xs + cond t 1 0
+length-chosen : {X : Type 0} (xs : List X) (t : Bool) (x : X) → length (xs ++ item_if t x) ≡ length xs + cond t 1 0
 length-chosen xs true x = length-append xs (x ∷ [])
 length-chosen xs false x = length-append xs []
 
@@ -49,10 +49,10 @@ abbrev first : Bool → Outcome → Bool
 first b outcome = says_reply outcome && not b
 
 module _ (cs : List Counted) (c : Counted) where
-  first_replies-more : first_replies (cs ++ c ∷ []) ≡ first_replies cs ++ chosen (first (has_reply c.version cs) c.outcome) c
+  first_replies-more : first_replies (cs ++ c ∷ []) ≡ first_replies cs ++ item_if (first (has_reply c.version cs) c.outcome) c
   first_replies-more = selected-more is_first cs c
 
-  repeats-more : repeats (cs ++ c ∷ []) ≡ repeats cs ++ chosen (says_reply c.outcome && has_reply c.version cs) c
+  repeats-more : repeats (cs ++ c ∷ []) ≡ repeats cs ++ item_if (says_reply c.outcome && has_reply c.version cs) c
   repeats-more = selected-more is_repeat cs c
 
   sum-more : (f : Counted → ℕ) (n : ℕ) → cond (first (has_reply c.version cs) c.outcome) (f c) 0 ≡ n
@@ -61,15 +61,15 @@ module _ (cs : List Counted) (c : Counted) where
       ap (sum_by f) first_replies-more ∙ sum_by-chosen f (first_replies cs) _ c ∙ ap (λ k. sum_by f (first_replies cs) + k) is
 
   versions-more : span (map only (reply_versions (cs ++ c ∷ [])))
-      ≡ fold spanning (span (map only (reply_versions cs))) (map only (reply_versions (c ∷ [])))
+      ≡ fold span_of_both (span (map only (reply_versions cs))) (map only (reply_versions (c ∷ [])))
   versions-more =
       ap (λ (l : List Counted). span (map only (map (λ (x : Counted). x.version) l))) (filter-append is_reply cs (c ∷ []))
       ∙ ap (λ (l : List ℤ). span (map only l))
       (map-append (λ (x : Counted). x.version) (filter is_reply cs) (filter is_reply (c ∷ [])))
       ∙ ap span (map-append only (reply_versions cs) (reply_versions (c ∷ [])))
-      ∙ fold-append spanning None (map only (reply_versions cs)) (map only (reply_versions (c ∷ [])))
+      ∙ fold-append span_of_both None (map only (reply_versions cs)) (map only (reply_versions (c ∷ [])))
 
-spanning-none : (versions : Option Versions) → versions ≡ spanning versions None
+spanning-none : (versions : Option Versions) → versions ≡ span_of_both versions None
 spanning-none None = refl
 spanning-none (Some versions) = refl
 
@@ -124,8 +124,8 @@ held_part b v Never = refl
 held_part b v Held = refl
 
 versions_part : (before : Option Versions) (b : Bool) (v : ℤ) (o : Outcome)
-    → fold spanning before (map only (map (λ (x : Counted). x.version) (cond (says_reply o) (record { version = v; outcome = o } ∷ []) [])))
-    ≡ spanning before (part b v o).versions
+    → fold span_of_both before (map only (map (λ (x : Counted). x.version) (cond (says_reply o) (record { version = v; outcome = o } ∷ []) [])))
+    ≡ span_of_both before (part b v o).versions
 versions_part before true v (Replied counts) = refl
 versions_part before false v (Replied counts) = refl
 versions_part before b v Never = spanning-none before
@@ -173,9 +173,9 @@ summary_next cs c none =
 
 pub total_next : (ss : List Summary) (s : Summary) → total_of (ss ++ s ∷ []) ≡ plus (total_of ss) s
 total_next ss s =
-    let versions : span (map (λ (x : Summary). x.versions) (ss ++ s ∷ [])) ≡ spanning (total_of ss).versions s.versions =
+    let versions : span (map (λ (x : Summary). x.versions) (ss ++ s ∷ [])) ≡ span_of_both (total_of ss).versions s.versions =
     ap span (map-append (λ (x : Summary). x.versions) ss (s ∷ []))
-    ∙ fold-append spanning None (map (λ (x : Summary). x.versions) ss) (s.versions ∷ []) in
+    ∙ fold-append span_of_both None (map (λ (x : Summary). x.versions) ss) (s.versions ∷ []) in
     λ i. record {
       batches = sum_by_push (λ (x : Summary). x.batches) ss s i;
       transactions = sum_by_push (λ (x : Summary). x.transactions) ss s i;

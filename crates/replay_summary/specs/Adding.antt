@@ -6,7 +6,7 @@ use Rattle.replay_summary.specs.declared.counted.Outcome.{Outcome}
 use Rattle.replay_summary.specs.declared.counted.Outcome.TheVariants.{Replied, Never, Held}
 use Rattle.replay_summary.specs.declared.summary.Summary.{Summary}
 use Rattle.replay_summary.specs.declared.versions.Versions.{Versions}
-use Rattle.replay_summary.specs.Summary.{only, spanning, transactions_in}
+use Rattle.replay_summary.specs.Summary.{only, span_of_both, transactions_in}
 
 -- the summary of no answers
 abbrev pub nothing : Summary
@@ -89,5 +89,5 @@ plus s t = record {
   repeats = s.repeats + t.repeats;
   never = s.never + t.never;
   held = s.held + t.held;
-  versions = spanning s.versions t.versions;
+  versions = span_of_both s.versions t.versions;
 }

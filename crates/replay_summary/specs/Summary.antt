@@ -59,23 +59,23 @@ abbrev pub is_repeat : List Counted → Counted → Bool
 is_repeat before c = is_reply c && has_reply c.version before
 
 -- the items that pass a test, which sees all items before each; the given ones are before the first
-abbrev pub selected : {X : Type 0} → (List X → X → Bool) → List X → List X → List X
-selected test before [] = []
-selected test before (x ∷ xs) = (if test before x then x ∷ [] else []) ++ selected test (before ++ x ∷ []) xs
+abbrev pub selected_items : {X : Type 0} → (List X → X → Bool) → List X → List X → List X
+selected_items test before [] = []
+selected_items test before (x ∷ xs) = (if test before x then x ∷ [] else []) ++ selected_items test (before ++ x ∷ []) xs
 
 -- the first reply of each version
 abbrev pub first_replies : List Counted → List Counted
-first_replies cs = selected is_first [] cs
+first_replies cs = selected_items is_first [] cs
 
 -- the other replies
 abbrev pub repeats : List Counted → List Counted
-repeats cs = selected is_repeat [] cs
+repeats cs = selected_items is_repeat [] cs
 
 -- the least and the greatest version of both
-abbrev pub spanning : Option Versions → Option Versions → Option Versions
-spanning None other = other
-spanning (Some one) None = Some one
-spanning (Some one) (Some other) =
+abbrev pub span_of_both : Option Versions → Option Versions → Option Versions
+span_of_both None other = other
+span_of_both (Some one) None = Some one
+span_of_both (Some one) (Some other) =
     Some (record { first = int_min one.first other.first; last = int_max one.last other.last })
 
 abbrev pub only : ℤ → Option Versions
@@ -83,7 +83,7 @@ only version = Some (record { first = version; last = version })
 
 -- the least and the greatest version of all
 abbrev pub span : List (Option Versions) → Option Versions
-span all = fold spanning None all
+span all = fold span_of_both None all
 
 -- The summary of the answers to a proxy, in order of versions. The transactions of a repeat don't count again.
 abbrev pub summary_of : List Counted → Summary

@@ -1,7 +1,7 @@
 //! How full a resolver was during a run.
 
 ghost use Rattle.std.specs.Prelude.{◌≡◌};
-ghost use Rattle.replay_summary.specs.Occupancy.{noted};
+ghost use Rattle.replay_summary.specs.Occupancy.{occupancy_after};
 
 /// How full a resolver was during a run.
 #[derive(Clone, Copy, Debug, PartialEq, Eq)]
@@ -33,7 +33,7 @@ impl Occupancy {
 
     /// Notes how many batches the resolver holds now, and how many boundaries its conflict set has.
     pub fn note(&mut self, held: usize, boundaries: usize)
-        ensures noted { self.new ≡ noted held boundaries self.old }
+        ensures noted { self.new ≡ occupancy_after held boundaries self.old }
     {
         self.most_held = self.most_held.max(held);
         self.boundaries = boundaries;

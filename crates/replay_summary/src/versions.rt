@@ -1,7 +1,7 @@
 //! From the least to the greatest of some versions.
 
 ghost use Rattle.std.specs.Prelude.{◌≡◌};
-ghost use Rattle.replay_summary.specs.Summary.{spanning};
+ghost use Rattle.replay_summary.specs.Summary.{span_of_both};
 
 /// The least and the greatest of some versions.
 #[derive(Clone, Copy, Debug, PartialEq, Eq)]
@@ -12,7 +12,7 @@ pub struct Versions {
 
 /// Returns the least and the greatest version of both.
 pub fn spanning(one: Option<Versions>, other: Option<Versions>) -> Option<Versions>
-    ensures span { result ≡ spanning one other }
+    ensures span { result ≡ span_of_both one other }
 {
     match (one, other) {
         (None, versions) | (versions, None) => versions,

@@ -8,7 +8,7 @@ use Rattle.keyspace.specs.declared.answer.Answer.{Answer}
 use Rattle.keyspace.specs.declared.answer.Answer.TheVariants as answer
 use Rattle.keyspace.specs.declared.reply.Reply.{Reply}
 use Rattle.checking.specs.Check.{TakesMemory, check_text, count_at, count_differences}
-use Rattle.checking.specs.Difference.{expected, expected_by}
+use Rattle.checking.specs.Difference.{expected_replies, expected_by}
 use Rattle.replay_output.specs.declared.options.form.Form.{Form}
 use Rattle.replay_output.specs.declared.options.form.Form.TheVariants.{Kept}
 use Rattle.replay_output.specs.declared.options.style.Style.{Style}
@@ -22,7 +22,7 @@ kept_is_expected (answer.Never version) = refl
 kept_is_expected (answer.Held version) = refl
 
 module _ (style : Style) (kept : style.form ≡ Kept) where
-  kept_by_lines : (proxy : ℕ) (ls : List Line) → All (IsLineOf style proxy) ls → replies_kept ls ≡ expected (answers_of ls)
+  kept_by_lines : (proxy : ℕ) (ls : List Line) → All (IsLineOf style proxy) ls → replies_kept ls ≡ expected_replies (answers_of ls)
   kept_by_lines proxy [] all = refl
   kept_by_lines proxy (l ∷ ls) all =
       let P = IsLineOf style proxy in
@@ -33,7 +33,7 @@ module _ (style : Style) (kept : style.form ≡ Kept) where
 
   kept_from : (received : List (List Line))
       → ((place : ℕ) (ls : List Line) → slice_get received place ≡ Some ls → (proxy : ℕ) × All (IsLineOf style proxy) ls)
-      → map replies_kept received ≡ map expected (map answers_of received)
+      → map replies_kept received ≡ map expected_replies (map answers_of received)
   kept_from [] each = refl
   kept_from (ls ∷ received) each =
       let first = each zero ls refl in
@@ -41,7 +41,7 @@ module _ (style : Style) (kept : style.form ≡ Kept) where
       (kept_from received (λ place l at. each (suc place) l at))
 
 pub kept_are_expected : (received : List (List Line)) → KeepReplies received
-    → map replies_kept received ≡ map expected (map answers_of received)
+    → map replies_kept received ≡ map expected_replies (map answers_of received)
 kept_are_expected received keep = kept_from keep.0 keep.1 received (λ place ls at. (place, keep.2 place ls at))
 
 pub as_many_answers : (received : List (List Line)) → count_lines received ≡ count_lines (map answers_of received)

@@ -3,7 +3,7 @@ use Rattle.std.specs.Prelude.{◌≡◌, ℕ, ◌+◌, ◌≤◌, ◌⊎◌, Lis
 use Rattle.std.specs.List.{flat_map}
 use Rattle.keyspace.specs.declared.answer.Answer.{Answer}
 use Rattle.keyspace.specs.declared.reply.Reply.{Reply}
-use Rattle.checking.specs.Difference.{expected}
+use Rattle.checking.specs.Difference.{expected_replies}
 use Rattle.checking.specs.Check.{check_text, count_at, count_differences}
 use Rattle.replay_output.specs.declared.line.Line.{Line}
 use Rattle.replay_output.specs.declared.options.form.Form.TheVariants.{Kept}
@@ -31,8 +31,8 @@ TakesToCompare recorded received proxy =
 
 -- the complete text, given the replies that were recorded of each proxy, and its answers
 abbrev pub check_lines : List (List Reply) → List (List Answer) → List ℕ
-check_lines recorded received = check_text (count_lines received) (map expected received) recorded
+check_lines recorded received = check_text (count_lines received) (map expected_replies received) recorded
 
 -- how many differences there are
 abbrev pub differences_of : List (List Reply) → List (List Answer) → ℕ
-differences_of recorded received = count_differences (map expected received) recorded
+differences_of recorded received = count_differences (map expected_replies received) recorded

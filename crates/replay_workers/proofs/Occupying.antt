@@ -16,7 +16,7 @@ use Rattle.resolver.specs.Resolver.{ResolverState, StandsOver, TakesFrom, Finish
 use Rattle.resolver.specs.Turns.{Turns}
 use Rattle.resolver.proofs.callers.Standing.{IsIn-standing}
 use Rattle.replay_summary.specs.declared.occupancy.Occupancy.{Occupancy}
-use Rattle.replay_summary.specs.Occupancy.{noted}
+use Rattle.replay_summary.specs.Occupancy.{occupancy_after}
 use Rattle.replay_workers.specs.Occupied.{HasBoundaries, IsGreatestHeld, IsMeasured, IsOccupancyOf, IsOccupancyOver}
 use Rattle.replay_workers.specs.Stops.{IsStopOf}
 use Rattle.replay_workers.proofs.callers.Stopping.{IsAccountedWith, after_turn}
@@ -109,7 +109,7 @@ module _ (limit : ℕ) (window : ℤ) (log : List Step) (before : Occupancy) (he
 
   -- noted after one step more
   noted_more : (x : Step) → Holds window (log ++ x ∷ []) held → HasBoundaries limit window (log ++ x ∷ []) boundaries
-      → IsOccupancyOver limit window (log ++ x ∷ []) (noted held boundaries before)
+      → IsOccupancyOver limit window (log ++ x ∷ []) (occupancy_after held boundaries before)
   noted_more x holds has =
       let at = greater_in (HasBoundaries limit window) (log ++ x ∷ []) (min over.steps (length log)) before.most_boundaries boundaries
       (first_of_longer (HasBoundaries limit window) log (x ∷ []) over.steps before.most_boundaries over.most_boundaries) has in
@@ -125,7 +125,7 @@ module _ (limit : ℕ) (window : ℤ) (log : List Step) (before : Occupancy) (he
 
   -- noted again, after no step
   noted_again : Holds window log held → HasBoundaries limit window log boundaries
-      → IsOccupancyOver limit window log (noted held boundaries before)
+      → IsOccupancyOver limit window log (occupancy_after held boundaries before)
   noted_again holds has =
       let at = greater_in (HasBoundaries limit window) log over.steps before.most_boundaries boundaries over.most_boundaries has in
       record {
@@ -228,7 +228,7 @@ module _ (old new : ResolverState) (result : Result Turn Stop) (turns : Turns re
     (taken : (proxy : ℕ) (took : TakesFrom proxy old new) → Observes Before After old new (Take proxy took.batch ∷ []))
     (finish : Finishes old new → Observes Before After old new (Finish ∷ []))
     (nothing : TakesNoStep old new → Observes Before After old new []) (before after : Occupancy)
-    (notes : new.core.stop ≡ None → (after ≡ noted (length new.core.held) (length new.core.set.map.boundaries) before)
+    (notes : new.core.stop ≡ None → (after ≡ occupancy_after (length new.core.held) (length new.core.set.map.boundaries) before)
     × (length new.core.set.map.boundaries ≤ new.core.set.map.limit) × AreSteps new.core.set.map × RemembersWindow new.core)
     (keeps : (stop : Stop) → new.core.stop ≡ Some stop → after ≡ before) where
   abbrev window : ℤ

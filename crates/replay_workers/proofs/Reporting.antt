@@ -28,7 +28,7 @@ use Rattle.keyspace.specs.declared.txn.Txn.{Txn}
 use Rattle.keyspace.specs.storage.Fields.{TxnFields, TxnLimits, txn_fields}
 use Rattle.keyspace.specs.storage.Tables.{AreRows, AreTables, txn_of_row, txns_from, txns_of_tables}
 use Rattle.replay_workers.specs.Asking.{asking_row}
-use Rattle.replay_workers.specs.Reporting.{asking}
+use Rattle.replay_workers.specs.Reporting.{asking_txn}
 
 -- the first i rows ask
 pub asked_to : ℕ → List Row → List Row
@@ -93,7 +93,7 @@ from-asking buffer spans from [] = refl
 from-asking buffer spans from (row ∷ rows) =
     ap (λ (rest : List TxnFields). asking_fields (txn_of_row buffer spans from row) ∷ rest) (from-asking buffer spans row.end rows)
 
-fields-asking : (txns : List Txn) → map asking_fields (map txn_fields txns) ≡ map txn_fields (map asking txns)
+fields-asking : (txns : List Txn) → map asking_fields (map txn_fields txns) ≡ map txn_fields (map asking_txn txns)
 fields-asking [] = refl
 fields-asking (txn ∷ txns) = ap (λ (rest : List TxnFields). asking_fields (txn_fields txn) ∷ rest) (fields-asking txns)
 
@@ -113,11 +113,11 @@ module _ (buffer : List ℕ) (spans : List Span) (rows after : List Row) (asked 
 
   -- they are those transactions
   pub reported_asking : (txns : List Txn) → txns_of_tables buffer spans rows ≡ map txn_fields txns
-      → txns_of_tables buffer spans after ≡ map txn_fields (map asking txns)
+      → txns_of_tables buffer spans after ≡ map txn_fields (map asking_txn txns)
   reported_asking txns reported = reported_asked ∙ ap (map asking_fields) reported ∙ fields-asking txns
 
   -- and no more
   pub few_asking : (txns : List Txn) → txns_of_tables buffer spans rows ≡ map txn_fields txns → length txns ≤ MAX_TXNS
       → length (txns_of_tables buffer spans after) ≤ MAX_TXNS
   few_asking txns reported few =
-      omega (arith, few, ap length (reported_asking txns reported), length-map (map asking txns) txn_fields, length-map txns asking)
+      omega (arith, few, ap length (reported_asking txns reported), length-map (map asking_txn txns) txn_fields, length-map txns asking_txn)

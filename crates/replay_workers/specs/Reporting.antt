@@ -14,14 +14,14 @@ use Rattle.wire.specs.Batches.{GivesEach, IsFaultAt}
 use Rattle.replay_workers.specs.Worker.{SendsBatches}
 
 -- the same transaction, which asks for its report
-abbrev pub asking : Txn → Txn
-asking txn = record txn { marked = true }
+abbrev pub asking_txn : Txn → Txn
+asking_txn txn = record txn { marked = true }
 
 -- the same batch, whose transactions all ask for their reports
 abbrev pub all_asking : Batch → Batch
 all_asking batch = record batch {
-  txns = map asking batch.txns;
-  few = subst (λ (n : ℕ). n ≤ MAX_TXNS) (sym (length-map batch.txns asking)) batch.few;
+  txns = map asking_txn batch.txns;
+  few = subst (λ (n : ℕ). n ≤ MAX_TXNS) (sym (length-map batch.txns asking_txn)) batch.few;
 }
 
 -- the batch that is resolved for one of a file

@@ -33,7 +33,7 @@ use Rattle.std.proofs.lemmas.Int.{ints}
 use Rattle.std.proofs.lemmas.List.Folds.{list_any-append}
 use Rattle.keyspace.specs.declared.reply.Reply.{Reply}
 use Rattle.keyspace.specs.Processed.{Processed}
-use Rattle.keyspace.specs.Found.{is_received, kept}
+use Rattle.keyspace.specs.Found.{is_received, kept_reply}
 use Rattle.resolver.specs.Core.{kept_also}
 
 -- the first, or else the second
@@ -82,60 +82,60 @@ module _ (p : Processed) (proxy : ℕ) (version : ℤ) where
       list_any-append (λ q. (q.proxy == proxy) && int_le version q.batch.received) ps (p ∷ [])
       ∙ ap (λ given. is_received ps proxy version || given) (or-false gives_up)
 
-  kept_one : kept (p ∷ []) proxy version ≡ cond is_own (Some p.reply) None
+  kept_one : kept_reply (p ∷ []) proxy version ≡ cond is_own (Some p.reply) None
   kept_one = ap (λ test. cond test (Some p.reply) None) (and-true is_own)
 
   -- the batch gives up what was kept of its proxy up to the version
   kept_given_up : gives_up ≡ true → (ps : List Processed)
-      → kept (ps ++ p ∷ []) proxy version ≡ kept (p ∷ []) proxy version
+      → kept_reply (ps ++ p ∷ []) proxy version ≡ kept_reply (p ∷ []) proxy version
   kept_given_up up [] = refl
   kept_given_up up (q ∷ ps) =
       let own = (q.proxy == proxy) && int_eq q.batch.version version in
       let received : is_received (ps ++ p ∷ []) proxy version ≡ true =
       received_more ps ∙ or_right (is_received ps proxy version) gives_up up in
       cond-false (own && not (is_received (ps ++ p ∷ []) proxy version)) (Some q.reply)
-      (kept (ps ++ p ∷ []) proxy version)
+      (kept_reply (ps ++ p ∷ []) proxy version)
       (ap (λ given. own && not given) received ∙ and-false own)
       ∙ kept_given_up up ps
 
   -- and else leaves it
   kept_else : gives_up ≡ false → (ps : List Processed)
-      → kept (ps ++ p ∷ []) proxy version
-      ≡ or_else (kept ps proxy version) (kept (p ∷ []) proxy version)
+      → kept_reply (ps ++ p ∷ []) proxy version
+      ≡ or_else (kept_reply ps proxy version) (kept_reply (p ∷ []) proxy version)
   kept_else up [] = refl
   kept_else up (q ∷ ps) =
       let own = (q.proxy == proxy) && int_eq q.batch.version version in
       let received : is_received (ps ++ p ∷ []) proxy version ≡ is_received ps proxy version =
       received_more ps ∙ ap (λ given. is_received ps proxy version || given) up
       ∙ or-false (is_received ps proxy version) in
-      ap (λ given. cond (own && not given) (Some q.reply) (kept (ps ++ p ∷ []) proxy version)) received
+      ap (λ given. cond (own && not given) (Some q.reply) (kept_reply (ps ++ p ∷ []) proxy version)) received
       ∙ ap (cond (own && not (is_received ps proxy version)) (Some q.reply)) (kept_else up ps)
-      ∙ or_else-cond (own && not (is_received ps proxy version)) q.reply (kept ps proxy version)
-      (kept (p ∷ []) proxy version)
+      ∙ or_else-cond (own && not (is_received ps proxy version)) q.reply (kept_reply ps proxy version)
+      (kept_reply (p ∷ []) proxy version)
 
   -- where none is kept of the batch's version, its reply goes first as well as last
-  own_first : (ps : List Processed) → kept ps p.proxy p.batch.version ≡ None
-      → or_else (kept ps proxy version) (cond is_own (Some p.reply) None)
-      ≡ cond is_own (Some p.reply) (kept ps proxy version)
-  own_first ps absent = or_else-own is_own p.reply (kept ps proxy version) (λ own.
+  own_first : (ps : List Processed) → kept_reply ps p.proxy p.batch.version ≡ None
+      → or_else (kept_reply ps proxy version) (cond is_own (Some p.reply) None)
+      ≡ cond is_own (Some p.reply) (kept_reply ps proxy version)
+  own_first ps absent = or_else-own is_own p.reply (kept_reply ps proxy version) (λ own.
       let parts = and_parts (p.proxy == proxy) (int_eq p.batch.version version) own in
-      ap (λ q. kept ps q version) (sym (eqb-true p.proxy proxy parts.0))
-      ∙ ap (kept ps p.proxy) (sym ((Decides-int_eq p.batch.version version).0 parts.1)) ∙ absent)
+      ap (λ q. kept_reply ps q version) (sym (eqb-true p.proxy proxy parts.0))
+      ∙ ap (kept_reply ps p.proxy) (sym ((Decides-int_eq p.batch.version version).0 parts.1)) ∙ absent)
 
   -- one more is kept where none was kept of its version
   pub kept_more : (ps : List Processed) → p.reply.version ≡ p.batch.version
-      → kept ps p.proxy p.batch.version ≡ None
-      → kept (ps ++ p ∷ []) proxy version
-      ≡ kept_also p.proxy p.batch.received p.reply (kept ps) proxy version
+      → kept_reply ps p.proxy p.batch.version ≡ None
+      → kept_reply (ps ++ p ∷ []) proxy version
+      ≡ kept_also p.proxy p.batch.received p.reply (kept_reply ps) proxy version
   kept_more ps same absent =
       elim (cases_Bool gives_up) [
         | inl up ↦ kept_given_up up ps ∙ kept_one
-            ∙ ap (λ given. cond is_own (Some p.reply) (cond given None (kept ps proxy version))) (sym up)
-        | inr up ↦ kept_else up ps ∙ ap (or_else (kept ps proxy version)) kept_one ∙ own_first ps absent
-            ∙ ap (λ given. cond is_own (Some p.reply) (cond given None (kept ps proxy version))) (sym up)
+            ∙ ap (λ given. cond is_own (Some p.reply) (cond given None (kept_reply ps proxy version))) (sym up)
+        | inr up ↦ kept_else up ps ∙ ap (or_else (kept_reply ps proxy version)) kept_one ∙ own_first ps absent
+            ∙ ap (λ given. cond is_own (Some p.reply) (cond given None (kept_reply ps proxy version))) (sym up)
       ]
       ∙ ap (λ v. cond ((p.proxy == proxy) && int_eq v version) (Some p.reply)
-      (cond gives_up None (kept ps proxy version))) (sym same)
+      (cond gives_up None (kept_reply ps proxy version))) (sym same)
 
 -- none is kept if no reply is
 pub none_kept : (o : Option Reply) → ((reply : Reply) → o ≡ Some reply → ⊥) → o ≡ None

@@ -14,7 +14,7 @@ use Rattle.keyspace.specs.declared.reply.Verdict.TheVariants.{Committed}
 use Rattle.keyspace.specs.Writes.{Write}
 use Rattle.keyspace.specs.Judge.{judge, without_places}
 use Rattle.keyspace.specs.Leaving.{Held}
-use Rattle.keyspace.specs.Found.{kept}
+use Rattle.keyspace.specs.Found.{kept_reply}
 use Rattle.keyspace.specs.Run.{run, answers_to, part}
 use Rattle.keyspace.proofs.callers.Judging.{reply_same}
 use Rattle.chain.specs.Replies.{Kept, reply_of}
@@ -49,7 +49,7 @@ none_answered proxies proxy a within =
 pub kept_opening : (window : ℤ) (proxies : ℕ) (version : ℤ) (reply : Reply) → pos 0 ≤ℤ version
     → reply.version ≡ version → reply.entries ≡ without_places Committed ∷ [] → (p : ℕ) (v : ℤ)
     → cond ((proxies == p) && int_eq reply.version v) (Some reply) None
-    ≡ kept (run window (opening_log proxies version)).processed p v
+    ≡ kept_reply (run window (opening_log proxies version)).processed p v
 kept_opening window proxies (pos n) reply natural version entries p v =
     let judged = judge window [] (opening_batch n) in
     ap (λ (r : Reply). cond ((proxies == p) && int_eq r.version v) (Some r) None)
@@ -58,13 +58,13 @@ kept_opening window proxies (pos n) reply natural version entries p v =
 kept_opening window proxies (negsuc n) reply natural version entries p v = absurd (omega (arith, ints, natural))
 
 pub kept_start : (window : ℤ) (proxies : ℕ) (version : ℤ) → version <ℤ pos 0 → (p : ℕ) (v : ℤ)
-    → kept (run window (opening_log proxies version)).processed p v ≡ None
+    → kept_reply (run window (opening_log proxies version)).processed p v ≡ None
 kept_start window proxies (pos n) below p v = absurd (omega (arith, ints, below))
 kept_start window proxies (negsuc n) below p v = refl
 
 -- and that reply isn't of a version still to come
 kept_past : (window : ℤ) (proxies : ℕ) (version : ℤ) (p : ℕ) (v : ℤ) (reply : Reply)
-    → kept (run window (opening_log proxies version)).processed p v ≡ Some reply → v ≤ℤ version
+    → kept_reply (run window (opening_log proxies version)).processed p v ≡ Some reply → v ≤ℤ version
 kept_past window proxies (pos n) p v reply =
     let own = (proxies == p) && int_eq (pos n) v in
     cond_both (own && true) (Some (judge window [] (opening_batch n))) None (λ o. o ≡ Some reply → v ≤ℤ pos n)
@@ -77,7 +77,7 @@ kept_past window proxies (negsuc n) p v reply = λ is. cc
 module _ (window : ℤ) (proxies : ℕ) (set : SetState) (held : List Held) (replies : Kept) (owed : OwedView)
     (none_held : held ≡ []) (none : owed.answers ≡ replicate proxies []) where
   pub is_core : (version : ℤ) → set.stop ≡ None → set.resolved ≡ version → (ws : List Write) → Remembers set ws
-      → ((p : ℕ) (v : ℤ) → reply_of replies p v ≡ kept (run window (opening_log proxies version)).processed p v)
+      → ((p : ℕ) (v : ℤ) → reply_of replies p v ≡ kept_reply (run window (opening_log proxies version)).processed p v)
       → IsCore (core_of set version held replies owed None)
   is_core version continues resolved ws remembers kept_is = record {
     takes_more = λ _. continues;
@@ -91,7 +91,7 @@ module _ (window : ℤ) (proxies : ℕ) (set : SetState) (held : List Held) (rep
   nothing_owed proxy = ap (λ (all : List (List Answer)). owed_to proxy all) none ∙ none_owed proxies proxy
 
   pub is_in_opening : (version : ℤ) → negsuc 0 ≤ℤ version → Remembers set (unknown_until version)
-      → ((p : ℕ) (v : ℤ) → reply_of replies p v ≡ kept (run window (opening_log proxies version)).processed p v)
+      → ((p : ℕ) (v : ℤ) → reply_of replies p v ≡ kept_reply (run window (opening_log proxies version)).processed p v)
       → IsIn (run window (opening_log proxies version)) (λ _. []) (core_of set version held replies owed None)
   is_in_opening (pos n) from remembers kept_is = record {
     version = refl;

@@ -32,21 +32,21 @@ hit_more ws later t k hit =
     (Any-left (Above found.0) ws later found.2)
 
 -- what was processed at the opening
-abbrev opened : ℤ → ℕ → ℕ → Processed
-opened window proxies n = record {
+abbrev opening_processed : ℤ → ℕ → ℕ → Processed
+opening_processed window proxies n = record {
   proxy = proxies;
   batch = opening_batch n;
   reply = judge window [] (opening_batch n);
 }
 
 module _ (hits : HitsBelow) (window : ℤ) (proxies n : ℕ) where
-  none_after : (rest : List Processed) → IsChain window (opened window proxies n ∷ rest) → (i j : ℕ) (p : Processed) (t : Txn)
-      → IsCommitted (opened window proxies n ∷ rest) i j p t → p.proxy < proxies → ReadsFrom (pos n) t
+  none_after : (rest : List Processed) → IsChain window (opening_processed window proxies n ∷ rest) → (i j : ℕ) (p : Processed) (t : Txn)
+      → IsCommitted (opening_processed window proxies n ∷ rest) i j p t → p.proxy < proxies → ReadsFrom (pos n) t
   none_after rest chain zero j p t c known range among filled =
-      let first = ap (λ (e : Processed). e.proxy) (same_Some (opened window proxies n) p c.batch) in
+      let first = ap (λ (e : Processed). e.proxy) (same_Some (opening_processed window proxies n) p c.batch) in
       absurd (omega (arith, first, known))
   none_after rest chain (suc i) j p t c known range among filled =
-      let ps = opened window proxies n ∷ rest in
+      let ps = opening_processed window proxies n ∷ rest in
       elim (cases_Bool (int_lt t.snapshot (pos n))) [
         | inl test ↦
             let below : t.snapshot <ℤ pos n = grind (arith, ints, test) in

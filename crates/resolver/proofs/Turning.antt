@@ -224,22 +224,22 @@ stop_met_on h k met running =
     ]
 
 -- what a turn answers, by what the step has taken and whether the reply lanes are closed
-abbrev pub reported : Option ℕ → Bool → Turn
-reported (Some proxy) closed = turn.Took proxy
-reported None true = turn.Done
-reported None false = turn.Idle
+abbrev pub reported_turn : Option ℕ → Bool → Turn
+reported_turn (Some proxy) closed = turn.Took proxy
+reported_turn None true = turn.Done
+reported_turn None false = turn.Idle
 
-taken-reported : (taken : Option ℕ) (closed : Bool) → taken_by (reported taken closed) ≡ taken
+taken-reported : (taken : Option ℕ) (closed : Bool) → taken_by (reported_turn taken closed) ≡ taken
 taken-reported (Some proxy) closed = refl
 taken-reported None true = refl
 taken-reported None false = refl
 
 -- or by the stop that it met
 abbrev pub answered : Bool → Result (Option ℕ) Stop → Result Turn Stop
-answered closed (Ok taken) = Ok (reported taken closed)
+answered closed (Ok taken) = Ok (reported_turn taken closed)
 answered closed (Err met) = Err met
 
-pub done-reported : (taken : Option ℕ) (closed : Bool) → reported taken closed ≡ turn.Done → (taken ≡ None) × (closed ≡ true)
+pub done-reported : (taken : Option ℕ) (closed : Bool) → reported_turn taken closed ≡ turn.Done → (taken ≡ None) × (closed ≡ true)
 done-reported (Some other) closed is = cc
 done-reported None true is = (refl, refl)
 done-reported None false is = cc
@@ -264,7 +264,7 @@ none_taken_where (Some proxy) not = absurd (not proxy refl)
 -- when a turn answers that all is done
 module _ (mid new : ResolverState) (a : AnswersOver mid new) (taken : Option ℕ) (closed : Bool)
     (running : mid.core.stop ≡ None) where
-  pub done_means : (closed ≡ true → IsThrough new) → reported taken closed ≡ turn.Done
+  pub done_means : (closed ≡ true → IsThrough new) → reported_turn taken closed ≡ turn.Done
       → (all_ended new.lanes ≡ true) × (owed_count new.core.owed ≡ 0)
   done_means through is =
       let ends = through (done-reported taken closed is).1 in (
@@ -276,7 +276,7 @@ module _ (mid new : ResolverState) (a : AnswersOver mid new) (taken : Option ℕ
       )
 
   pub done_where : (IsThrough new → closed ≡ true) → ((proxy : ℕ) → taken ≡ Some proxy → all_ended mid.lanes ≡ false)
-      → (all_ended new.lanes ≡ true) × (owed_count new.core.owed ≡ 0) → reported taken closed ≡ turn.Done
+      → (all_ended new.lanes ≡ true) × (owed_count new.core.owed ≡ 0) → reported_turn taken closed ≡ turn.Done
   done_where through still_open both =
       let is_closed = through (record { nothing_owed = both.1; no_more = inl both.0 }) in
       let none : taken ≡ None = none_taken_where taken (λ proxy is.

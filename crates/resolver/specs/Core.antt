@@ -8,7 +8,7 @@ use Rattle.keyspace.specs.declared.reply.Reply.{Reply}
 use Rattle.keyspace.specs.Writes.{Write, writes}
 use Rattle.keyspace.specs.Judged.{edge}
 use Rattle.keyspace.specs.Processed.{version_of}
-use Rattle.keyspace.specs.Found.{kept}
+use Rattle.keyspace.specs.Found.{kept_reply}
 use Rattle.keyspace.specs.Leaving.{Held, next_due}
 use Rattle.keyspace.specs.Run.{State, process, admit, leave, answers_to}
 use Rattle.chain.specs.Replies.{Kept, reply_of}
@@ -48,15 +48,15 @@ made_to proxy given core = given proxy ++ owed_to proxy core.owed
 pub record IsIn (state : State) (given : Given) (core : CoreState) : Type 0 where
   pub version : core.version ≡ version_of state.processed
   pub held : core.held ≡ state.held
-  pub kept : (proxy : ℕ) (version : ℤ) → reply_of core.kept proxy version ≡ kept state.processed proxy version
+  pub kept : (proxy : ℕ) (version : ℤ) → reply_of core.kept proxy version ≡ kept_reply state.processed proxy version
   pub remembers : Remembers core.set (writes state.processed)
   pub answers :
       (proxy : ℕ) → proxy < length core.owed → made_to proxy given core ≡ answers_to proxy state.answered
 
 -- the core of these parts
 abbrev pub core_of : SetState → ℤ → List Held → Kept → OwedView → Option Stop → CoreState
-core_of set version held kept owed stop =
-    record { set = set; version = version; held = held; kept = kept; owed = owed.answers; stop = stop }
+core_of set version held kept_reply owed stop =
+    record { set = set; version = version; held = held; kept = kept_reply; owed = owed.answers; stop = stop }
 
 -- what is kept after this reply: it, the proxy's others above the version received, and those of other proxies
 abbrev pub kept_also : ℕ → ℤ → Reply → (ℕ → ℤ → Option Reply) → ℕ → ℤ → Option Reply

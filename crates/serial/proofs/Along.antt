@@ -7,7 +7,7 @@ use Rattle.keyspace.specs.declared.reply.Verdict.TheVariants.{Conflict, TooOld, 
 use Rattle.keyspace.specs.declared.reply.Entry.{Entry}
 use Rattle.keyspace.specs.Processed.{Processed}
 use Rattle.serial.specs.Commits.{IsCommitted}
-use Rattle.serial.specs.Stores.{Store, Plan, Plans, Stores, start, commit, noted, run_txn, stores_after, stores_at}
+use Rattle.serial.specs.Stores.{Store, Plan, Plans, Stores, start, commit, with_store_noted, run_txn, stores_after, stores_at}
 use Rattle.serial.proofs.Reading.{some_at}
 use Rattle.serial.proofs.Steps.{maybe_txn, maybe_batch, run_txns-suc, run_txns-entire, run_batches-suc}
 
@@ -30,7 +30,7 @@ maybe_txn_holds P first (Some t) (Some e) plan s commits holds =
 module _ (first : Store) (plans : Plans) (ps : List Processed) (P : Stores → Type 0) (begins : P (start first))
     (commits : (i j : ℕ) (p : Processed) (t : Txn) → IsCommitted ps i j p t → P (stores_at first plans ps i j p)
     → P (commit first t (plans i j) (stores_at first plans ps i j p)))
-    (notes : (version : ℤ) (s : Stores) → P s → P (noted version s)) where
+    (notes : (version : ℤ) (s : Stores) → P s → P (with_store_noted version s)) where
   -- it holds before each transaction of a batch, if it holds before the batch
   holds_in_batch : (i : ℕ) (p : Processed) → slice_get ps i ≡ Some p → P (stores_after first plans (take i ps))
       → (j : ℕ) → P (stores_at first plans ps i j p)

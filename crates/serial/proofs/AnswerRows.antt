@@ -14,7 +14,7 @@ use Rattle.serial.specs.Stores.{Store, KeepsToWrites, AllKeepToWrites}
 use Rattle.serial.specs.Serial.{AllReadOnlyDeclared, ReadsOnlyDeclared, InvariantsHold, Preserves}
 use Rattle.serial.specs.Replies.{SendsOnce, IsReplyTo}
 use Rattle.serial.specs.RowStores.{first_store, letter_bytes, at_a}
-use Rattle.serial.specs.RowLists.{flipped}
+use Rattle.serial.specs.RowLists.{with_conflicts_committed}
 use Rattle.serial.specs.AnswerRows.{at_b, give_up_a, give_up_b, gives_up_a, gives_up_b, skew_chain, skew_plans, one_is_there, unjudged, sends_twice, AnswerRows}
 use Rattle.serial.proofs.EffectRows.{found_at}
 use Rattle.serial.proofs.ClauseRows.{not_equal}
@@ -82,7 +82,7 @@ module _ (limits : Limits) where
       (same (letter 98) (letter_bytes limits 98 refl) refl) (same (letter 97) (letter_bytes limits 97 refl) refl))
 
   abbrev skewed : List Processed
-  skewed = flipped (skew_chain limits)
+  skewed = with_conflicts_committed (skew_chain limits)
 
   -- what holds of both transactions, and where nothing is changed, holds of each that is committed
   each_of_both : (P : ℕ → ℕ → Txn → Type 0) → P 1 0 (gives_up_a limits) → P 2 0 (gives_up_b limits)

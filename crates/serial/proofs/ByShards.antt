@@ -35,7 +35,7 @@ use Rattle.keyspace.specs.Processed.{Processed}
 use Rattle.keyspace.specs.Writes.{writes, earlier}
 use Rattle.keyspace.specs.Chain.{IsChain}
 use Rattle.keys.proofs.callers.Booleans.{and_both, false_unless, true_or_false, not_both_ways}
-use Rattle.serial.specs.Commits.{IsCommitted, before, holds, holding, up_to, Current}
+use Rattle.serial.specs.Commits.{IsCommitted, before, holds, writes_holding, up_to, Current}
 use Rattle.serial.specs.Stores.{in_ranges}
 use Rattle.serial.specs.Shards.{
   Shard,
@@ -82,7 +82,7 @@ module _ (shard : Shard) (ps own : List Processed)
   -- if the reads of a shard's own list are current, so are the reads of the keys that the shard has
   current_in_shard : (i j : ℕ) (p : Processed) (t : Txn) → IsCommitted ps i j p t
       → (range : Range) → Contains t.reads range → (key : List ℕ) → IsBytes key → holds range key ≡ true
-      → has_key shard key ≡ true → holding key (before ps i p j) ≡ holding key (up_to t.snapshot (writes (take i ps)))
+      → has_key shard key ≡ true → writes_holding key (before ps i p j) ≡ writes_holding key (up_to t.snapshot (writes (take i ps)))
   current_in_shard i j p t c range read key bytes held has =
       let batch = partner (λ (p c : Processed). IsBatchClip shard p.batch c.batch) ps own clips i p c.batch in
       let q = batch.0 in

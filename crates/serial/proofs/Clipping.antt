@@ -40,7 +40,7 @@ use Rattle.keyspace.specs.declared.reply.Verdict.TheVariants.{Conflict, TooOld, 
 use Rattle.keyspace.specs.declared.reply.Entry.{Entry}
 use Rattle.keys.specs.Key.{IsBytes}
 use Rattle.keyspace.specs.Processed.{Processed}
-use Rattle.keyspace.specs.Writes.{at_version, counted, committed, writes, writes_of}
+use Rattle.keyspace.specs.Writes.{at_version, counted_ranges, committed_ranges, writes, writes_of}
 use Rattle.keys.proofs.callers.Booleans.{and_left, and_right, and_both, or_either, or_left, or_right}
 use Rattle.serial.specs.Commits.{holds}
 use Rattle.serial.specs.Stores.{in_ranges}
@@ -61,21 +61,21 @@ partner R xs ys zipped i x at =
 
 -- ranges that count hold a key only if the transaction was committed
 counted_committed : (verdict : Verdict) (ranges : List Range) (key : List ℕ)
-    → in_ranges (counted verdict ranges) key ≡ true → verdict ≡ Committed
+    → in_ranges (counted_ranges verdict ranges) key ≡ true → verdict ≡ Committed
 counted_committed Committed ranges key h = refl
 counted_committed Conflict ranges key h = cc
 counted_committed TooOld ranges key h = cc
 
 -- and only if its write ranges hold it
 counted_held : (verdict : Verdict) (ranges : List Range) (key : List ℕ)
-    → in_ranges (counted verdict ranges) key ≡ true → in_ranges ranges key ≡ true
+    → in_ranges (counted_ranges verdict ranges) key ≡ true → in_ranges ranges key ≡ true
 counted_held Committed ranges key h = h
 counted_held Conflict ranges key h = cc
 counted_held TooOld ranges key h = cc
 
 -- the write ranges of a committed transaction count
 held_counted : (verdict : Verdict) (ranges : List Range) (key : List ℕ) → verdict ≡ Committed
-    → in_ranges ranges key ≡ true → in_ranges (counted verdict ranges) key ≡ true
+    → in_ranges ranges key ≡ true → in_ranges (counted_ranges verdict ranges) key ≡ true
 held_counted Committed ranges key is h = h
 held_counted Conflict ranges key is h = cc
 held_counted TooOld ranges key is h = cc
@@ -91,13 +91,13 @@ record IsWriter (ts : List Txn) (es : List Entry) (j : ℕ) (key : List ℕ) : T
 
 -- if a range that was written before index j holds the key, a committed transaction writes it
 writer_from : (ts : List Txn) (es : List Entry) (j : ℕ) (key : List ℕ)
-    → in_ranges (committed (take j ts) (take j es)) key ≡ true → IsWriter ts es j key
+    → in_ranges (committed_ranges (take j ts) (take j es)) key ≡ true → IsWriter ts es j key
 writer_from ts es zero key h = let no : ⊥ = cc in absurd no
 writer_from [] es (suc j) key h = let no : ⊥ = cc in absurd no
 writer_from (t ∷ ts) [] (suc j) key h = let no : ⊥ = cc in absurd no
 writer_from (t ∷ ts) (e ∷ es) (suc j) key h =
-    let own = counted e.verdict t.writes in
-    let others = committed (take j ts) (take j es) in
+    let own = counted_ranges e.verdict t.writes in
+    let others = committed_ranges (take j ts) (take j es) in
     elim (or_either (in_ranges own key) (in_ranges others key)
     (sym (list_any-append (λ range. holds range key) own others) ∙ h)) [
       | inl here ↦ record {
@@ -123,33 +123,33 @@ writer_from (t ∷ ts) (e ∷ es) (suc j) key h =
 -- if a committed transaction before index j writes the key, a range that was written holds it
 writer_held : (ts : List Txn) (es : List Entry) (j : ℕ) (key : List ℕ) (l : ℕ) (t : Txn) → l < j
     → slice_get ts l ≡ Some t → CommittedAt l es → in_ranges t.writes key ≡ true
-    → in_ranges (committed (take j ts) (take j es)) key ≡ true
+    → in_ranges (committed_ranges (take j ts) (take j es)) key ≡ true
 writer_held [] es j key l t below there verdict h = cc
 writer_held (u ∷ ts) [] j key l t below there verdict h = absurd verdict
 writer_held (u ∷ ts) (e ∷ es) zero key l t below there verdict h = let no : ⊥ = omega arith in absurd no
 writer_held (u ∷ ts) (e ∷ es) (suc j) key zero t below there verdict h =
     let same : u ≡ t = cc in
-    let own = counted e.verdict u.writes in
-    let others = committed (take j ts) (take j es) in
+    let own = counted_ranges e.verdict u.writes in
+    let others = committed_ranges (take j ts) (take j es) in
     list_any-append (λ range. holds range key) own others
     ∙ or_left (in_ranges own key) (in_ranges others key)
     (held_counted e.verdict u.writes key verdict (ap (λ (t : Txn). in_ranges t.writes key) same ∙ h))
 writer_held (u ∷ ts) (e ∷ es) (suc j) key (suc l) t below there verdict h =
-    let own = counted e.verdict u.writes in
-    let others = committed (take j ts) (take j es) in
+    let own = counted_ranges e.verdict u.writes in
+    let others = committed_ranges (take j ts) (take j es) in
     list_any-append (λ range. holds range key) own others
     ∙ or_right (in_ranges own key) (in_ranges others key)
     (writer_held ts es j key l t (omega (arith, below)) there verdict h)
 
 -- the transactions before an index that is past the last are all
 committed-entire : (n : ℕ) (ts : List Txn) (es : List Entry) → length ts ≤ n
-    → committed ts es ≡ committed (take n ts) (take n es)
+    → committed_ranges ts es ≡ committed_ranges (take n ts) (take n es)
 committed-entire zero [] es h = refl
 committed-entire (suc n) [] es h = refl
 committed-entire zero (t ∷ ts) es h = let no : ⊥ = omega (arith, h) in absurd no
 committed-entire (suc n) (t ∷ ts) [] h = refl
 committed-entire (suc n) (t ∷ ts) (e ∷ es) h =
-    ap (λ ranges. counted e.verdict t.writes ++ ranges) (committed-entire n ts es (omega (arith, h)))
+    ap (λ ranges. counted_ranges e.verdict t.writes ++ ranges) (committed-entire n ts es (omega (arith, h)))
 
 -- a test, or both another one and it, is the test
 either_of : (a b : Bool) → (b || (a && b)) ≡ b
@@ -176,8 +176,8 @@ module _ (shard : Shard) (key : List ℕ) (bytes : IsBytes key) (has : has_key s
   -- a key that committed transactions before index j write is written by their clips, if those are committed too
   pub written_by_clips : (ts clips : List Txn) (es others : List Entry) (j : ℕ)
       → AllZip (IsTxnClip shard) ts clips → ((l : ℕ) → CommittedAt l es → CommittedAt l others)
-      → in_ranges (committed (take j ts) (take j es)) key ≡ true
-      → in_ranges (committed (take j clips) (take j others)) key ≡ true
+      → in_ranges (committed_ranges (take j ts) (take j es)) key ≡ true
+      → in_ranges (committed_ranges (take j clips) (take j others)) key ≡ true
   written_by_clips ts clips es others j zipped says h =
       let w = writer_from ts es j key h in
       let clip = partner (IsTxnClip shard) ts clips zipped w.index w.txn w.there in
@@ -191,8 +191,8 @@ module _ (shard : Shard) (key : List ℕ) (bytes : IsBytes key) (has : has_key s
       → written_above snapshot key (writes_of c.batch c.reply) ≡ true
   batch_above snapshot p c clip says h =
       let n = length p.batch.txns in
-      let ranges = committed p.batch.txns p.reply.entries in
-      let clips = committed c.batch.txns c.reply.entries in
+      let ranges = committed_ranges p.batch.txns p.reply.entries in
+      let clips = committed_ranges c.batch.txns c.reply.entries in
       let is_high = not (int_le p.batch.version snapshot) in
       let both = sym (above_at_version snapshot p.batch.version key ranges) ∙ h in
       let long = AllZip-long (IsTxnClip shard) p.batch.txns c.batch.txns clip.txns in

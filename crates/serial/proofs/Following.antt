@@ -10,9 +10,9 @@ use Rattle.keyspace.specs.declared.txn.Txn.{Txn}
 use Rattle.keyspace.specs.declared.reply.Verdict.TheVariants.{Committed}
 use Rattle.keyspace.specs.declared.reply.Entry.{Entry}
 use Rattle.keyspace.specs.Processed.{Processed}
-use Rattle.keyspace.specs.Writes.{Write, at_version, counted, committed, writes, writes_of, earlier}
+use Rattle.keyspace.specs.Writes.{Write, at_version, counted_ranges, committed_ranges, writes, writes_of, earlier}
 use Rattle.keyspace.specs.Chain.{IsChain}
-use Rattle.serial.specs.Commits.{IsCommitted, before, holds, holding, up_to}
+use Rattle.serial.specs.Commits.{IsCommitted, before, holds, writes_holding, up_to}
 use Rattle.serial.specs.Serial.{RealTime}
 use Rattle.serial.specs.Stores.{in_ranges}
 use Rattle.serial.proofs.Filters.{filter_same}
@@ -41,22 +41,22 @@ writes_split (p ∷ ps) (suc k) (suc i) q at h =
 -- the write ranges of committed transactions are those before one of them, its own, and later ones
 committed_split : (ts : List Txn) (es : List Entry) (l : ℕ) (u : Txn) (e : Entry) → slice_get ts l ≡ Some u
     → slice_get es l ≡ Some e → e.verdict ≡ Committed
-    → (later : List Range) × (committed ts es ≡ committed (take l ts) (take l es) ++ (u.writes ++ later))
+    → (later : List Range) × (committed_ranges ts es ≡ committed_ranges (take l ts) (take l es) ++ (u.writes ++ later))
 committed_split [] es l u e is_txn is_entry verdict = absurd (let never : ⊥ = cc in never)
 committed_split (t ∷ ts) [] l u e is_txn is_entry verdict = absurd (let never : ⊥ = cc in never)
 committed_split (t ∷ ts) (d ∷ es) zero u e is_txn is_entry verdict =
     let same : t ≡ u = cc in
     let entry : d ≡ e = cc in (
-      committed ts es,
-      ap (λ v. counted v t.writes ++ committed ts es) (ap (λ (x : Entry). x.verdict) entry ∙ verdict)
-          ∙ ap (λ (x : Txn). x.writes ++ committed ts es) same,
+      committed_ranges ts es,
+      ap (λ v. counted_ranges v t.writes ++ committed_ranges ts es) (ap (λ (x : Entry). x.verdict) entry ∙ verdict)
+          ∙ ap (λ (x : Txn). x.writes ++ committed_ranges ts es) same,
     )
 committed_split (t ∷ ts) (d ∷ es) (suc l) u e is_txn is_entry verdict =
-    let own = counted d.verdict t.writes in
+    let own = counted_ranges d.verdict t.writes in
     let rest = committed_split ts es l u e is_txn is_entry verdict in (
       rest.0,
       ap (λ ranges. own ++ ranges) rest.1
-          ∙ sym (append_assoc own (committed (take l ts) (take l es)) (u.writes ++ rest.0)),
+          ∙ sym (append_assoc own (committed_ranges (take l ts) (take l es)) (u.writes ++ rest.0)),
     )
 
 -- ranges at one version, by three parts
@@ -70,11 +70,11 @@ at_version-parts version first middle last =
 
 -- the writes that hold a key, by three parts
 holding-parts : (key : List ℕ) (first middle last : List Write)
-    → holding key (first ++ (middle ++ last)) ≡ holding key first ++ (holding key middle ++ holding key last)
+    → writes_holding key (first ++ (middle ++ last)) ≡ writes_holding key first ++ (writes_holding key middle ++ writes_holding key last)
 holding-parts key first middle last =
     let test = λ (w : Write). holds w.range key in
     filter-append test first (middle ++ last)
-    ∙ ap (λ ws. holding key first ++ ws) (filter-append test middle last)
+    ∙ ap (λ ws. writes_holding key first ++ ws) (filter-append test middle last)
 
 -- lists joined one way or the other
 regrouped : (first own txn others later last : List Write)
@@ -121,7 +121,7 @@ maybe_none_above : (snapshot : ℤ) (key : List ℕ) (o : Option Processed)
     → written_above snapshot key (maybe_writes o) ≡ false
 maybe_none_above snapshot key None low = refl
 maybe_none_above snapshot key (Some p) low =
-    none_above_at snapshot p.batch.version key (committed p.batch.txns p.reply.entries) (low p refl)
+    none_above_at snapshot p.batch.version key (committed_ranges p.batch.txns p.reply.entries) (low p refl)
 
 module _ (ps : List Processed) (rise : VersionsRise ps) (snapshot : ℤ) (key : List ℕ) where
   -- up to a batch with a version at or below the snapshot, no write is above it
@@ -139,8 +139,8 @@ module _ (ps : List Processed) (rise : VersionsRise ps) (snapshot : ℤ) (key : 
   -- a snapshot that includes a committed transaction includes all writes up to it
   included : (k l : ℕ) (q : Processed) (u : Txn) → IsCommitted ps k l q u → q.batch.version ≤ℤ snapshot
       → (i : ℕ) (p : Processed) → k < i
-      → (rest : List Write) × (holding key (up_to snapshot (writes (take i ps)))
-      ≡ holding key (before ps k q l) ++ (holding key (at_version q.batch.version u.writes) ++ rest))
+      → (rest : List Write) × (writes_holding key (up_to snapshot (writes (take i ps)))
+      ≡ writes_holding key (before ps k q l) ++ (writes_holding key (at_version q.batch.version u.writes) ++ rest))
   included k l q u c low i p h =
       let split = before_split ps k l q u c i 0 p h in
       let first = before ps k q l in
@@ -154,14 +154,14 @@ module _ (ps : List Processed) (rise : VersionsRise ps) (snapshot : ℤ) (key : 
       (none_above_at snapshot q.batch.version key (earlier q.batch q.reply l) low) in
       let txn_low = none_above_at snapshot q.batch.version key u.writes low in
       let entire = sym (append-nil (writes (take i ps))) ∙ split.1 in (
-        holding key (up_to snapshot split.0),
-        ap (λ ws. holding key (up_to snapshot ws)) entire
-            ∙ ap (holding key) (filter-append is_low first (txn ++ split.0)
+        writes_holding key (up_to snapshot split.0),
+        ap (λ ws. writes_holding key (up_to snapshot ws)) entire
+            ∙ ap (writes_holding key) (filter-append is_low first (txn ++ split.0)
             ∙ ap (λ ws. up_to snapshot first ++ ws) (filter-append is_low txn split.0))
             ∙ holding-parts key (up_to snapshot first) (up_to snapshot txn) (up_to snapshot split.0)
-            ∙ ap (λ ws. ws ++ (holding key (up_to snapshot txn) ++ holding key (up_to snapshot split.0)))
+            ∙ ap (λ ws. ws ++ (writes_holding key (up_to snapshot txn) ++ writes_holding key (up_to snapshot split.0)))
             (same first first_low)
-            ∙ ap (λ ws. holding key first ++ (ws ++ holding key (up_to snapshot split.0))) (same txn txn_low),
+            ∙ ap (λ ws. writes_holding key first ++ (ws ++ writes_holding key (up_to snapshot split.0))) (same txn txn_low),
       )
 
 -- if versions rise, real time is kept by transactions that read below their batch's version, whatever the verdicts are

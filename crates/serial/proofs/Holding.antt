@@ -25,7 +25,7 @@ use Rattle.std.proofs.lemmas.List.Elements.{filter-append}
 use Rattle.std.proofs.lemmas.List.Folds.{list_any-append}
 use Rattle.keys.specs.declared.range.Range.{Range}
 use Rattle.keyspace.specs.Writes.{Write, at_version}
-use Rattle.serial.specs.Commits.{holds, holding, up_to}
+use Rattle.serial.specs.Commits.{holds, writes_holding, up_to}
 use Rattle.serial.specs.Stores.{in_ranges}
 use Rattle.serial.proofs.Filters.{filter_same, filter_fewer, none_lost, filter_none, none_passes, list_any-map}
 
@@ -52,26 +52,26 @@ any_at_version version key ranges =
 -- if no write that holds the key is above the snapshot, and no range holds it, reads of the key are current
 pub current_from_tests : (snapshot version : ℤ) (key : List ℕ) (ws : List Write) (ranges : List Range)
     → written_above snapshot key ws ≡ false → in_ranges ranges key ≡ false
-    → holding key (ws ++ at_version version ranges) ≡ holding key (up_to snapshot ws)
+    → writes_holding key (ws ++ at_version version ranges) ≡ writes_holding key (up_to snapshot ws)
 current_from_tests snapshot version key ws ranges low none =
     filter-append (λ w. holds w.range key) ws (at_version version ranges)
-    ∙ ap (λ others. holding key ws ++ others) (filter_none (λ w. holds w.range key) (at_version version ranges)
+    ∙ ap (λ others. writes_holding key ws ++ others) (filter_none (λ w. holds w.range key) (at_version version ranges)
     (any_at_version version key ranges ∙ none))
-    ∙ append-nil (holding key ws)
+    ∙ append-nil (writes_holding key ws)
     ∙ filter_same (λ w. holds w.range key) (λ w. int_le w.version snapshot) ws low
 
 -- if reads of the key are current, as many writes hold it before the transaction as at its snapshot
 same_count : (snapshot version : ℤ) (key : List ℕ) (ws : List Write) (ranges : List Range)
-    → holding key (ws ++ at_version version ranges) ≡ holding key (up_to snapshot ws)
-    → length (holding key ws) + length (holding key (at_version version ranges))
-    ≡ length (holding key (up_to snapshot ws))
+    → writes_holding key (ws ++ at_version version ranges) ≡ writes_holding key (up_to snapshot ws)
+    → length (writes_holding key ws) + length (writes_holding key (at_version version ranges))
+    ≡ length (writes_holding key (up_to snapshot ws))
 same_count snapshot version key ws ranges h =
-    sym (length-append (holding key ws) (holding key (at_version version ranges)))
+    sym (length-append (writes_holding key ws) (writes_holding key (at_version version ranges)))
     ∙ ap length (sym (filter-append (λ w. holds w.range key) ws (at_version version ranges)) ∙ h)
 
 -- if reads of the key are current, no write that holds it is above the snapshot
 pub low_from_current : (snapshot version : ℤ) (key : List ℕ) (ws : List Write) (ranges : List Range)
-    → holding key (ws ++ at_version version ranges) ≡ holding key (up_to snapshot ws)
+    → writes_holding key (ws ++ at_version version ranges) ≡ writes_holding key (up_to snapshot ws)
     → written_above snapshot key ws ≡ false
 low_from_current snapshot version key ws ranges h =
     let count = same_count snapshot version key ws ranges h in
@@ -79,7 +79,7 @@ low_from_current snapshot version key ws ranges h =
 
 -- and none of the ranges holds it
 pub none_from_current : (snapshot version : ℤ) (key : List ℕ) (ws : List Write) (ranges : List Range)
-    → holding key (ws ++ at_version version ranges) ≡ holding key (up_to snapshot ws)
+    → writes_holding key (ws ++ at_version version ranges) ≡ writes_holding key (up_to snapshot ws)
     → in_ranges ranges key ≡ false
 none_from_current snapshot version key ws ranges h =
     let count = same_count snapshot version key ws ranges h in

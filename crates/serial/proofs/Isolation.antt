@@ -7,7 +7,7 @@ use Rattle.keyspace.specs.declared.txn.Txn.{Txn}
 use Rattle.keyspace.specs.declared.reply.Verdict.TheVariants.{Committed}
 use Rattle.keyspace.specs.declared.reply.Entry.{Entry}
 use Rattle.keyspace.specs.Processed.{Processed}
-use Rattle.keyspace.specs.Writes.{Write, at_version, committed, writes, writes_of, earlier}
+use Rattle.keyspace.specs.Writes.{Write, at_version, committed_ranges, writes, writes_of, earlier}
 use Rattle.keys.specs.Key.{IsBytes}
 use Rattle.serial.specs.Commits.{IsCommitted, holds, Current}
 use Rattle.serial.specs.Stores.{Store, in_ranges, Plan, Plans, KeepsToWrites, AllKeepToWrites, Stores, start, at_snapshot, run_txns, stores_after, place_store}
@@ -68,7 +68,7 @@ batch_tracked first plan ws p s keep tracked =
                 ∙ ap (λ after. at_snapshot snapshot first after key bytes) (run_txns-after first plan 0 ts es s)
                 ∙ tracked.found snapshot key bytes (none_of_first before here parts)
                 ∙ sym (run_txns-keeps first plan 0 ts es s keep key bytes
-                (none_written snapshot version key (committed ts es) e (none_of_second before here parts)))
+                (none_written snapshot version key (committed_ranges ts es) e (none_of_second before here parts)))
           ] refl;
     }
 

@@ -35,7 +35,7 @@ use Rattle.keyspace.specs.declared.reply.Verdict.{Verdict}
 use Rattle.keyspace.specs.declared.reply.Verdict.TheVariants.{Conflict, TooOld, Committed}
 use Rattle.keyspace.specs.declared.reply.Entry.{Entry}
 use Rattle.keyspace.specs.Processed.{Processed}
-use Rattle.keyspace.specs.Writes.{Write, counted, committed, writes, writes_of}
+use Rattle.keyspace.specs.Writes.{Write, counted_ranges, committed_ranges, writes, writes_of}
 use Rattle.keys.specs.Key.{IsBytes}
 use Rattle.serial.specs.Commits.{holds}
 use Rattle.serial.specs.Stores.{
@@ -48,7 +48,7 @@ use Rattle.serial.specs.Stores.{
   at_snapshot,
   run_txn,
   run_txns,
-  noted,
+  with_store_noted,
   run_batches,
 }
 
@@ -74,7 +74,7 @@ maybe_txn first (Some t) (Some e) plan s = run_txn first t e.verdict plan s
 abbrev pub maybe_batch : Store → Option Processed → (ℕ → Plan) → Stores → Stores
 maybe_batch first None plan s = s
 maybe_batch first (Some p) plan s =
-    noted p.batch.version (run_txns first plan 0 p.batch.txns p.reply.entries s)
+    with_store_noted p.batch.version (run_txns first plan 0 p.batch.txns p.reply.entries s)
 
 -- and the writes that it commits
 abbrev pub maybe_writes : Option Processed → List Write
@@ -157,7 +157,7 @@ run_txns-after first plan k (t ∷ ts) (e ∷ es) s =
 -- a transaction that keeps to its write ranges changes the store at the keys of those that count, and at no other
 run_txn-keeps : (first : Store) (t : Txn) (verdict : Verdict) (plan : Plan) (s : Stores)
     → (verdict ≡ Committed → KeepsToWrites t plan) → (key : List ℕ) (bytes : IsBytes key)
-    → in_ranges (counted verdict t.writes) key ≡ false
+    → in_ranges (counted_ranges verdict t.writes) key ≡ false
     → (run_txn first t verdict plan s).as_run key bytes ≡ s.as_run key bytes
 run_txn-keeps first t Committed plan s keep key bytes h =
     keep refl (at_snapshot t.snapshot first s.after) s.as_run key bytes h
@@ -182,13 +182,13 @@ none_of_second false b h = h
 
 -- many such transactions change the store at the keys of their committed writes, and at no other
 pub run_txns-keeps : (first : Store) (plan : ℕ → Plan) (k : ℕ) (ts : List Txn) (es : List Entry) (s : Stores)
-    → AllKeep plan k ts es → (key : List ℕ) (bytes : IsBytes key) → in_ranges (committed ts es) key ≡ false
+    → AllKeep plan k ts es → (key : List ℕ) (bytes : IsBytes key) → in_ranges (committed_ranges ts es) key ≡ false
     → (run_txns first plan k ts es s).as_run key bytes ≡ s.as_run key bytes
 run_txns-keeps first plan k [] es s keep key bytes h = refl
 run_txns-keeps first plan k (t ∷ ts) [] s keep key bytes h = refl
 run_txns-keeps first plan k (t ∷ ts) (e ∷ es) s keep key bytes h =
-    let own = counted e.verdict t.writes in
-    let others = committed ts es in
+    let own = counted_ranges e.verdict t.writes in
+    let others = committed_ranges ts es in
     let both = sym (list_any-append (λ range. holds range key) own others) ∙ h in
     let here = none_of_first (in_ranges own key) (in_ranges others key) both in
     let later = none_of_second (in_ranges own key) (in_ranges others key) both in

@@ -52,7 +52,7 @@ use Rattle.keyspace.specs.declared.answer.Answer.TheVariants as reported
 use Rattle.keyspace.specs.Processed.{Processed, version_of}
 use Rattle.keyspace.specs.Writes.{writes}
 use Rattle.keyspace.specs.Judge.{judge}
-use Rattle.keyspace.specs.Found.{is_received, kept, reply_or_never, found}
+use Rattle.keyspace.specs.Found.{is_received, kept_reply, reply_or_never, found}
 use Rattle.keyspace.specs.Leaving.{Held, next_due}
 use Rattle.keyspace.specs.Run.{
   State,
@@ -119,11 +119,11 @@ is_of_more ps more proxy (reported.Never version) h = tt
 is_of_more ps more proxy (reported.Held version) h = tt
 
 -- a reply that is kept for a proxy is that of an entry of the proxy
-kept_is_of : (ps : List Processed) (proxy : ℕ) (version : ℤ) (reply : Reply) → kept ps proxy version ≡ Some reply
+kept_is_of : (ps : List Processed) (proxy : ℕ) (version : ℤ) (reply : Reply) → kept_reply ps proxy version ≡ Some reply
     → IsReplyOf ps proxy reply
 kept_is_of [] proxy version reply h = let never : ⊥ = cc in absurd never
 kept_is_of (p ∷ ps) proxy version reply h =
-    let rest = kept ps proxy version in
+    let rest = kept_reply ps proxy version in
     let later : rest ≡ Some reply → IsReplyOf (p ∷ ps) proxy reply = λ at.
     let more = kept_is_of ps proxy version reply at in
     (suc more.0, more.1, more.2, more.3, more.4) in
@@ -141,7 +141,7 @@ kept_is_of (p ∷ ps) proxy version reply h =
 -- and so is one that is found
 found_is_of : (ps : List Processed) (proxy : ℕ) (version : ℤ) → IsOf ps proxy (found ps proxy version)
 found_is_of ps proxy version =
-    elim (kept ps proxy version) as (λ o. kept ps proxy version ≡ o → IsOf ps proxy (reply_or_never version o)) [
+    elim (kept_reply ps proxy version) as (λ o. kept_reply ps proxy version ≡ o → IsOf ps proxy (reply_or_never version o)) [
       | None ↦ λ e. tt
       | Some reply ↦ λ e. kept_is_of ps proxy version reply e
     ] refl

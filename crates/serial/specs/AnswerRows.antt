@@ -6,13 +6,13 @@ use Rattle.keyspace.specs.declared.batch.Batch.{Batch}
 use Rattle.keyspace.specs.declared.reply.Reply.{Reply}
 use Rattle.keyspace.specs.Processed.{Processed}
 use Rattle.keyspace.specs.Run.{Step, run, part}
-use Rattle.keyspace.specs.Rows.{Limits, Replied, answered, committed, conflict, txn, sent, opening, ab, bc, xy, write_ab}
+use Rattle.keyspace.specs.Rows.{Limits, Replied, plain_answers, committed_entry, conflict_entry, txn, sent, opening, ab, bc, xy, write_ab}
 use Rattle.serial.specs.Commits.{IsCommitted}
 use Rattle.serial.specs.Stores.{Store, Plan, Plans}
 use Rattle.serial.specs.Serial.{InvariantsHold, Preserves}
 use Rattle.serial.specs.Replies.{SendsOnce, IsReplyTo}
-use Rattle.serial.specs.RowStores.{byte, unchanged, write_by, plans_by, at_letter, at_a, shown}
-use Rattle.serial.specs.RowLists.{flipped, chain_of}
+use Rattle.serial.specs.RowStores.{byte, no_change, write_by, plans_by, at_letter, at_a, shown}
+use Rattle.serial.specs.RowLists.{with_conflicts_committed, chain_of}
 
 module _ (limits : Limits) where
   -- Write skew.
@@ -44,7 +44,7 @@ module _ (limits : Limits) where
       chain_of limits gives_up_a gives_up_b (txn limits 0 false [] [] refl) (txn limits 0 false [] [] refl)
 
   abbrev pub skew_plans : Plans
-  skew_plans = plans_by (unchanged ∷ give_up_a ∷ give_up_b ∷ [])
+  skew_plans = plans_by (no_change ∷ give_up_a ∷ give_up_b ∷ [])
 
   -- a or b has a value
   abbrev pub one_is_there : Store → Bool
@@ -64,21 +64,21 @@ module _ (limits : Limits) where
   pub record AnswerRows : Type 0 where
     -- The second is in conflict, so b keeps its value.
     pub write_skew : shown limits skew_plans skew_chain ≡ record {
-      verdicts = [] ∷ (committed ∷ []) ∷ (conflict [] ∷ []) ∷ (committed ∷ []) ∷ (committed ∷ []) ∷ [];
+      verdicts = [] ∷ (committed_entry ∷ []) ∷ (conflict_entry [] ∷ []) ∷ (committed_entry ∷ []) ∷ (committed_entry ∷ []) ∷ [];
       as_run = None ∷ byte 98 ∷ byte 99 ∷ byte 100 ∷ byte 109 ∷ byte 120 ∷ [];
       serially = None ∷ byte 98 ∷ byte 99 ∷ byte 100 ∷ byte 109 ∷ byte 120 ∷ [];
     }
     -- If it is made committed, neither has a value, though each transaction alone leaves one there.
-    pub write_skew_committed : shown limits skew_plans (flipped skew_chain) ≡ record {
-      verdicts = [] ∷ (committed ∷ []) ∷ (committed ∷ []) ∷ (committed ∷ []) ∷ (committed ∷ []) ∷ [];
+    pub write_skew_committed : shown limits skew_plans (with_conflicts_committed skew_chain) ≡ record {
+      verdicts = [] ∷ (committed_entry ∷ []) ∷ (committed_entry ∷ []) ∷ (committed_entry ∷ []) ∷ (committed_entry ∷ []) ∷ [];
       as_run = None ∷ None ∷ byte 99 ∷ byte 100 ∷ byte 109 ∷ byte 120 ∷ [];
       serially = None ∷ byte 98 ∷ byte 99 ∷ byte 100 ∷ byte 109 ∷ byte 120 ∷ [];
     }
     pub write_skew_preserves : (i j : ℕ) → Preserves one_is_there (skew_plans i j)
-    pub write_skew_fails : ¬ InvariantsHold (flipped skew_chain)
+    pub write_skew_fails : ¬ InvariantsHold (with_conflicts_committed skew_chain)
     -- The second batch of version 100 is answered with the reply to the first, as a repeat of it. Its transaction was never judged.
-    pub repeat_of_another_batch : answered sends_twice 0
-        ≡ Replied 0 [] ∷ Replied 100 (committed ∷ []) ∷ Replied 100 (committed ∷ []) ∷ []
+    pub repeat_of_another_batch : plain_answers sends_twice 0
+        ≡ Replied 0 [] ∷ Replied 100 (committed_entry ∷ []) ∷ Replied 100 (committed_entry ∷ []) ∷ []
     pub never_judged : (i j : ℕ) (p : Processed) → ¬ IsCommitted (run WINDOW sends_twice).processed i j p unjudged
     -- So a reply isn't about every batch of its version. The proxy doesn't send once.
     pub about_another : (reply : Reply) (is : IsReplyTo WINDOW sends_twice 0 (part sends_twice 0) reply) → reply.version ≡ pos 100

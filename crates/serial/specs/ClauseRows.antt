@@ -6,24 +6,24 @@ use Rattle.serial.specs.Commits.{Current}
 use Rattle.serial.specs.Stores.{Plans, at_snapshot, SameIn, stores_after, stores_at, read_store, place_store}
 use Rattle.serial.specs.Serial.{ReadsAreCurrent, RunsAtItsPlace, IsPlace, RealTime}
 use Rattle.serial.specs.RowStores.{first_store, plans_of, HasTxn, at_a, at_x}
-use Rattle.serial.specs.RowLists.{flipped, swapped, chain, chain_of}
+use Rattle.serial.specs.RowLists.{with_conflicts_committed, with_batches_swapped, chain, chain_of}
 
 module _ (limits : Limits) where
   -- the chain, its one conflict made committed: transaction 1 of batch 2, R[a,b)@50 W[x,y)
   abbrev pub flipped_chain : List Processed
-  flipped_chain = flipped (chain limits)
+  flipped_chain = with_conflicts_committed (chain limits)
 
   abbrev pub flipped_plans : Plans
   flipped_plans = plans_of flipped_chain
 
   -- the chain, the batches of the versions 100 and 200 in each other's place
   abbrev pub swapped_chain : List Processed
-  swapped_chain = swapped (chain limits)
+  swapped_chain = with_batches_swapped (chain limits)
 
   -- W[a,b) at the versions 100 and 200, in each other's place, then R[a,b)@150 W[x,y), made committed, and an empty transaction
   abbrev pub swapped_writers : List Processed
   swapped_writers =
-      swapped (flipped (chain_of limits (write_ab limits) (write_ab limits)
+      with_batches_swapped (with_conflicts_committed (chain_of limits (write_ab limits) (write_ab limits)
       (txn limits 150 false (ab limits ∷ []) (xy limits ∷ []) refl) (txn limits 0 false [] [] refl)))
 
   pub record ClauseRows : Type 0 where

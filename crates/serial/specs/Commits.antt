@@ -44,8 +44,8 @@ abbrev pub holds : Range → List ℕ → Bool
 holds range key = not (is_before key range.begin) && is_before key range.end
 
 -- the writes that hold the key, in order
-abbrev pub holding : List ℕ → List Write → List Write
-holding key ws = filter (λ w. holds w.range key) ws
+abbrev pub writes_holding : List ℕ → List Write → List Write
+writes_holding key ws = filter (λ w. holds w.range key) ws
 
 -- the writes with a version at or below the snapshot, in order
 abbrev pub up_to : ℤ → List Write → List Write
@@ -57,4 +57,4 @@ abbrev pub Current : List Processed → Type 0
 Current ps =
     (i j : ℕ) (p : Processed) (t : Txn) → IsCommitted ps i j p t
     → (range : Range) → Contains t.reads range → (key : List ℕ) → IsBytes key → IsTrue (holds range key)
-    → holding key (before ps i p j) ≡ holding key (up_to t.snapshot (writes (take i ps)))
+    → writes_holding key (before ps i p j) ≡ writes_holding key (up_to t.snapshot (writes (take i ps)))

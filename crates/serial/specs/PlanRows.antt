@@ -18,11 +18,11 @@ use Rattle.std.specs.Prelude.{
 }
 use Rattle.keyspace.specs.declared.txn.Txn.{Txn}
 use Rattle.keyspace.specs.Processed.{Processed}
-use Rattle.keyspace.specs.Rows.{Limits, is_range, committed, txn, ab, bc, cd, xy}
+use Rattle.keyspace.specs.Rows.{Limits, is_range, committed_entry, txn, ab, bc, cd, xy}
 use Rattle.serial.specs.Commits.{IsCommitted}
 use Rattle.serial.specs.Stores.{Store, Plan, Plans, AllKeepToWrites, stores_after, read_store, place_store}
 use Rattle.serial.specs.Serial.{ReadsAreCurrent, ReadsOnlyDeclared, AllReadOnlyDeclared, IsEffect, plan_of}
-use Rattle.serial.specs.RowStores.{byte, first_store, value_or_empty, unchanged, write_by, set, plans_by, HasTxn, at_a, at_x, shown}
+use Rattle.serial.specs.RowStores.{byte, first_store, value_or_empty, no_change, write_by, set, plans_by, HasTxn, at_a, at_x, shown}
 use Rattle.serial.specs.RowLists.{chain_of}
 
 -- the sum with a number, of one byte; no value counts as 0
@@ -59,7 +59,7 @@ module _ (limits : Limits) where
 
   abbrev pub index_plans : Plans
   index_plans =
-      plans_by (unchanged ∷ set (ab limits ∷ []) (99 ∷ []) ∷ set (cd limits ∷ []) (7 ∷ []) ∷ look_up_plan
+      plans_by (no_change ∷ set (ab limits ∷ []) (99 ∷ []) ∷ set (cd limits ∷ []) (7 ∷ []) ∷ look_up_plan
       ∷ set (ab limits ∷ []) (98 ∷ []) ∷ [])
 
   -- Atomic additions.
@@ -82,7 +82,7 @@ module _ (limits : Limits) where
 
   abbrev pub addition_plans : Plans
   addition_plans =
-      plans_by (unchanged ∷ add_to_a 5 ∷ add_to_a 8 ∷ copy_a_to_b ∷ add_to_a 1 ∷ [])
+      plans_by (no_change ∷ add_to_a 5 ∷ add_to_a 8 ∷ copy_a_to_b ∷ add_to_a 1 ∷ [])
 
   -- A snapshot reader.
 
@@ -103,12 +103,12 @@ module _ (limits : Limits) where
 
   abbrev pub snapshot_plans : Plans
   snapshot_plans =
-      plans_by (unchanged ∷ set (ab limits ∷ []) (1 ∷ []) ∷ copy_a_to_x ∷ copy_x_to_c ∷ copy_a_to_b ∷ [])
+      plans_by (no_change ∷ set (ab limits ∷ []) (1 ∷ []) ∷ copy_a_to_x ∷ copy_x_to_c ∷ copy_a_to_b ∷ [])
 
   pub record PlanRows : Type 0 where
     -- All are committed, and the look-up has found 7 at c. The law speaks of these plans, so both stores are the same.
     pub index_lookup : shown limits index_plans index_chain ≡ record {
-      verdicts = [] ∷ (committed ∷ []) ∷ (committed ∷ []) ∷ (committed ∷ []) ∷ (committed ∷ []) ∷ [];
+      verdicts = [] ∷ (committed_entry ∷ []) ∷ (committed_entry ∷ []) ∷ (committed_entry ∷ []) ∷ (committed_entry ∷ []) ∷ [];
       as_run = byte 98 ∷ byte 98 ∷ byte 7 ∷ byte 100 ∷ byte 109 ∷ byte 7 ∷ [];
       serially =
           byte 98 ∷ byte 98 ∷ byte 7 ∷ byte 100 ∷ byte 109 ∷ byte 7 ∷ [];
@@ -120,7 +120,7 @@ module _ (limits : Limits) where
         HasTxn index_chain 3 0 (λ p t. (effect : Store → Store) → IsEffect t effect → ¬ (index_plans 3 0 ≡ plan_of t effect))
     -- Both additions count, also the one that has read below the other's version. b has what the reader found.
     pub atomic_addition : shown limits addition_plans addition_chain ≡ record {
-      verdicts = [] ∷ (committed ∷ []) ∷ (committed ∷ []) ∷ (committed ∷ []) ∷ (committed ∷ []) ∷ [];
+      verdicts = [] ∷ (committed_entry ∷ []) ∷ (committed_entry ∷ []) ∷ (committed_entry ∷ []) ∷ (committed_entry ∷ []) ∷ [];
       as_run =
           byte 111 ∷ byte 110 ∷ byte 99 ∷ byte 100 ∷ byte 109 ∷ byte 120 ∷ [];
       serially =
@@ -133,7 +133,7 @@ module _ (limits : Limits) where
         HasTxn addition_chain 2 0 (λ p t. (effect : Store → Store) → ¬ (addition_plans 2 0 ≡ plan_of t effect))
     -- The snapshot reader has found what a had at first. Run after the blind write, it would find 1. The reader of x copies that.
     pub snapshot_reader : shown limits snapshot_plans snapshot_chain ≡ record {
-      verdicts = [] ∷ (committed ∷ []) ∷ (committed ∷ []) ∷ (committed ∷ []) ∷ (committed ∷ []) ∷ [];
+      verdicts = [] ∷ (committed_entry ∷ []) ∷ (committed_entry ∷ []) ∷ (committed_entry ∷ []) ∷ (committed_entry ∷ []) ∷ [];
       as_run = byte 1 ∷ byte 1 ∷ byte 97 ∷ byte 100 ∷ byte 109 ∷ byte 97 ∷ [];
       serially = byte 1 ∷ byte 1 ∷ byte 1 ∷ byte 100 ∷ byte 109 ∷ byte 1 ∷ [];
     }

@@ -48,8 +48,8 @@ committed_if_conflict TooOld e = e
 committed_if_conflict Committed e = e
 
 -- each conflict made committed
-abbrev pub flipped : List Processed → List Processed
-flipped ps = map (processed_by (λ e. committed_if_conflict e.verdict e)) ps
+abbrev pub with_conflicts_committed : List Processed → List Processed
+with_conflicts_committed ps = map (processed_by (λ e. committed_if_conflict e.verdict e)) ps
 
 -- one verdict per batch, for all its transactions
 abbrev pub with_verdicts : List Verdict → List Processed → List Processed
@@ -58,9 +58,9 @@ with_verdicts (verdict ∷ verdicts) [] = []
 with_verdicts (verdict ∷ verdicts) (p ∷ ps) = processed_by (λ e. without_places verdict) p ∷ with_verdicts verdicts ps
 
 -- the list with its second and third batch in each other's place
-abbrev pub swapped : List Processed → List Processed
-swapped (o ∷ p ∷ q ∷ ps) = o ∷ q ∷ p ∷ ps
-swapped ps = ps
+abbrev pub with_batches_swapped : List Processed → List Processed
+with_batches_swapped (o ∷ p ∷ q ∷ ps) = o ∷ q ∷ p ∷ ps
+with_batches_swapped ps = ps
 
 module _ (limits : Limits) where
   -- [d, e), [m, n)

@@ -57,8 +57,8 @@ plans_of ps i j = plan_of_some (txn_at ps i j) (effects_of ps i j)
 
 -- Plans of other kinds. Each changes the keys of the given ranges.
 
-abbrev pub unchanged : Plan
-unchanged read changed = changed
+abbrev pub no_change : Plan
+no_change read changed = changed
 
 -- the value at each of the keys, from the store that was read, the one that is changed and the key
 abbrev pub write_by : List Range → (Store → Store → Store) → Plan
@@ -70,7 +70,7 @@ set ranges value = write_by ranges (λ read changed key bytes. Some value)
 
 -- one plan per batch
 abbrev pub plans_by : List Plan → Plans
-plans_by [] i j = unchanged
+plans_by [] i j = no_change
 plans_by (plan ∷ plans) zero j = plan
 plans_by (plan ∷ plans) (suc i) j = plans_by plans i j
 

@@ -3,12 +3,12 @@
 use Rattle.std.specs.Prelude.{◌≡◌, ◌≢◌, ℕ, List, [], ◌∷◌, Some}
 use Rattle.keyspace.specs.declared.txn.Txn.{Txn}
 use Rattle.keyspace.specs.Processed.{Processed}
-use Rattle.keyspace.specs.Rows.{Limits, committed, conflict}
+use Rattle.keyspace.specs.Rows.{Limits, committed_entry, conflict_entry}
 use Rattle.serial.specs.Commits.{IsCommitted}
 use Rattle.serial.specs.Stores.{stores_after}
 use Rattle.serial.specs.Serial.{IsEffect, plan_of}
 use Rattle.serial.specs.RowStores.{first_store, effects_of, plans_of, at_x, shown}
-use Rattle.serial.specs.RowLists.{chain, flipped}
+use Rattle.serial.specs.RowLists.{chain, with_conflicts_committed}
 use Rattle.serial.specs.ClauseRows.{ClauseRows}
 use Rattle.serial.specs.PlanRows.{PlanRows}
 use Rattle.serial.specs.AnswerRows.{AnswerRows}
@@ -24,8 +24,8 @@ module _ (limits : Limits) where
     -- empty range, and, from another proxy, a reader at an old snapshot and one of what the batch before wrote. Both stores
     -- are the same at the six keys. x stays, for its writer was in conflict; c is made of what c had at first.
     pub chain_of_all_kinds : shown limits (plans_of (chain limits)) (chain limits) ≡ record {
-      verdicts = [] ∷ (committed ∷ []) ∷ (committed ∷ conflict (0 ∷ []) ∷ committed ∷ [])
-          ∷ (committed ∷ committed ∷ []) ∷ [];
+      verdicts = [] ∷ (committed_entry ∷ []) ∷ (committed_entry ∷ conflict_entry (0 ∷ []) ∷ committed_entry ∷ [])
+          ∷ (committed_entry ∷ committed_entry ∷ []) ∷ [];
       as_run = Some (1 ∷ 0 ∷ []) ∷ Some (2 ∷ 0 ∷ 1 ∷ 0 ∷ []) ∷ Some (3 ∷ 0 ∷ 99 ∷ [])
           ∷ Some (3 ∷ 1 ∷ 2 ∷ 0 ∷ 1 ∷ 0 ∷ []) ∷ Some (2 ∷ 2 ∷ []) ∷ Some (120 ∷ []) ∷ [];
       serially = Some (1 ∷ 0 ∷ []) ∷ Some (2 ∷ 0 ∷ 1 ∷ 0 ∷ []) ∷ Some (3 ∷ 0 ∷ 99 ∷ [])
@@ -33,8 +33,8 @@ module _ (limits : Limits) where
     }
     -- The same list, the one conflict made committed. As run, x is made of what a had before version 100; serially, of what
     -- was written there at version 100.
-    pub flipped_verdict : shown limits (plans_of (flipped (chain limits))) (flipped (chain limits)) ≡ record {
-      verdicts = [] ∷ (committed ∷ []) ∷ (committed ∷ committed ∷ committed ∷ []) ∷ (committed ∷ committed ∷ [])
+    pub flipped_verdict : shown limits (plans_of (with_conflicts_committed (chain limits))) (with_conflicts_committed (chain limits)) ≡ record {
+      verdicts = [] ∷ (committed_entry ∷ []) ∷ (committed_entry ∷ committed_entry ∷ committed_entry ∷ []) ∷ (committed_entry ∷ committed_entry ∷ [])
           ∷ [];
       as_run = Some (1 ∷ 0 ∷ []) ∷ Some (2 ∷ 0 ∷ 1 ∷ 0 ∷ []) ∷ Some (3 ∷ 0 ∷ 99 ∷ [])
           ∷ Some (3 ∷ 1 ∷ 2 ∷ 0 ∷ 1 ∷ 0 ∷ []) ∷ Some (2 ∷ 2 ∷ []) ∷ Some (2 ∷ 1 ∷ 97 ∷ []) ∷ [];
@@ -43,8 +43,8 @@ module _ (limits : Limits) where
     }
     -- so the two stores have different values at x
     pub flipped_verdict_differs :
-        at_x limits (stores_after first_store (plans_of (flipped (chain limits))) (flipped (chain limits))).as_run
-        ≢ at_x limits (stores_after first_store (plans_of (flipped (chain limits))) (flipped (chain limits))).serially
+        at_x limits (stores_after first_store (plans_of (with_conflicts_committed (chain limits))) (with_conflicts_committed (chain limits))).as_run
+        ≢ at_x limits (stores_after first_store (plans_of (with_conflicts_committed (chain limits))) (with_conflicts_committed (chain limits))).serially
     -- the clauses that fail on lists that aren't chains
     pub clauses : ClauseRows limits
     -- plans that are no functions of the read ranges

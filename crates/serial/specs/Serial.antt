@@ -25,7 +25,7 @@ use Rattle.keys.specs.Key.{IsBytes}
 use Rattle.keyspace.specs.Processed.{Processed}
 use Rattle.keyspace.specs.Writes.{Write, at_version, writes}
 use Rattle.keyspace.specs.Chain.{IsChain}
-use Rattle.serial.specs.Commits.{IsCommitted, before, holds, holding, up_to}
+use Rattle.serial.specs.Commits.{IsCommitted, before, holds, writes_holding, up_to}
 use Rattle.serial.specs.Stores.{
   Store,
   in_ranges,
@@ -158,8 +158,8 @@ pub record Follows (ps : List Processed) (k l : ℕ) (q : Processed) (u : Txn) (
   -- where u wrote, it reads the value of u or of a later write.
   pub reads :
       (range : Range) → Contains t.reads range → (key : List ℕ) → IsBytes key → IsTrue (holds range key)
-      → (rest : List Write) × (holding key (up_to t.snapshot (writes (take i ps)))
-      ≡ holding key (before ps k q l) ++ (holding key (at_version q.batch.version u.writes) ++ rest))
+      → (rest : List Write) × (writes_holding key (up_to t.snapshot (writes (take i ps)))
+      ≡ writes_holding key (before ps k q l) ++ (writes_holding key (at_version q.batch.version u.writes) ++ rest))
 
 -- A committed transaction that has read below the version of its batch, and at or above the version of another one, comes after it.
 -- Nothing is asked of the snapshots of others.

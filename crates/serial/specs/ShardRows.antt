@@ -51,8 +51,8 @@ held_in_shards shards ranges =
     map (λ shard. map (λ range. map (λ key. has_key shard key && holds range key) six_keys) ranges) shards
 
 -- which of the six keys each range holds
-abbrev pub held : List Range → List (List Bool)
-held ranges = map (λ range. map (holds range) six_keys) ranges
+abbrev pub held_keys : List Range → List (List Bool)
+held_keys ranges = map (λ range. map (holds range) six_keys) ranges
 
 -- the one split point
 abbrev pub at_m : List (List ℕ)
@@ -131,8 +131,8 @@ module _ (limits : Limits) where
     -- The clipped ranges hold, of the six keys, those of their range that lie in the shard. The ranges are [x,y), [c,d), [b,c),
     -- [a,b).
     pub shards_clip : held_in_shards (shards at_m) (xy limits ∷ cd limits ∷ bc limits ∷ ab limits ∷ [])
-        ≡ held (nothing limits ∷ cd limits ∷ bc limits ∷ ab limits ∷ [])
-        ∷ held (xy limits ∷ nothing limits ∷ nothing limits ∷ nothing limits ∷ []) ∷ []
+        ≡ held_keys (nothing limits ∷ cd limits ∷ bc limits ∷ ab limits ∷ [])
+        ∷ held_keys (xy limits ∷ nothing limits ∷ nothing limits ∷ nothing limits ∷ []) ∷ []
     -- The first has read what was overwritten from m on, so it is rejected there, but the resolver below m committed it and
     -- remembers its write of c. So the second, which has read c before, is rejected there, and one resolver of all keys
     -- commits it.

@@ -100,15 +100,15 @@ run_txns first plan j [] es s = s
 run_txns first plan j (t ∷ ts) [] s = s
 
 -- the store as it is now, after a batch of this version
-abbrev pub noted : ℤ → Stores → Stores
-noted version s = record s { after = s.after ++ (version, s.as_run) ∷ [] }
+abbrev pub with_store_noted : ℤ → Stores → Stores
+with_store_noted version s = record s { after = s.after ++ (version, s.as_run) ∷ [] }
 
 -- batches from index i on
 abbrev pub run_batches : Store → Plans → ℕ → List Processed → Stores → Stores
 run_batches first plans i [] s = s
 run_batches first plans i (p ∷ ps) s =
     run_batches first plans (i + 1) ps
-    (noted p.batch.version (run_txns first (plans i) 0 p.batch.txns p.reply.entries s))
+    (with_store_noted p.batch.version (run_txns first (plans i) 0 p.batch.txns p.reply.entries s))
 
 -- the stores after all batches
 abbrev pub stores_after : Store → Plans → List Processed → Stores

@@ -10,15 +10,15 @@ use Rattle.keys.proofs.callers.KeyHeads.{after_by_first, before_after_first}
 use Rattle.keys.proofs.callers.Booleans.{not_both_ways}
 use Rattle.keys.proofs.callers.KeyOrder.{before_trans, before_at_most_same, not_before_itself, not_before_if}
 use Rattle.arena.specs.Arena.{Arena}
-use Rattle.tree.specs.Path.{following as items_after}
+use Rattle.tree.specs.Path.{items_not_below as items_after}
 use Rattle.tree.specs.Tree.{Items}
 use Rattle.tree.proofs.callers.Partitions.{All-back}
 use Rattle.stepmap.specs.Boundary.{Boundary, AreBoundaries, AreInOrder, RiseFrom, value_from, value_at, last_version, below, from_on}
 use Rattle.keys.specs.declared.key.TheConstants.{MAX_KEY_LENGTH}
-use Rattle.stepmap.specs.Copying.{following, greatest_of_length, IsCopiedTo}
+use Rattle.stepmap.specs.Copying.{boundaries_after, greatest_of_length, IsCopiedTo}
 use Rattle.stepmap.specs.KeyBound.{is_below_at, slot_is_below}
 use Rattle.stepmap.specs.Stored.{boundaries_of, first_key, IsStored}
-use Rattle.stepmap.specs.Writing.{closed_at, written}
+use Rattle.stepmap.specs.Writing.{closed_at, boundaries_after_write}
 use Rattle.stepmap.proofs.Looking.{below_middle, filter_yes, filter_no, not_not}
 use Rattle.stepmap.proofs.Partitioning.{stored_partitioned}
 use Rattle.stepmap.proofs.Order.{Rising, rising_in_order, rise_middle, rise_above, rise_lower}
@@ -87,7 +87,7 @@ module _ (xs : List Boundary) (b : Boundary) (ys : List Boundary) (rising : Risi
       All-append none xs (b ∷ []) (none_after b.key xs (before_middle xs b ys rising))
       (All-cons none b [] (not_before_itself b.key) (All-nil none))
 
-  pub following_middle : following b.key (xs ++ b ∷ ys) ≡ ys
+  pub following_middle : boundaries_after b.key (xs ++ b ∷ ys) ≡ ys
   following_middle =
       let p = λ (x : Boundary). is_before b.key x.key in
       ap (filter p) (sym (append_assoc xs (b ∷ []) ys))
@@ -134,7 +134,7 @@ module _ (xs : List Boundary) (b : Boundary) (rising : Rising (xs ++ b ∷ [])) 
       ∙ below_middle b xs [] (before_middle xs b [] rising) tt ∙ append-nil xs
 
   -- the last one takes the version, and its own is that of a new one at the end
-  pub written_last : written range version (xs ++ b ∷ [])
+  pub written_last : boundaries_after_write range version (xs ++ b ∷ [])
       ≡ xs ++ record { key = b.key; version = version } ∷ record { key = range.end; version = b.version } ∷ []
   written_last =
       ap (λ (ys : List Boundary). ys ++ record { key = range.begin; version = version }
@@ -199,9 +199,9 @@ module _ (bs : List Boundary) (are : AreBoundaries bs) where
     unfolding here
     version_here = ap (λ xs. value_at xs key) h.are ∙ value_middle h.before here h.later rising
 
-    pub after_here : following key bs ≡ h.later
+    pub after_here : boundaries_after key bs ≡ h.later
     unfolding here
-    after_here = ap (following key) h.are ∙ following_middle h.before here h.later rising
+    after_here = ap (boundaries_after key) h.are ∙ following_middle h.before here h.later rising
 
     -- where as many are copied as there are, all are
     pub all_copied : length bs ≤ length copy → copy ≡ bs
@@ -223,7 +223,7 @@ module _ (bs : List Boundary) (are : AreBoundaries bs) where
       pub rest : List Boundary
       pub later_is : h.later ≡ record { key = next; version = version } ∷ rest
 
-    pub has_next : length copy < length bs → (next : List ℕ) → next ≡ first_key (following key bs) → IsNext next
+    pub has_next : length copy < length bs → (next : List ℕ) → next ≡ first_key (boundaries_after key bs) → IsNext next
     has_next more next is = some h.later refl
       where
         some : (ys : List Boundary) → h.later ≡ ys → IsNext next
@@ -267,12 +267,12 @@ module _ (bs : List Boundary) (are : AreBoundaries bs) where
         last_one : Boundary
         last_one = record { key = key; version = last_version (negsuc 0) bs }
 
-        pub written_next : written range version copy
+        pub written_next : boundaries_after_write range version copy
             ≡ h.before ++ record { key = key; version = h.version }
             ∷ record { key = next; version = last_version (negsuc 0) bs } ∷ []
         unfolding last_one
         written_next =
-            ap (written range version) h.copied
+            ap (boundaries_after_write range version) h.copied
             ∙ written_last h.before last_one (subst Rising h.copied (rising_in_order copy copy_are.in_order)) range version begin
             (subst (IsBefore key) (sym end) rises)
             ∙ ap (λ (v : ℤ). h.before ++ record { key = key; version = v }
@@ -280,7 +280,7 @@ module _ (bs : List Boundary) (are : AreBoundaries bs) where
             ∙ ap (λ (k : List ℕ). h.before ++ record { key = key; version = h.version }
             ∷ record { key = k; version = last_version (negsuc 0) bs } ∷ []) end
 
-        pub copied_next : (new : List Boundary) → new ≡ written range version copy → IsCopiedTo next bs new
+        pub copied_next : (new : List Boundary) → new ≡ boundaries_after_write range version copy → IsCopiedTo next bs new
         unfolding here
         copied_next new e = record {
           before = h.before ++ here ∷ [];
@@ -290,12 +290,12 @@ module _ (bs : List Boundary) (are : AreBoundaries bs) where
           copied = e ∙ written_next ∙ sym (append_assoc h.before (here ∷ []) _);
         }
 
-        pub copied_longer : (new : List Boundary) → new ≡ written range version copy → length new ≡ length copy + 1
+        pub copied_longer : (new : List Boundary) → new ≡ boundaries_after_write range version copy → length new ≡ length copy + 1
         copied_longer new e =
             let entire = ap length (e ∙ written_next) ∙ length-append h.before _ in
             omega (arith, entire, count)
 
-        pub copied_boundaries : (new : List Boundary) → new ≡ written range version copy → AreBoundaries new
+        pub copied_boundaries : (new : List Boundary) → new ≡ boundaries_after_write range version copy → AreBoundaries new
         copied_boundaries new e =
             let least : negsuc 0 ≤ℤ h.version = here_has (λ b. negsuc 0 ≤ℤ b.version) are.versions in
             subst AreBoundaries (sym e)
@@ -303,7 +303,7 @@ module _ (bs : List Boundary) (are : AreBoundaries bs) where
 
 -- the items behind the bound up to a key are those of the boundaries after the key
 pub after_stored : {H : Type 0} (keys : Arena H) (tree : Items) → IsStored keys tree → (key : List ℕ)
-    → boundaries_of keys (items_after (slot_is_below keys true key) tree.items) ≡ following key (boundaries_of keys tree.items)
+    → boundaries_of keys (items_after (slot_is_below keys true key) tree.items) ≡ boundaries_after key (boundaries_of keys tree.items)
 after_stored keys tree s key =
     (stored_partitioned keys tree s true key).following
     ∙ filter_agree (λ b. not (is_below_at true key b.key)) (λ b. is_before key b.key)

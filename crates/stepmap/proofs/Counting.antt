@@ -28,7 +28,7 @@ use Rattle.keys.specs.declared.range.Range.{Range}
 use Rattle.keys.proofs.callers.KeyOrder.{before_trans}
 use Rattle.keys.proofs.callers.Booleans.{true_or_false}
 use Rattle.stepmap.specs.Boundary.{Boundary, value_at, below, from_on}
-use Rattle.stepmap.specs.Writing.{closed_at, written}
+use Rattle.stepmap.specs.Writing.{closed_at, boundaries_after_write}
 use Rattle.stepmap.proofs.WritingValues.{begins_before_end}
 
 front_grows : (t : Bool) (b : Boundary) (xs ys zs : List Boundary) → length ys + length zs ≤ length xs
@@ -80,7 +80,7 @@ closed_count q c v (b ∷ bs) =
 
 -- at most two more of those that pass a test
 pub written_count : (q : Boundary → Bool) (range : Range) → ¬ IsEmpty range → (v : ℤ) (bs : List Boundary)
-    → length (filter q (written range v bs)) ≤ length (filter q bs) + 2
+    → length (filter q (boundaries_after_write range v bs)) ≤ length (filter q bs) + 2
 written_count q range filled v bs =
     let y : Boundary = record { key = range.begin; version = v } in
     let closing = closed_at range.end (value_at bs range.end) (from_on range.end bs) in
@@ -94,7 +94,7 @@ filter_all [] = refl
 filter_all (b ∷ bs) = ap (λ xs. b ∷ xs) (filter_all bs)
 
 pub written_length : (range : Range) → ¬ IsEmpty range → (v : ℤ) (bs : List Boundary)
-    → length (written range v bs) ≤ length bs + 2
+    → length (boundaries_after_write range v bs) ≤ length bs + 2
 written_length range filled v bs =
     let h = written_count (λ _. true) range filled v bs in
-    omega (arith, h, ap length (filter_all bs), ap length (filter_all (written range v bs)))
+    omega (arith, h, ap length (filter_all bs), ap length (filter_all (boundaries_after_write range v bs)))

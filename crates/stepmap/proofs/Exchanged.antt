@@ -8,7 +8,7 @@ use Rattle.std.proofs.lemmas.Simd.{map-map}
 use Rattle.arena.specs.Arena.{Arena, IsLive, record_at, key_at}
 use Rattle.tree.specs.Heads.{AllAreHeads}
 use Rattle.tree.specs.Item.{Item}
-use Rattle.tree.specs.Path.{IsPartitioned, items_below, following, between}
+use Rattle.tree.specs.Path.{IsPartitioned, items_below, items_not_below, between}
 use Rattle.tree.specs.Tree.{Items, tree_heads, KnowItems}
 use Rattle.tree.proofs.callers.Partitions.{All-front, All-back}
 use Rattle.tree.proofs.callers.Times.{times, once_cases, once_if_distinct, distinct_if_once, none_or_some}
@@ -48,7 +48,7 @@ module _ {H : Type 0} (old : Arena H) (tree : Items) (stored : IsStored old tree
         (λ (b : Boundary). is_below_at up_to key b.key) tree.items (passes_still up_to key)
 
     pub after_are : (up_to : Bool) (key : List ℕ)
-        → boundaries_of old (following (slot_is_below now up_to key) tree.items)
+        → boundaries_of old (items_not_below (slot_is_below now up_to key) tree.items)
         ≡ filter (λ b. not (is_below_at up_to key b.key)) bs
     after_are up_to key =
         filtered (boundary_of old) (λ (x : Item). not (slot_is_below now up_to key x.key))

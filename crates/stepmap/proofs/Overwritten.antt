@@ -13,7 +13,7 @@ use Rattle.tree.specs.declared.overwrite.OverwriteResult.TheVariants.{Partly, En
 use Rattle.tree.specs.Heads.{AllAreHeads}
 use Rattle.tree.specs.Item.{Item}
 use Rattle.tree.specs.Overwrite.{Overwrites, OverwritesEntire, OverwritesPart}
-use Rattle.tree.specs.Path.{items_below, following, between}
+use Rattle.tree.specs.Path.{items_below, items_not_below, between}
 use Rattle.tree.specs.Tree.{Items, IsLast, ended_by, tree_heads, KnowItems}
 use Rattle.stepmap.specs.Boundary.{Boundary, AreBoundaries, AreInOrder, below, from_on, value_at}
 use Rattle.stepmap.specs.KeyBound.{slot_is_below}
@@ -26,7 +26,7 @@ use Rattle.stepmap.proofs.Exchanged.{partitioned_still, passing_are, after_are, 
 use Rattle.stepmap.proofs.LastAndInside.{last_of}
 use Rattle.stepmap.proofs.LastFound.{value_of_last}
 use Rattle.stepmap.proofs.Order.{rising_in_order}
-use Rattle.stepmap.proofs.PlacedKeys.{Placed, item_at, boundary_at, used, ArePlaced, live_apart}
+use Rattle.stepmap.proofs.PlacedKeys.{Placed, item_at, boundary_at, used_slots, ArePlaced, live_apart}
 use Rattle.stepmap.proofs.Unlinked.{AreParted, slots_of, none_go, middle_goes}
 use Rattle.stepmap.proofs.WritingOrder.{written_in_order}
 use Rattle.stepmap.proofs.WritingValues.{begins_before_end}
@@ -46,7 +46,7 @@ module _ (range : Range) (v w : ℤ) (slot : ℕ) where
 
   -- they take no more slots than the keys of the range
   pub used_at_most : (end : Option ℕ) (size : ℕ)
-      → used (both end) size ≤ wanted_of (length range.begin ∷ length range.end ∷ []) size
+      → used_slots (both end) size ≤ wanted_of (length range.begin ∷ length range.end ∷ []) size
   used_at_most None size = omega arith
   used_at_most (Some end) size = omega arith
 
@@ -100,7 +100,7 @@ module _ {H : Type 0} (old : Arena H) (tree : Items) (stored : IsStored old tree
   middle = between (Some from) (Some to) tree.items
 
   abbrev rest : List Item
-  rest = following to tree.items
+  rest = items_not_below to tree.items
 
   ordered : IsBefore range.begin range.end
   ordered = begins_before_end range filled

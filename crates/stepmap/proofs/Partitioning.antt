@@ -7,7 +7,7 @@ use Rattle.std.specs.Cmp.Lexicographic.{slice_cmp}
 use Rattle.std.specs.Ordering.{nat_cmp, is_le, is_lt}
 use Rattle.arena.specs.Arena.{Arena, Record, IsLive, record_at, key_at}
 use Rattle.tree.specs.Item.{Item}
-use Rattle.tree.specs.Path.{IsPartitioned, items_below, following}
+use Rattle.tree.specs.Path.{IsPartitioned, items_below, items_not_below}
 use Rattle.tree.specs.Tree.{Items}
 use Rattle.tree.proofs.callers.Partitions.{none_pass}
 use Rattle.keys.proofs.callers.KeyOrder.{before_trans, is_le-cmp}
@@ -105,7 +105,7 @@ module _ {H : Type 0} (keys : Arena H) where
     pub partitioned : IsPartitioned (λ x. slot_is_below keys up_to key x.key) items
     pub before : boundaries_of keys (items_below (slot_is_below keys up_to key) items)
         ≡ filter (λ b. is_below_at up_to key b.key) (boundaries_of keys items)
-    pub following : boundaries_of keys (following (slot_is_below keys up_to key) items)
+    pub following : boundaries_of keys (items_not_below (slot_is_below keys up_to key) items)
         ≡ filter (λ b. not (is_below_at up_to key b.key)) (boundaries_of keys items)
 
   pub stored_partitioned : (tree : Items) → IsStored keys tree → (up_to : Bool) (key : List ℕ)

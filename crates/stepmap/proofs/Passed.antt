@@ -6,7 +6,7 @@ use Rattle.std.proofs.lemmas.List.Elements.{All-head, All-tail, All-cons, All-ni
 use Rattle.arena.specs.Arena.{Arena}
 use Rattle.tree.specs.declared.entry.NodeEntry.{NodeEntry}
 use Rattle.tree.specs.Item.{Item, item_of}
-use Rattle.tree.specs.Path.{IsPartitioned, items_below, following, first_key as first_slot}
+use Rattle.tree.specs.Path.{IsPartitioned, items_below, items_not_below, first_key as first_slot}
 use Rattle.tree.specs.Tree.{Items, IsLast}
 use Rattle.keys.specs.Key.{is_before}
 use Rattle.keys.proofs.callers.Booleans.{true_or_false}
@@ -73,7 +73,7 @@ module _ {H : Type 0} (keys : Arena H) where
     pub partitioned : IsPartitioned (λ x. slot_is_below keys up_to key x.key) items
     pub passed : boundaries_of keys (items_below (slot_is_below keys up_to key) items)
         ≡ passed_to cursor (boundaries_of keys items)
-    pub left : boundaries_of keys (following (slot_is_below keys up_to key) items)
+    pub left : boundaries_of keys (items_not_below (slot_is_below keys up_to key) items)
         ≡ left_from cursor (boundaries_of keys items)
     pub some : items_below (slot_is_below keys up_to key) items ≢ []
 

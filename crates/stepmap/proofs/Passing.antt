@@ -37,7 +37,7 @@ use Rattle.stepmap.specs.Sweeping.{
   passed_to,
   rest,
   round_at,
-  swept,
+  boundaries_after_sweep,
   after_sweep,
 }
 use Rattle.stepmap.specs.Kept.{round_of}
@@ -45,7 +45,7 @@ use Rattle.stepmap.proofs.Order.{not_empty_if_after}
 
 -- so many boundaries were looked at, and the cursor is at the first that is left
 pub record IsPass (edge : ℤ) (began : List ℕ) (count : ℕ) (old new : List Boundary) (at : List ℕ) : Type 0 where
-  pub boundaries : new ≡ swept edge count (passed_to began old) (left_from began old)
+  pub boundaries : new ≡ boundaries_after_sweep edge count (passed_to began old) (left_from began old)
   pub cursor : at ≡ first_key (drop count (left_from began old))
 
 -- the keys of those that are left have some length
@@ -79,7 +79,7 @@ module _ (m : Steps) (count : ℕ) (new : List Boundary) (cursor : List ℕ)
       ap (λ (xs : List Boundary). record m { boundaries = xs; round = round }) h.boundaries
       ∙ ap (λ (r : Option Round). record m {
         boundaries =
-            swept m.edge count (passed_to (cursor_of m.round) m.boundaries)
+            boundaries_after_sweep m.edge count (passed_to (cursor_of m.round) m.boundaries)
             (left_from (cursor_of m.round) m.boundaries);
         round = r;
       }) (sym e)

@@ -32,11 +32,11 @@ abbrev pub placed_slots : List Placed → List ℕ
 placed_slots ps = map (λ p. p.slot) ps
 
 -- how many they all take
-abbrev pub used : List Placed → ℕ → ℕ
-used [] size = 0
-used (p ∷ ps) size = takes p.key size + used ps size
+abbrev pub used_slots : List Placed → ℕ → ℕ
+used_slots [] size = 0
+used_slots (p ∷ ps) size = takes p.key size + used_slots ps size
 
-used-append : (ps : List Placed) (p : Placed) (size : ℕ) → used (ps ++ p ∷ []) size ≡ used ps size + takes p.key size
+used-append : (ps : List Placed) (p : Placed) (size : ℕ) → used_slots (ps ++ p ∷ []) size ≡ used_slots ps size + takes p.key size
 used-append [] p size = omega arith
 used-append (q ∷ ps) p size = omega (arith, used-append ps p size)
 
@@ -49,7 +49,7 @@ module _ {H : Type 0} (old : Arena H) where
     pub distinct : (s : ℕ) → times s (placed_slots ps) ≤ 1
     pub others : (s : ℕ) → times s out ≡ 0 → times s (placed_slots ps) ≡ 0 → record_at now s ≡ record_at old s
     pub counted : finite.len now.records + length out ≡ finite.len old.records + length ps
-    pub spare : (size : ℕ) → spare_of old size ≤ spare_of now size + used ps size
+    pub spare : (size : ℕ) → spare_of old size ≤ spare_of now size + used_slots ps size
 
   -- none was placed at first
   pub none_placed : ArePlaced old [] []

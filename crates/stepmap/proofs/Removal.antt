@@ -29,7 +29,7 @@ use Rattle.keys.specs.Key.{is_before}
 use Rattle.keyspace.specs.Writes.{Write}
 use Rattle.keys.proofs.callers.Booleans.{true_or_false, and_left, and_right}
 use Rattle.stepmap.specs.Boundary.{Boundary, RiseFrom, value_from, last_version}
-use Rattle.stepmap.specs.Sweeping.{unexpired}
+use Rattle.stepmap.specs.Sweeping.{unexpired_boundaries}
 use Rattle.stepmap.specs.Rooted.{IsEndOf, Ends, AreRooted}
 use Rattle.stepmap.proofs.Order.{rise_lower}
 use Rattle.stepmap.proofs.Values.{value_after, first_after_rising}
@@ -77,30 +77,30 @@ stays_above edge before b h = stays_by edge before b.version _ _ refl refl h
 
 -- what all have, those that stay have
 pub unexpired_has : (P : Boundary → Type 0) (edge before : ℤ) (bs : List Boundary) → All P bs
-    → All P (unexpired edge before bs)
+    → All P (unexpired_boundaries edge before bs)
 unexpired_has P edge before [] a = All-nil P
 unexpired_has P edge before (b ∷ bs) a =
     let ih = unexpired_has P edge b.version bs (All-tail P b bs a) in
     elim (true_or_false (goes edge before b)) [
       | inl t ↦ rw t ih
       | inr f ↦ rw f
-          (All-cons P b (unexpired edge b.version bs) (All-head P b bs a) ih)
+          (All-cons P b (unexpired_boundaries edge b.version bs) (All-head P b bs a) ih)
     ]
 
-pub unexpired_shorter : (edge before : ℤ) (bs : List Boundary) → length (unexpired edge before bs) ≤ length bs
+pub unexpired_shorter : (edge before : ℤ) (bs : List Boundary) → length (unexpired_boundaries edge before bs) ≤ length bs
 unexpired_shorter edge before [] = omega arith
 unexpired_shorter edge before (b ∷ bs) =
     let ih = unexpired_shorter edge b.version bs in
     elim (true_or_false (goes edge before b)) [ inl t ↦ rw t (omega arith) | inr f ↦ rw f (omega arith) ]
 
 pub unexpired_rises : (edge before : ℤ) (k : List ℕ) (bs cs : List Boundary) → RiseFrom k (bs ++ cs)
-    → RiseFrom k (unexpired edge before bs ++ cs)
+    → RiseFrom k (unexpired_boundaries edge before bs ++ cs)
 unexpired_rises edge before k [] cs r = r
 unexpired_rises edge before k (b ∷ bs) cs r =
     let ih = unexpired_rises edge b.version b.key bs cs r.1 in
     elim (true_or_false (goes edge before b)) [
       | inl t ↦ rw t
-          (rise_lower k b.key (unexpired edge b.version bs ++ cs) r.0 ih)
+          (rise_lower k b.key (unexpired_boundaries edge b.version bs ++ cs) r.0 ih)
       | inr f ↦ rw f (r.0, ih)
     ]
 
@@ -113,7 +113,7 @@ value_same edge v w (b ∷ bs) key h =
 -- each value is the same or stays below the edge
 pub unexpired_values : (edge v w : ℤ) (k key : List ℕ) (bs cs : List Boundary) → SameOrBelow edge v w
     → RiseFrom k (bs ++ cs)
-    → SameOrBelow edge (value_from v (bs ++ cs) key) (value_from w (unexpired edge v bs ++ cs) key)
+    → SameOrBelow edge (value_from v (bs ++ cs) key) (value_from w (unexpired_boundaries edge v bs ++ cs) key)
 unexpired_values edge v w k key [] cs h r = value_same edge v w cs key h
 unexpired_values edge v w k key (b ∷ bs) cs h r =
     elim (true_or_false (goes edge v b)) [
@@ -121,8 +121,8 @@ unexpired_values edge v w k key (b ∷ bs) cs h r =
           let low = goes_below edge v b t in
           elim (true_or_false (is_before key b.key)) [
             | inl l ↦
-                let e = value_after w (unexpired edge b.version bs ++ cs) key
-                (first_after_rising b.key key (unexpired edge b.version bs ++ cs)
+                let e = value_after w (unexpired_boundaries edge b.version bs ++ cs) key
+                (first_after_rising b.key key (unexpired_boundaries edge b.version bs ++ cs)
                 (unexpired_rises edge b.version b.key bs cs r.1) l) in
                 rw (t, l) (subst (λ x. SameOrBelow edge v x) (sym e) h)
             | inr g ↦ rw (
@@ -166,7 +166,7 @@ rooted_same ws edge v w [] h r = tt
 rooted_same ws edge v w (b ∷ bs) h r = (root_same ws edge v w b h r.0, r.1)
 
 pub unexpired_rooted : (ws : List Write) (edge v w : ℤ) (bs cs : List Boundary) → SameOrBelow edge v w
-    → AreRooted ws edge v (bs ++ cs) → AreRooted ws edge w (unexpired edge v bs ++ cs)
+    → AreRooted ws edge v (bs ++ cs) → AreRooted ws edge w (unexpired_boundaries edge v bs ++ cs)
 unexpired_rooted ws edge v w [] cs h r = rooted_same ws edge v w cs h r
 unexpired_rooted ws edge v w (b ∷ bs) cs h r =
     elim (true_or_false (goes edge v b)) [
@@ -180,7 +180,7 @@ unexpired_rooted ws edge v w (b ∷ bs) cs h r =
 
 -- those that a sweep has left standing come from writes at or above its edge
 pub unexpired_ends : (ws : List Write) (edge e v : ℤ) (bs : List Boundary) → e ≤ℤ edge → AreRooted ws edge v bs
-    → Ends (unexpired edge v bs) ws e
+    → Ends (unexpired_boundaries edge v bs) ws e
 unexpired_ends ws edge e v [] le r = All-nil (λ b. b.key ≢ [] → IsEndOf ws e b.key)
 unexpired_ends ws edge e v (b ∷ bs) le r =
     let ih = unexpired_ends ws edge e b.version bs le r.1 in
@@ -189,6 +189,6 @@ unexpired_ends ws edge e v (b ∷ bs) le r =
       | inr f ↦
           let up = stays_above edge v b f in
           rw f (All-cons (λ b. b.key ≢ []
-          → IsEndOf ws e b.key) b (unexpired edge b.version bs)
+          → IsEndOf ws e b.key) b (unexpired_boundaries edge b.version bs)
           (λ n. end_lower ws (int_max v b.version) e b.key (omega (arith, ints)) (r.0 n up)) ih)
     ]

@@ -6,7 +6,7 @@ use Rattle.keys.proofs.callers.Booleans.{true_or_false}
 use Rattle.keyspace.specs.Writes.{Write}
 use Rattle.stepmap.specs.Boundary.{Boundary}
 use Rattle.stepmap.specs.StepMap.{Steps, AreSteps}
-use Rattle.stepmap.specs.Sweeping.{unexpired}
+use Rattle.stepmap.specs.Sweeping.{unexpired_boundaries}
 use Rattle.stepmap.specs.Limit.{HasRoomFor, after_round, made_room, unexpired_all}
 use Rattle.stepmap.specs.Rooted.{Rooted}
 use Rattle.stepmap.specs.Counting.{live_count}
@@ -18,7 +18,7 @@ not_below_itself : (edge : ℤ) → int_lt edge edge ≡ false
 not_below_itself edge = grind (arith, ints)
 
 -- all boundaries are swept where the version before the first isn't below the edge
-pub all_unexpired : (edge : ℤ) (bs : List Boundary) → unexpired edge edge bs ≡ unexpired_all edge bs
+pub all_unexpired : (edge : ℤ) (bs : List Boundary) → unexpired_boundaries edge edge bs ≡ unexpired_all edge bs
 all_unexpired edge [] = refl
 all_unexpired edge (b ∷ bs) = rw (not_below_itself edge) refl
 

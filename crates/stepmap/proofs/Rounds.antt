@@ -6,7 +6,7 @@ use Rattle.keys.specs.Key.{is_before, IsBefore}
 use Rattle.keyspace.specs.Writes.{Write}
 use Rattle.stepmap.specs.Boundary.{Boundary, AreInOrder, RiseFrom}
 use Rattle.stepmap.specs.StepMap.{Steps, AreSteps}
-use Rattle.stepmap.specs.Sweeping.{unexpired, is_left, left_from, passed_to, round_at, swept, at_front, after_sweep}
+use Rattle.stepmap.specs.Sweeping.{unexpired_boundaries, is_left, left_from, passed_to, round_at, boundaries_after_sweep, at_front, after_sweep}
 use Rattle.stepmap.specs.Limit.{unexpired_all, after_round}
 use Rattle.stepmap.specs.Rooted.{Ends, Rooted}
 use Rattle.stepmap.proofs.Order.{not_before_empty, rise_lower}
@@ -40,16 +40,16 @@ front_passed b bs o =
     rw first (ap (λ xs. b ∷ xs) (none_passed bs rises))
 
 swept_all : (edge : ℤ) (bs : List Boundary) → AreInOrder bs
-    → swept edge (length bs) (passed_to [] bs) (left_from [] bs) ≡ unexpired_all edge bs
+    → boundaries_after_sweep edge (length bs) (passed_to [] bs) (left_from [] bs) ≡ unexpired_all edge bs
 swept_all edge [] o = absurd o
 swept_all edge (b ∷ bs) o =
     let n = length (b ∷ bs) in
     let few : length bs ≤ n = omega arith in
-    ap (swept edge n (passed_to [] (b ∷ bs))) (front_left (b ∷ bs) o)
-    ∙ ap (λ xs. swept edge n xs bs) (front_passed b bs o)
-    ∙ ap (λ xs. b ∷ (unexpired edge b.version xs ++ drop n bs)) (take_all n bs few)
-    ∙ ap (λ xs. b ∷ (unexpired edge b.version bs ++ xs)) (drop_all n bs few)
-    ∙ ap (λ xs. b ∷ xs) (append-nil (unexpired edge b.version bs))
+    ap (boundaries_after_sweep edge n (passed_to [] (b ∷ bs))) (front_left (b ∷ bs) o)
+    ∙ ap (λ xs. boundaries_after_sweep edge n xs bs) (front_passed b bs o)
+    ∙ ap (λ xs. b ∷ (unexpired_boundaries edge b.version xs ++ drop n bs)) (take_all n bs few)
+    ∙ ap (λ xs. b ∷ (unexpired_boundaries edge b.version bs ++ xs)) (drop_all n bs few)
+    ∙ ap (λ xs. b ∷ xs) (append-nil (unexpired_boundaries edge b.version bs))
 
 none_left : (bs : List Boundary) → AreInOrder bs → length (left_from [] bs) ≤ length bs
 none_left bs o = omega (arith, ap length (front_left bs o), length-drop 1 bs)

@@ -7,7 +7,7 @@ use Rattle.std.proofs.lemmas.List.{drop-drop, length-drop, take_all, drop_all}
 use Rattle.keys.specs.Key.{IsKey}
 use Rattle.stepmap.specs.Boundary.{Boundary, AreInOrder, last_version}
 use Rattle.stepmap.specs.Stored.{first_key}
-use Rattle.stepmap.specs.Sweeping.{left_from, passed_to, unexpired}
+use Rattle.stepmap.specs.Sweeping.{left_from, passed_to, unexpired_boundaries}
 use Rattle.stepmap.proofs.Order.{rising_in_order, not_empty_if_after}
 use Rattle.stepmap.proofs.Looking.{parted_left, left_middle}
 use Rattle.keys.proofs.callers.SomeElement.{Any-first, Any-right}
@@ -21,7 +21,7 @@ last_version-append before (b ∷ bs) cs = last_version-append b.version bs cs
 
 -- one part is swept of expired items after the other
 unexpired-append : (edge before : ℤ) (bs cs : List Boundary)
-    → unexpired edge before (bs ++ cs) ≡ unexpired edge before bs ++ unexpired edge (last_version before bs) cs
+    → unexpired_boundaries edge before (bs ++ cs) ≡ unexpired_boundaries edge before bs ++ unexpired_boundaries edge (last_version before bs) cs
 unexpired-append edge before [] cs = refl
 unexpired-append edge before (b ∷ bs) cs =
     let i = unexpired-append edge b.version bs cs in
@@ -80,7 +80,7 @@ module _ (edge : ℤ) (cursor : List ℕ) (old : List Boundary) where
       pub first_there : at ≢ [] → Any (λ b. b.key ≡ at) now
       first_there later =
           let g = continues s.n at later s.next in
-          let front = passed_to cursor old ++ unexpired edge (last_passed edge cursor s.n old) (looked edge cursor s.n old) in
+          let front = passed_to cursor old ++ unexpired_boundaries edge (last_passed edge cursor s.n old) (looked edge cursor s.n old) in
           subst (Any (λ b. b.key ≡ at)) (sym (s.is ∙ g.stands.is))
           (Any-right (λ b. b.key ≡ at) front (g.first ∷ g.others)
           (Any-first (λ b. b.key ≡ at) g.first g.others (sym g.at_first)))
@@ -89,48 +89,48 @@ module _ (edge : ℤ) (cursor : List ℕ) (old : List Boundary) where
       pub left_here : at ≢ [] → left_from at now ≡ unseen edge cursor s.n old
       left_here later =
           let g = continues s.n at later s.next in
-          let front = passed_to cursor old ++ unexpired edge (last_passed edge cursor s.n old) (looked edge cursor s.n old) in
+          let front = passed_to cursor old ++ unexpired_boundaries edge (last_passed edge cursor s.n old) (looked edge cursor s.n old) in
           ap (left_from at) (s.is ∙ g.stands.is) ∙ ap (λ k. left_from k (front ++ g.first ∷ g.others)) g.at_first
           ∙ left_middle g.first front g.others g.stands.before g.stands.after g.stands.filled ∙ sym g.unseen_are
 
       pub passed_here : at ≢ [] → passed_to at now
-          ≡ passed_to cursor old ++ unexpired edge (last_passed edge cursor s.n old) (looked edge cursor s.n old)
+          ≡ passed_to cursor old ++ unexpired_boundaries edge (last_passed edge cursor s.n old) (looked edge cursor s.n old)
       passed_here later =
           let g = continues s.n at later s.next in
-          let front = passed_to cursor old ++ unexpired edge (last_passed edge cursor s.n old) (looked edge cursor s.n old) in
+          let front = passed_to cursor old ++ unexpired_boundaries edge (last_passed edge cursor s.n old) (looked edge cursor s.n old) in
           ap (passed_to at) (s.is ∙ g.stands.is) ∙ ap (λ k. passed_to k (front ++ g.first ∷ g.others)) g.at_first
           ∙ passed_middle g.first front g.others g.stands.before g.stands.after g.stands.filled
 
       -- a run more
       pub more_swept : at ≢ [] → (k : ℕ) (last : ℤ) (next : List ℕ) (new : List Boundary) → k ≤ left
           → k ≤ length (left_from at now) → last ≡ last_version before (take k (left_from at now))
-          → new ≡ passed_to at now ++ (unexpired edge before (take k (left_from at now)) ++ drop k (left_from at now))
+          → new ≡ passed_to at now ++ (unexpired_boundaries edge before (take k (left_from at now)) ++ drop k (left_from at now))
           → next ≡ first_key (drop k (left_from at now)) → IsSwept count (left - k) last next new
       more_swept later k last next new le within last_is is next_is =
           let n = s.n in
           let v = last_passed edge cursor n old in
           let l = left_from cursor old in
           let here = left_here later in
-          let some = passed_to cursor old ++ unexpired edge v (take n l) in
+          let some = passed_to cursor old ++ unexpired_boundaries edge v (take n l) in
           let taken : take (n + k) l ≡ take n l ++ take k (drop n l) = take-add n k l in
           let dropped : drop k (drop n l) ≡ drop (n + k) l = drop-drop k n l in
           let last_here : last ≡ last_version before (take k (drop n l)) =
           last_is ∙ ap (λ xs. last_version before (take k xs)) here in
-          let both : unexpired edge v (take n l) ++ unexpired edge before (take k (drop n l)) ≡ unexpired edge v (take (n + k) l) =
-          ap (λ u. unexpired edge v (take n l) ++ unexpired edge u (take k (drop n l))) s.last
-          ∙ sym (unexpired-append edge v (take n l) (take k (drop n l))) ∙ ap (unexpired edge v) (sym taken) in
+          let both : unexpired_boundaries edge v (take n l) ++ unexpired_boundaries edge before (take k (drop n l)) ≡ unexpired_boundaries edge v (take (n + k) l) =
+          ap (λ u. unexpired_boundaries edge v (take n l) ++ unexpired_boundaries edge u (take k (drop n l))) s.last
+          ∙ sym (unexpired-append edge v (take n l) (take k (drop n l))) ∙ ap (unexpired_boundaries edge v) (sym taken) in
           record {
             n = n + k;
             sum = omega (arith, s.sum);
             within = omega (arith, s.within, ap length here, length-drop n l);
-            is = is ∙ ap (λ xs. xs ++ (unexpired edge before (take k (left_from at now)) ++ drop k (left_from at now)))
+            is = is ∙ ap (λ xs. xs ++ (unexpired_boundaries edge before (take k (left_from at now)) ++ drop k (left_from at now)))
                 (passed_here later)
-                ∙ ap (λ xs. some ++ (unexpired edge before (take k xs) ++ drop k xs)) here
-                ∙ append_assoc (passed_to cursor old) (unexpired edge v (take n l))
-                (unexpired edge before (take k (drop n l)) ++ drop k (drop n l))
+                ∙ ap (λ xs. some ++ (unexpired_boundaries edge before (take k xs) ++ drop k xs)) here
+                ∙ append_assoc (passed_to cursor old) (unexpired_boundaries edge v (take n l))
+                (unexpired_boundaries edge before (take k (drop n l)) ++ drop k (drop n l))
                 ∙ ap (λ xs. passed_to cursor old ++ xs)
-                (sym (append_assoc (unexpired edge v (take n l)) (unexpired edge before (take k (drop n l))) (drop k (drop n l)))
-                ∙ ap (λ xs. xs ++ drop k (drop n l)) both ∙ ap (λ xs. unexpired edge v (take (n + k) l) ++ xs) dropped);
+                (sym (append_assoc (unexpired_boundaries edge v (take n l)) (unexpired_boundaries edge before (take k (drop n l))) (drop k (drop n l)))
+                ∙ ap (λ xs. xs ++ drop k (drop n l)) both ∙ ap (λ xs. unexpired_boundaries edge v (take (n + k) l) ++ xs) dropped);
             last = last_here ∙ ap (λ u. last_version u (take k (drop n l))) s.last
                 ∙ sym (last_version-append v (take n l) (take k (drop n l))) ∙ ap (last_version v) (sym taken);
             next = next_is ∙ ap (λ xs. first_key (drop k xs)) here ∙ ap first_key dropped;
@@ -149,8 +149,8 @@ module _ (edge : ℤ) (cursor : List ℕ) (old : List Boundary) where
         of_unseen [] e =
             let more = take_more s.n count (left_from cursor old) (omega (arith, s.sum)) e in
             let v = last_passed edge cursor count old in (
-              s.is ∙ ap (λ xs. passed_to cursor old ++ (unexpired edge v xs ++ drop s.n (left_from cursor old))) (sym more.0)
-                  ∙ ap (λ xs. passed_to cursor old ++ (unexpired edge v (take count (left_from cursor old)) ++ xs))
+              s.is ∙ ap (λ xs. passed_to cursor old ++ (unexpired_boundaries edge v xs ++ drop s.n (left_from cursor old))) (sym more.0)
+                  ∙ ap (λ xs. passed_to cursor old ++ (unexpired_boundaries edge v (take count (left_from cursor old)) ++ xs))
                   (e ∙ sym more.1),
               none ∙ ap first_key (sym more.1),
             )

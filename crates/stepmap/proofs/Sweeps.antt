@@ -28,7 +28,7 @@ use Rattle.std.proofs.lemmas.List.Elements.{All-append, All-cons, All-filter, Al
 use Rattle.keys.specs.Key.{IsBefore}
 use Rattle.keyspace.specs.Writes.{Write}
 use Rattle.stepmap.specs.Boundary.{Boundary, AreInOrder, RiseFrom, value_at, last_version, below}
-use Rattle.stepmap.specs.Sweeping.{unexpired, is_left, left_from, passed_to, swept}
+use Rattle.stepmap.specs.Sweeping.{unexpired_boundaries, is_left, left_from, passed_to, boundaries_after_sweep}
 use Rattle.stepmap.specs.Rooted.{IsEndOf, Ends, AreRooted}
 use Rattle.stepmap.proofs.Order.{rising_in_order, rising_from, rise_filter, rise_swap, rise_middle}
 use Rattle.stepmap.proofs.Rooting.{rooted_front, rooted_back, rooted_join}
@@ -47,7 +47,7 @@ use Rattle.stepmap.proofs.Looking.{parted_left, empty_passed, ends_passed}
 module _ (edge : ℤ) (cursor : List ℕ) (count : ℕ) where
   -- the boundaries that it leaves
   abbrev pub new_of : List Boundary → List Boundary
-  new_of bs = swept edge count (passed_to cursor bs) (left_from cursor bs)
+  new_of bs = boundaries_after_sweep edge count (passed_to cursor bs) (left_from cursor bs)
 
   abbrev pub last_passed : List Boundary → ℤ
   last_passed bs = last_version (negsuc 0) (passed_to cursor bs)
@@ -65,9 +65,9 @@ module _ (edge : ℤ) (cursor : List ℕ) (count : ℕ) where
   pub swept_has : (P : Boundary → Type 0) (bs : List Boundary) → All P bs → All P (new_of bs)
   swept_has P bs a =
       let left = All-filter (is_left cursor) P bs a in
-      All-append P (passed_to cursor bs) (unexpired edge (last_passed bs) (looked bs) ++ unseen bs)
+      All-append P (passed_to cursor bs) (unexpired_boundaries edge (last_passed bs) (looked bs) ++ unseen bs)
       (All-filter (λ b. not (is_left cursor b)) P bs a)
-      (All-append P (unexpired edge (last_passed bs) (looked bs)) (unseen bs)
+      (All-append P (unexpired_boundaries edge (last_passed bs) (looked bs)) (unseen bs)
       (unexpired_has P edge (last_passed bs) (looked bs) (All-take P count (left_from cursor bs) left))
       (All-drop P count (left_from cursor bs) left))
 
@@ -91,7 +91,7 @@ module _ (edge : ℤ) (cursor : List ℕ) (count : ℕ) where
       rw none (
         o.0,
         rise_swap b.key (passed_to cursor bs) (looked bs ++ unseen bs)
-            (unexpired edge (last_version b.version (passed_to cursor bs)) (looked bs) ++ unseen bs)
+            (unexpired_boundaries edge (last_version b.version (passed_to cursor bs)) (looked bs) ++ unseen bs)
             (rise_parts b bs o)
             (λ j r. unexpired_rises edge (last_version b.version (passed_to cursor bs)) j (looked bs)
             (unseen bs) r),
@@ -109,7 +109,7 @@ module _ (edge : ℤ) (cursor : List ℕ) (count : ℕ) where
       subst (λ xs. SameOrBelow edge (value_at xs key) (value_at (new_of (b ∷ bs)) key))
       (sym (in_parts (b ∷ bs) o))
       (values_after edge (negsuc 0) key (passed_to cursor (b ∷ bs)) (looked (b ∷ bs) ++ unseen (b ∷ bs))
-      (unexpired edge (last_passed (b ∷ bs)) (looked (b ∷ bs)) ++ unseen (b ∷ bs))
+      (unexpired_boundaries edge (last_passed (b ∷ bs)) (looked (b ∷ bs)) ++ unseen (b ∷ bs))
       (unexpired_values edge (last_passed (b ∷ bs)) (last_passed (b ∷ bs)) b.key key (looked (b ∷ bs))
       (unseen (b ∷ bs)) (inl refl) parts))
 
@@ -118,7 +118,7 @@ module _ (edge : ℤ) (cursor : List ℕ) (count : ℕ) where
   swept_rooted ws bs o r =
       let passed = passed_to cursor bs in
       let parts = subst (AreRooted ws edge (negsuc 0)) (in_parts bs o) r in
-      rooted_join ws edge (negsuc 0) passed (unexpired edge (last_passed bs) (looked bs) ++ unseen bs)
+      rooted_join ws edge (negsuc 0) passed (unexpired_boundaries edge (last_passed bs) (looked bs) ++ unseen bs)
       (rooted_front ws edge (negsuc 0) passed (looked bs ++ unseen bs) parts)
       (unexpired_rooted ws edge (last_passed bs) (last_passed bs) (looked bs) (unseen bs) (inl refl)
       (rooted_back ws edge (negsuc 0) passed (looked bs ++ unseen bs) parts))
@@ -126,12 +126,12 @@ module _ (edge : ℤ) (cursor : List ℕ) (count : ℕ) where
   -- what the round has passed afterwards comes from writes at or above the edge with which it began
   pub passed_now_ends : (ws : List Write) (e : ℤ) (bs : List Boundary) → AreInOrder bs → e ≤ℤ edge
       → AreRooted ws edge (negsuc 0) bs → Ends (below cursor bs) ws e
-      → Ends (passed_to cursor bs ++ unexpired edge (last_passed bs) (looked bs)) ws e
+      → Ends (passed_to cursor bs ++ unexpired_boundaries edge (last_passed bs) (looked bs)) ws e
   passed_now_ends ws e bs o le r h =
       let passed = passed_to cursor bs in
       let parts = subst (AreRooted ws edge (negsuc 0)) (in_parts bs o) r in
       All-append (λ b. b.key ≢ []
-      → IsEndOf ws e b.key) passed (unexpired edge (last_passed bs) (looked bs))
+      → IsEndOf ws e b.key) passed (unexpired_boundaries edge (last_passed bs) (looked bs))
       (ends_passed ws e cursor bs h)
       (unexpired_ends ws edge e (last_passed bs) (looked bs) le
       (rooted_front ws edge (last_passed bs) (looked bs) (unseen bs)
@@ -139,17 +139,17 @@ module _ (edge : ℤ) (cursor : List ℕ) (count : ℕ) where
 
   -- where one is left unseen, the first is where the sweep goes on
   pub record Stands (bs : List Boundary) (c : Boundary) (cs : List Boundary) : Type 0 where
-    pub is : new_of bs ≡ (passed_to cursor bs ++ unexpired edge (last_passed bs) (looked bs)) ++ c ∷ cs
+    pub is : new_of bs ≡ (passed_to cursor bs ++ unexpired_boundaries edge (last_passed bs) (looked bs)) ++ c ∷ cs
     pub filled : IsBefore [] c.key
     pub before : All (λ x. IsBefore x.key c.key)
-        (passed_to cursor bs ++ unexpired edge (last_passed bs) (looked bs))
+        (passed_to cursor bs ++ unexpired_boundaries edge (last_passed bs) (looked bs))
     pub after : RiseFrom c.key cs
 
   new_is : (bs : List Boundary) (c : Boundary) (cs : List Boundary) → unseen bs ≡ c ∷ cs
-      → new_of bs ≡ (passed_to cursor bs ++ unexpired edge (last_passed bs) (looked bs)) ++ c ∷ cs
+      → new_of bs ≡ (passed_to cursor bs ++ unexpired_boundaries edge (last_passed bs) (looked bs)) ++ c ∷ cs
   new_is bs c cs e =
-      ap (λ xs. passed_to cursor bs ++ (unexpired edge (last_passed bs) (looked bs) ++ xs)) e
-      ∙ sym (append_assoc (passed_to cursor bs) (unexpired edge (last_passed bs) (looked bs)) (c ∷ cs))
+      ap (λ xs. passed_to cursor bs ++ (unexpired_boundaries edge (last_passed bs) (looked bs) ++ xs)) e
+      ∙ sym (append_assoc (passed_to cursor bs) (unexpired_boundaries edge (last_passed bs) (looked bs)) (c ∷ cs))
 
   pub stands : (bs : List Boundary) → AreInOrder bs → (c : Boundary) (cs : List Boundary) → unseen bs ≡ c ∷ cs
       → Stands bs c cs
@@ -158,11 +158,11 @@ module _ (edge : ℤ) (cursor : List ℕ) (count : ℕ) where
       let none = empty_passed cursor b o.0 in
       let is = new_is (b ∷ bs) c cs e in
       let passed =
-      passed_to cursor bs ++ unexpired edge (last_version b.version (passed_to cursor bs))
+      passed_to cursor bs ++ unexpired_boundaries edge (last_version b.version (passed_to cursor bs))
       (take count (left_from cursor bs)) in
       let starts : passed_to cursor (b ∷ bs) ≡ b ∷ passed_to cursor bs = rw none refl in
       let left_is : left_from cursor (b ∷ bs) ≡ left_from cursor bs = rw none refl in
-      let shape : passed_to cursor (b ∷ bs) ++ unexpired edge (last_passed (b ∷ bs)) (looked (b ∷ bs)) ≡ b
+      let shape : passed_to cursor (b ∷ bs) ++ unexpired_boundaries edge (last_passed (b ∷ bs)) (looked (b ∷ bs)) ≡ b
       ∷ passed = rw (starts, left_is) refl in
       let order : AreInOrder ((b ∷ passed) ++ c ∷ cs) =
       subst AreInOrder (is ∙ ap (λ xs. xs ++ c ∷ cs) shape) (swept_in_order (b ∷ bs) o) in

@@ -13,14 +13,14 @@ use Rattle.keys.proofs.callers.KeyOrder.{not_before_if}
 use Rattle.tree.specs.declared.expiry.Removal.{Removal}
 use Rattle.tree.specs.Heads.{AllAreHeads}
 use Rattle.tree.specs.Item.{Item}
-use Rattle.tree.specs.Path.{IsPartitioned, items_below, following}
+use Rattle.tree.specs.Path.{IsPartitioned, items_below, items_not_below}
 use Rattle.tree.specs.Expire.{RemovesExpired}
-use Rattle.tree.specs.Tree.{Items, unexpired as unexpired_items, tree_heads, KnowItems}
+use Rattle.tree.specs.Tree.{Items, unexpired_items, tree_heads, KnowItems}
 use Rattle.tree.proofs.callers.Partitions.{All-back}
 use Rattle.stepmap.specs.Boundary.{Boundary, AreInOrder, RiseFrom, last_version}
 use Rattle.stepmap.specs.KeyBound.{slot_is_below}
 use Rattle.stepmap.specs.Stored.{bytes_at, boundary_of, boundaries_of, first_key as first_boundary, IsStored, AreIndexed}
-use Rattle.stepmap.specs.Sweeping.{is_left, left_from, passed_to, unexpired}
+use Rattle.stepmap.specs.Sweeping.{is_left, left_from, passed_to, unexpired_boundaries}
 use Rattle.stepmap.proofs.Partitioning.{stored_partitioned}
 use Rattle.stepmap.proofs.Exchanged.{out_live, out_distinct, kept_boundaries, now_stored, now_headed}
 use Rattle.stepmap.proofs.LastAndInside.{last_of}
@@ -71,11 +71,11 @@ passed_middle c xs cs before after filled =
 
 -- what is in order stays in order where a part behind the first is swept of expired items
 unexpired_in_order : (edge before : ℤ) (xs ys zs : List Boundary) → xs ≢ [] → AreInOrder (xs ++ (ys ++ zs))
-    → AreInOrder (xs ++ (unexpired edge before ys ++ zs))
+    → AreInOrder (xs ++ (unexpired_boundaries edge before ys ++ zs))
 unexpired_in_order edge before [] ys zs some o = absurd (some refl)
 unexpired_in_order edge before (x ∷ xs) ys zs some o = (
   o.0,
-  rise_swap x.key xs (ys ++ zs) (unexpired edge before ys ++ zs) o.1
+  rise_swap x.key xs (ys ++ zs) (unexpired_boundaries edge before ys ++ zs) o.1
       (λ j r. unexpired_rises edge before j ys zs r),
 )
 
@@ -93,7 +93,7 @@ last_of_versions keys (x ∷ xs) (v ∷ front) before last e =
 module _ {H : Type 0} (keys : Arena H) where
   -- items are swept of expired items as their boundaries are
   pub boundaries_unexpired : (edge before : ℤ) (xs : List Item)
-      → boundaries_of keys (unexpired_items edge before xs) ≡ unexpired edge before (boundaries_of keys xs)
+      → boundaries_of keys (unexpired_items edge before xs) ≡ unexpired_boundaries edge before (boundaries_of keys xs)
   boundaries_unexpired edge before [] = refl
   boundaries_unexpired edge before (x ∷ xs) =
       let i = boundaries_unexpired edge x.version xs in
@@ -118,7 +118,7 @@ module _ {H : Type 0} (keys : Arena H) where
       -- the last item below the bound is that boundary's
       module _ (front : List Item) (first : Item) (passing_are : items_below p tree.items ≡ front ++ first ∷ []) where
         abbrev rest : List Item
-        rest = following p tree.items
+        rest = items_not_below p tree.items
 
         items_are : tree.items ≡ front ++ first ∷ rest
         items_are = key_is_partitioned ∙ ap (λ xs. xs ++ rest) passing_are ∙ append_assoc front (first ∷ []) rest
@@ -205,7 +205,7 @@ module _ {H : Type 0} (keys : Arena H) where
         pub next_has : (P : ℕ → Type 0) → All (λ x. P x.key) tree.items → IfSome unexpired_by.next P
         next_has P all =
             let Has = λ (x : Item). P x.key in
-            let after_has = All-back Has h.front (h.first ∷ following p tree.items)
+            let after_has = All-back Has h.front (h.first ∷ items_not_below p tree.items)
             (subst (All Has) (items_are h.front h.first h.front_is) all) in
             subst (λ o. IfSome o P) (sym h.next_is)
             (first_has keys P h.rest (All-back Has h.looked h.rest (subst (All Has) h.looked_is after_has)))
@@ -234,7 +234,7 @@ module _ {H : Type 0} (keys : Arena H) where
         run_distinct = out_distinct keys tree stored next.items run parted
 
         now_are : boundaries_of keys next.items
-            ≡ boundaries_of keys h.front ++ (unexpired edge before looked ++ unseen)
+            ≡ boundaries_of keys h.front ++ (unexpired_boundaries edge before looked ++ unseen)
         now_are =
             let f = boundary_of keys in
             let kept = unexpired_items edge before h.looked in
@@ -256,12 +256,12 @@ module _ {H : Type 0} (keys : Arena H) where
           same : boundaries_of new next.items ≡ boundaries_of keys next.items
           same = kept_boundaries keys tree stored next.items run parted new [] released
 
-          pub unexpired_boundaries : boundaries_of new next.items ≡ passed_to key bs
-              ++ (unexpired edge before (take n (left_from key bs)) ++ drop n (left_from key bs))
-          unexpired_boundaries =
+          pub passed_are_unexpired : boundaries_of new next.items ≡ passed_to key bs
+              ++ (unexpired_boundaries edge before (take n (left_from key bs)) ++ drop n (left_from key bs))
+          passed_are_unexpired =
               same ∙ now_are
-              ∙ ap (λ l. l ++ (unexpired edge before looked ++ unseen)) (sym (passed h.front h.first h.front_is))
-              ∙ ap₂ (λ xs ys. passed_to key bs ++ (unexpired edge before xs ++ ys)) (sym looked_are) (sym rest_are)
+              ∙ ap (λ l. l ++ (unexpired_boundaries edge before looked ++ unseen)) (sym (passed h.front h.first h.front_is))
+              ∙ ap₂ (λ xs ys. passed_to key bs ++ (unexpired_boundaries edge before xs ++ ys)) (sym looked_are) (sym rest_are)
 
           pub unexpired_indexed : KnowItems next → AllAreHeads (key_at keys) (tree_heads next) → AreIndexed new next
           unexpired_indexed know headed = record {

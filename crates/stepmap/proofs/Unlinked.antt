@@ -6,7 +6,7 @@ use Rattle.std.proofs.lemmas.List.{map-append}
 use Rattle.std.proofs.lemmas.List.Elements.{All-head, All-tail}
 use Rattle.arena.specs.Arena.{Arena, IsLive}
 use Rattle.tree.specs.Item.{Item}
-use Rattle.tree.specs.Tree.{unexpired as unexpired_items, expired}
+use Rattle.tree.specs.Tree.{unexpired_items, expired_items}
 use Rattle.tree.proofs.callers.Times.{times, once_same, once_cases, times-append}
 
 -- the slots of items
@@ -57,7 +57,7 @@ middle_goes front out rest = parted_beside front out [] out rest (record { each 
 
 -- a run is swept of expired items
 pub unexpired_parted : (edge before : ℤ) (items : List Item)
-    → AreParted items (unexpired_items edge before items) (expired edge before items)
+    → AreParted items (unexpired_items edge before items) (expired_items edge before items)
 unexpired_parted edge before [] = record { each = λ s. omega arith; count = omega arith }
 unexpired_parted edge before (x ∷ xs) =
     let i = unexpired_parted edge x.version xs in

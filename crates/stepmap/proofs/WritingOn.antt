@@ -5,7 +5,7 @@ use Rattle.arena.specs.Arena.{wanted_of}
 use Rattle.keys.specs.declared.range.Range.{Range}
 use Rattle.stepmap.specs.Boundary.{AreBoundaries, value_at}
 use Rattle.stepmap.specs.Stored.{Stored, spare_in}
-use Rattle.stepmap.specs.Writing.{written, written_to}
+use Rattle.stepmap.specs.Writing.{boundaries_after_write, written_to}
 
 -- how many runs there can be before the range is written
 abbrev pub runs_left : Stored → Option ℤ → ℕ
@@ -24,14 +24,14 @@ module _ (range : Range) (version : ℤ) (old : Stored) where
 
   -- the range can be written as at first, with this version at its end
   pub record IsToWrite (given : ℤ) (now : Stored) : Type 0 where
-    pub same : written_to range version given now.boundaries ≡ written range version old.boundaries
+    pub same : written_to range version given now.boundaries ≡ boundaries_after_write range version old.boundaries
     pub boundaries : AreBoundaries now.boundaries
     pub few : length now.boundaries ≤ length old.boundaries
     pub spare : (size : ℕ) → spare_in old size ≤ spare_in now size
 
   -- it is written
   pub record IsWrittenOver (now : Stored) : Type 0 where
-    pub is : now.boundaries ≡ written range version old.boundaries
+    pub is : now.boundaries ≡ boundaries_after_write range version old.boundaries
     pub spare : (size : ℕ) → spare_in old size ≤ spare_in now size + wanted size
 
   -- one of them, by whether a version is told for its end

@@ -8,7 +8,7 @@ use Rattle.keys.specs.declared.range.Range.{Range}
 use Rattle.keys.proofs.callers.KeyOrder.{before_at_most}
 use Rattle.keys.proofs.callers.Booleans.{true_or_false}
 use Rattle.stepmap.specs.Boundary.{Boundary, AreBoundaries, AreInOrder, RiseFrom, value_at, below, from_on}
-use Rattle.stepmap.specs.Writing.{closed_at, written, written_to}
+use Rattle.stepmap.specs.Writing.{closed_at, boundaries_after_write, written_to}
 use Rattle.stepmap.proofs.Order.{
   Rising,
   rising_in_order,
@@ -60,7 +60,7 @@ written_in_order range filled v w bs o =
     (rising_filter (λ b. not (is_before b.key range.end)) bs (rising_in_order bs o)))
 
 pub written_boundaries : (range : Range) → ¬ IsEmpty range → (v : ℤ) (bs : List Boundary) → negsuc 0 ≤ℤ v
-    → AreBoundaries bs → AreBoundaries (written range v bs)
+    → AreBoundaries bs → AreBoundaries (boundaries_after_write range v bs)
 written_boundaries range filled v bs low h = record {
   in_order = written_in_order range filled v (value_at bs range.end) bs h.in_order;
   keys = written_has (λ b. IsKey b.key) range v bs range.begin_is_key range.end_is_key h.keys;

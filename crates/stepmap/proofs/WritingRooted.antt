@@ -12,7 +12,7 @@ use Rattle.keys.specs.declared.range.Range.{Range}
 use Rattle.keys.proofs.callers.KeyOrder.{at_most_antisym, at_most_itself}
 use Rattle.keys.proofs.callers.Booleans.{true_or_false}
 use Rattle.stepmap.specs.Boundary.{Boundary, AreUpTo, value_at, value_from, last_version, below, from_on}
-use Rattle.stepmap.specs.Writing.{closed_at, written}
+use Rattle.stepmap.specs.Writing.{closed_at, boundaries_after_write}
 use Rattle.stepmap.specs.Rooted.{IsEndOf, Ends, AreRooted}
 use Rattle.stepmap.proofs.Order.{Rising, at_most_if}
 use Rattle.stepmap.proofs.Values.{parted_below, value_from_on, from_all, last_has}
@@ -69,7 +69,7 @@ module _ (range : Range) (filled : ¬ IsEmpty range) (v : ℤ) (ws : List Write)
 
   pub written_rooted : (edge : ℤ) (bs : List Boundary) → Rising bs → AreUpTo v bs → negsuc 0 ≤ℤ v
       → AreRooted ws edge (negsuc 0) bs
-      → AreRooted (ws ++ record { range = range; version = v } ∷ []) edge (negsuc 0) (written range v bs)
+      → AreRooted (ws ++ record { range = range; version = v } ∷ []) edge (negsuc 0) (boundaries_after_write range v bs)
   written_rooted edge bs rising top low h =
       let ws' = ws ++ record { range = range; version = v } ∷ [] in
       let front = below range.begin bs in
@@ -102,7 +102,7 @@ module _ (range : Range) (filled : ¬ IsEmpty range) (v : ℤ) (ws : List Write)
 
   -- the boundaries that are ends at or above e stay so, and the new ones are such
   pub written_ends : (e : ℤ) (bs : List Boundary) → e ≤ℤ v → Ends bs ws e
-      → Ends (written range v bs) (ws ++ record { range = range; version = v } ∷ []) e
+      → Ends (boundaries_after_write range v bs) (ws ++ record { range = range; version = v } ∷ []) e
   written_ends e bs le h =
       written_has (λ b. b.key ≢ []
       → IsEndOf (ws ++ record { range = range; version = v } ∷ []) e b.key) range v bs

@@ -15,7 +15,7 @@ use Rattle.keys.proofs.callers.KeyOrder.{
 }
 use Rattle.keys.proofs.callers.Booleans.{true_or_false}
 use Rattle.stepmap.specs.Boundary.{Boundary, value_from, value_at, last_version, below, from_on}
-use Rattle.stepmap.specs.Writing.{closed_at, written}
+use Rattle.stepmap.specs.Writing.{closed_at, boundaries_after_write}
 use Rattle.keys.proofs.callers.KeyOrder.{not_before_if}
 use Rattle.stepmap.proofs.Order.{Rising, at_most_if}
 use Rattle.stepmap.proofs.Values.{
@@ -57,7 +57,7 @@ module _ (range : Range) (filled : ¬ IsEmpty range) (v : ℤ) (bs : List Bounda
   closing : List Boundary
   closing = closed_at range.end (value_at bs range.end) (from_on range.end bs)
 
-  pub value_in : (key : List ℕ) → Holds range key → value_at (written range v bs) key ≡ v
+  pub value_in : (key : List ℕ) → Holds range key → value_at (boundaries_after_write range v bs) key ≡ v
   unfolding closing
   value_in key h =
       value_back (negsuc 0) (below range.begin bs) (record { key = range.begin; version = v } ∷ closing) key
@@ -68,7 +68,7 @@ module _ (range : Range) (filled : ¬ IsEmpty range) (v : ℤ) (bs : List Bounda
       (from_all range.end bs) h.1))
 
   pub value_ahead : (key : List ℕ) → IsBefore key range.begin
-      → value_at (written range v bs) key ≡ value_at bs key
+      → value_at (boundaries_after_write range v bs) key ≡ value_at bs key
   unfolding closing
   value_ahead key l =
       value_front (negsuc 0) (below range.begin bs) (record {
@@ -79,7 +79,7 @@ module _ (range : Range) (filled : ¬ IsEmpty range) (v : ℤ) (bs : List Bounda
       ∙ sym (value_before (negsuc 0) range.begin key bs rising l)
 
   pub value_past : (key : List ℕ) → IsAtMost range.end key
-      → value_at (written range v bs) key ≡ value_at bs key
+      → value_at (boundaries_after_write range v bs) key ≡ value_at bs key
   unfolding closing
   value_past key l =
       let from_begin =
@@ -97,7 +97,7 @@ module _ (range : Range) (filled : ¬ IsEmpty range) (v : ℤ) (bs : List Bounda
 
   -- the values elsewhere stay
   pub value_elsewhere : (key : List ℕ) → ¬ Holds range key
-      → value_at (written range v bs) key ≡ value_at bs key
+      → value_at (boundaries_after_write range v bs) key ≡ value_at bs key
   value_elsewhere key h =
       elim (before_or_at_most key range.begin) [
         | inl l ↦ value_ahead key l
@@ -120,7 +120,7 @@ closed_has P c v (b ∷ bs) p a =
 -- what all boundaries and the two new ones have, all boundaries have afterwards
 pub written_has : (P : Boundary → Type 0) (range : Range) (v : ℤ) (bs : List Boundary)
     → P (record { key = range.begin; version = v })
-    → P (record { key = range.end; version = value_at bs range.end }) → All P bs → All P (written range v bs)
+    → P (record { key = range.end; version = value_at bs range.end }) → All P bs → All P (boundaries_after_write range v bs)
 written_has P range v bs p q a =
     let rest = from_on range.end bs in
     let closing = closed_at range.end (value_at bs range.end) rest in

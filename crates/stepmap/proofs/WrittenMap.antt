@@ -28,7 +28,7 @@ use Rattle.keys.specs.declared.range.Range.{Range}
 use Rattle.keys.proofs.callers.Booleans.{true_or_false, not_both_ways}
 use Rattle.stepmap.specs.Boundary.{Boundary, AreBoundaries, AreUpTo, value_at, below}
 use Rattle.stepmap.specs.StepMap.{Round, Steps, IsRound, AreSteps}
-use Rattle.stepmap.specs.Writing.{written, after_write}
+use Rattle.stepmap.specs.Writing.{boundaries_after_write, after_write}
 use Rattle.stepmap.specs.Sweeping.{cursor_of, is_left, rest}
 use Rattle.stepmap.specs.Covers.{Covers}
 use Rattle.stepmap.specs.Rooted.{IsEndOf, Ends, Rooted}
@@ -122,7 +122,7 @@ module _ (range : Range) (filled : ¬ IsEmpty range) (v : ℤ) (m : Steps) (h : 
 
   passed_stays : (ws : List Write) (r : Round) → IsRound m.edge r
       → Ends (below r.cursor m.boundaries) ws r.edge
-      → Ends (below r.cursor (written range v m.boundaries)) (ws ++ record {
+      → Ends (below r.cursor (boundaries_after_write range v m.boundaries)) (ws ++ record {
         range = range;
         version =
             v;
@@ -137,7 +137,7 @@ module _ (range : Range) (filled : ¬ IsEmpty range) (v : ℤ) (m : Steps) (h : 
       let all = All-weaker (λ b. p b ≡ true → P b) (λ b. p b ≡ true
       → Q b) (λ b f t n. end_longer ws (record { range = range; version = v }) r.edge b.key
       (f t n)) m.boundaries (all_from_filter p P m.boundaries ends) in
-      all_to_filter p Q (written range v m.boundaries)
+      all_to_filter p Q (boundaries_after_write range v m.boundaries)
       (written_has (λ b. p b ≡ true
       → Q b) range v m.boundaries (λ _ n. begin_is_end range filled v ws r.edge le)
       (λ _ n. end_is_end range filled v ws r.edge le) all)
@@ -150,7 +150,7 @@ module _ (range : Range) (filled : ¬ IsEmpty range) (v : ℤ) (m : Steps) (h : 
         each = written_rooted range filled v ws m.edge m.boundaries
             (rising_in_order m.boundaries h.boundaries.in_order) top version_low r.each;
         passed = if_some_both m.round (IsRound m.edge) (λ r. Ends (below r.cursor m.boundaries) ws r.edge)
-            (λ r. Ends (below r.cursor (written range v m.boundaries)) ws' r.edge)
+            (λ r. Ends (below r.cursor (boundaries_after_write range v m.boundaries)) ws' r.edge)
             (passed_stays ws) h.round r.passed;
       }
 

@@ -8,8 +8,8 @@ unfoldable pub greatest_of_length : ℕ → List ℕ
 greatest_of_length count = replicate count 255
 
 -- the boundaries whose keys are after the key
-abbrev pub following : List ℕ → List Boundary → List Boundary
-following key bs = filter (λ b. is_before key b.key) bs
+abbrev pub boundaries_after : List ℕ → List Boundary → List Boundary
+boundaries_after key bs = filter (λ b. is_before key b.key) bs
 
 -- There is a boundary at the key, and those before it are copied. From the key on, the copy has the version of the last boundary.
 pub record IsCopiedTo (key : List ℕ) (bs copy : List Boundary) : Type 0 where

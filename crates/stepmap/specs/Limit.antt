@@ -2,7 +2,7 @@
 use Rattle.std.specs.Prelude.{ℕ, ℤ, ◌+◌, ◌*◌, ◌≤◌, nat_le, if◌then◌else◌, List, [], ◌∷◌, length, None}
 use Rattle.stepmap.specs.Boundary.{Boundary}
 use Rattle.stepmap.specs.StepMap.{Steps}
-use Rattle.stepmap.specs.Sweeping.{unexpired}
+use Rattle.stepmap.specs.Sweeping.{unexpired_boundaries}
 
 -- n ranges can be written: the boundaries, and two for each range, are within the limit
 abbrev pub HasRoomFor : ℕ → Steps → Type 0
@@ -11,7 +11,7 @@ HasRoomFor ranges m = length m.boundaries + 2 * ranges ≤ m.limit
 -- what a sweep leaves that looks at every boundary but the empty key
 abbrev pub unexpired_all : ℤ → List Boundary → List Boundary
 unexpired_all edge [] = []
-unexpired_all edge (b ∷ bs) = b ∷ unexpired edge b.version bs
+unexpired_all edge (b ∷ bs) = b ∷ unexpired_boundaries edge b.version bs
 
 -- the step map after a complete round of the sweep, from the front
 abbrev pub after_round : Steps → Steps
@@ -22,5 +22,5 @@ abbrev pub made_room : ℕ → Steps → Steps
 made_room ranges m = if nat_le (length m.boundaries + 2 * ranges) m.limit then m else after_round m
 
 -- the step map after that, with ranges of these lengths ready to be written
-abbrev pub prepared : List (ℕ × ℕ) → Steps → Steps
-prepared lengths m = record (made_room (length lengths) m) { ready = lengths }
+abbrev pub after_prepare : List (ℕ × ℕ) → Steps → Steps
+after_prepare lengths m = record (made_room (length lengths) m) { ready = lengths }

@@ -26,11 +26,11 @@ use Rattle.stepmap.specs.StepMap.{Round, Steps}
 
 -- A boundary goes if its version and that of the boundary before it are both below the edge. The one before counts
 -- as it stood when the sweep came by, also if it goes itself.
-abbrev pub unexpired : ℤ → ℤ → List Boundary → List Boundary
-unexpired edge before [] = []
-unexpired edge before (b ∷ bs) =
-    if int_lt before edge && int_lt b.version edge then unexpired edge b.version bs
-    else b ∷ unexpired edge b.version bs
+abbrev pub unexpired_boundaries : ℤ → ℤ → List Boundary → List Boundary
+unexpired_boundaries edge before [] = []
+unexpired_boundaries edge before (b ∷ bs) =
+    if int_lt before edge && int_lt b.version edge then unexpired_boundaries edge b.version bs
+    else b ∷ unexpired_boundaries edge b.version bs
 
 -- the key from which on the round under way has still to look, or the empty key where none is
 abbrev pub cursor_of : Option Round → List ℕ
@@ -63,9 +63,9 @@ round_at edge [] = None
 round_at edge (b ∷ bs) = Some (record { cursor = b.key; edge = edge })
 
 -- of those passed and those left, the boundaries that a sweep leaves that looks at n
-abbrev pub swept : ℤ → ℕ → List Boundary → List Boundary → List Boundary
-swept edge count passed left =
-    passed ++ (unexpired edge (last_version (negsuc 0) passed) (take count left) ++ drop count left)
+abbrev pub boundaries_after_sweep : ℤ → ℕ → List Boundary → List Boundary → List Boundary
+boundaries_after_sweep edge count passed left =
+    passed ++ (unexpired_boundaries edge (last_version (negsuc 0) passed) (take count left) ++ drop count left)
 
 -- the step map with no round under way: the next sweep begins at the front
 abbrev pub at_front : Steps → Steps
@@ -76,6 +76,6 @@ abbrev pub after_sweep : ℕ → Steps → Steps
 after_sweep count m =
     let left = left_from (cursor_of m.round) m.boundaries in
     record m {
-      boundaries = swept m.edge count (passed_to (cursor_of m.round) m.boundaries) left;
+      boundaries = boundaries_after_sweep m.edge count (passed_to (cursor_of m.round) m.boundaries) left;
       round = round_at (round_edge m.edge m.round) (drop count left);
     }

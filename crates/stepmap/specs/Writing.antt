@@ -25,12 +25,12 @@ written_to range version at_end bs =
     below range.begin bs ++ record { key = range.begin; version = version } ∷ closed_at range.end at_end (from_on range.end bs)
 
 -- the boundaries after the range was written at the version
-abbrev pub written : Range → ℤ → List Boundary → List Boundary
-written range version bs = written_to range version (value_at bs range.end) bs
+abbrev pub boundaries_after_write : Range → ℤ → List Boundary → List Boundary
+boundaries_after_write range version bs = written_to range version (value_at bs range.end) bs
 
 -- the step map after that; one pair of lengths is used up
 abbrev pub after_write : Range → ℤ → Steps → Steps
 after_write range version m = record m {
-  boundaries = written range version m.boundaries;
+  boundaries = boundaries_after_write range version m.boundaries;
   ready = drop 1 m.ready;
 }

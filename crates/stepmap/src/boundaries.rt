@@ -9,7 +9,7 @@ ghost use Rattle.keys.specs.Range.{Holds, IsEmpty};
 ghost use Rattle.stepmap.specs.Asking.{Exceeds};
 ghost use Rattle.stepmap.specs.Boundary.{AreBoundaries, value_at};
 ghost use Rattle.stepmap.specs.Stored.{spare_in, each_length};
-ghost use Rattle.stepmap.specs.Writing.{written, written_to};
+ghost use Rattle.stepmap.specs.Writing.{boundaries_after_write, written_to};
 ghost use Rattle.tree.specs.declared.question.TheConstants.{SIDE};
 
 use crate::key_bound::KeyBound;
@@ -180,7 +180,8 @@ impl<const N: usize> Boundaries<N> {
         requires keys { HasRoomFor (spare_in self.old)
             (length range.now.begin ∷ length range.now.end ∷ []) }
         requires nodes { length self.old.boundaries + 2 ≤ self.old.room }
-        ensures boundaries { self.new.boundaries ≡ written range.now version self.old.boundaries }
+        ensures boundaries { self.new.boundaries
+            ≡ boundaries_after_write range.now version self.old.boundaries }
         ensures spare { (size : ℕ) → spare_in self.old size
             ≤ spare_in self.new size + wanted_of
             (length range.now.begin ∷ length range.now.end ∷ []) size }

@@ -5,7 +5,7 @@ ghost use Rattle.std.specs.Prelude.{IfOk, OnOk};
 ghost use Rattle.keys.specs.Key.{IsKey};
 ghost use Rattle.keys.specs.declared.key.TheConstants.{MAX_KEY_LENGTH};
 ghost use Rattle.stepmap.specs.Boundary.{AreBoundaries, last_version, value_at};
-ghost use Rattle.stepmap.specs.Copying.{following, greatest_of_length, IsCopiedTo};
+ghost use Rattle.stepmap.specs.Copying.{boundaries_after, greatest_of_length, IsCopiedTo};
 ghost use Rattle.stepmap.specs.Stored.{first_key};
 ghost use Rattle.limits.specs.declared.settings.TheConstants.{MAX_LIMIT};
 
@@ -99,7 +99,7 @@ impl<const N: usize> Boundaries<N> {
         requires keys { All (λ b. IsKey b.key) self.now.boundaries }
         requires any_key { MAX_KEY_LENGTH ≤ vec_capacity next.old }
         ensures version { result ≡ value_at self.now.boundaries key.now }
-        ensures next { next.new.items ≡ first_key (following key.now self.now.boundaries) }
+        ensures next { next.new.items ≡ first_key (boundaries_after key.now self.now.boundaries) }
         ensures capacity { MAX_KEY_LENGTH ≤ vec_capacity next.new }
     {
         let bound = KeyBound {

@@ -8,7 +8,8 @@ ghost use Rattle.keys.specs.declared.key.TheConstants.{MAX_KEY_LENGTH};
 ghost use Rattle.stepmap.specs.Boundary.{AreBoundaries, last_version};
 ghost use Rattle.stepmap.specs.Stored.{spare_in, first_key, bytes_at};
 ghost use Rattle.stepmap.specs.Limit.{unexpired_all};
-ghost use Rattle.stepmap.specs.Sweeping.{left_from, passed_to, swept, unexpired};
+ghost use Rattle.stepmap.specs.Sweeping.{left_from, passed_to, boundaries_after_sweep};
+ghost use Rattle.stepmap.specs.Sweeping.{unexpired_boundaries};
 
 use crate::boundaries::Boundaries;
 use crate::key_bound::KeyBound;
@@ -31,7 +32,7 @@ impl<const N: usize> Boundaries<N> {
     pub fn sweep(&mut self, cursor: &mut Vec<u8>, count: usize, edge: i64)
         requires boundaries { AreBoundaries self.old.boundaries }
         requires any_key { MAX_KEY_LENGTH ≤ vec_capacity cursor.old }
-        ensures boundaries { self.new.boundaries ≡ swept edge count
+        ensures boundaries { self.new.boundaries ≡ boundaries_after_sweep edge count
             (passed_to cursor.old.items self.old.boundaries)
             (left_from cursor.old.items self.old.boundaries) }
         ensures cursor { cursor.new.items
@@ -100,7 +101,7 @@ impl<const N: usize> Boundaries<N> {
             ≡ last_version before (take result.count
             (left_from cursor.old.items self.old.boundaries)) }
         ensures boundaries { self.new.boundaries ≡ passed_to cursor.old.items self.old.boundaries
-            ++ (unexpired edge before (take result.count
+            ++ (unexpired_boundaries edge before (take result.count
             (left_from cursor.old.items self.old.boundaries))
             ++ drop result.count (left_from cursor.old.items self.old.boundaries)) }
         ensures cursor { cursor.new.items

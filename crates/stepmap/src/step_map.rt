@@ -11,7 +11,7 @@ ghost use Rattle.stepmap.specs.Boundary.{value_at, AreUpTo};
 ghost use Rattle.stepmap.specs.StepMap.{lengths, new_map, AreSteps};
 ghost use Rattle.stepmap.specs.Writing.{after_write};
 ghost use Rattle.stepmap.specs.Sweeping.{rest, round_edge, after_sweep};
-ghost use Rattle.stepmap.specs.Limit.{HasRoomFor, made_room, prepared};
+ghost use Rattle.stepmap.specs.Limit.{HasRoomFor, made_room, after_prepare};
 ghost use Rattle.stepmap.specs.Covers.{SameFrom, MapCovers, IsAbove};
 ghost use Rattle.stepmap.specs.Rooted.{Ends, Rooted};
 ghost use Rattle.stepmap.specs.Counting.{live_count};
@@ -189,9 +189,9 @@ impl StepMap {
     /// growth is refused or an arena would have more chunks than slots can name. After either no
     /// range is ready; the function says the same as before at and above the edge.
     pub fn prepare(&mut self, lengths: &[KeyLengths]) -> Result<(), StepError>
-        ensures ok { OnOk result (self.new ≡ prepared lengths.now self.old) }
+        ensures ok { OnOk result (self.new ≡ after_prepare lengths.now self.old) }
         ensures err { OnErr result (self.new
-            ≡ record (prepared lengths.now self.old) { ready = [] }) }
+            ≡ record (after_prepare lengths.now self.old) { ready = [] }) }
         ensures full { (result ≡ Err StepError.Full)
             ↔ ¬ HasRoomFor (length lengths.now) (made_room (length lengths.now) self.old) }
         ensures steps { AreSteps self.new }

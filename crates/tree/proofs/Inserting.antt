@@ -8,7 +8,7 @@ use Rattle.tree.specs.declared.entry.NodeEntry.{NodeEntry}
 use Rattle.tree.specs.Heads.{KeyBytes, AllAreHeads}
 use Rattle.tree.specs.Node.{all_heads_of}
 use Rattle.tree.specs.Item.{Item}
-use Rattle.tree.specs.Path.{IsPartitioned, items_below, following}
+use Rattle.tree.specs.Path.{IsPartitioned, items_below, items_not_below}
 use Rattle.tree.specs.Subtree.{items_in}
 use Rattle.tree.specs.Walk.{CanChangeBy}
 use Rattle.tree.proofs.Counting.{low, enough_spare}
@@ -52,7 +52,7 @@ module _ {N : ℕ} where
 
 -- those that pass and those that don't are all
 pub length-partitioned : (is_below : ℕ → Bool) (items : List Item)
-    → length (items_below is_below items) + length (following is_below items) ≡ length items
+    → length (items_below is_below items) + length (items_not_below is_below items) ≡ length items
 length-partitioned is_below items =
     length-filter_both (λ (x : Item). is_below x.key) (λ (x : Item). not (is_below x.key)) (λ x. refl) items
 

@@ -2,7 +2,7 @@
 use Rattle.std.proofs.Common.{arith, ◌≡◌, ℕ, ◌+◌, ◌-◌, Bool, true, false, List, [], ◌∷◌, ◌++◌, Option, Some, map, drop, filter, flat_map, All, refl, ap}
 use Rattle.std.proofs.lemmas.Bool.{cases_Bool}
 use Rattle.std.proofs.lemmas.List.Elements.{All-head, All-drop, filter-append}
-use Rattle.tree.proofs.Words.{Arena, header_at, NodeEntry, Node, Item, Describes, item_of, entries_of, index_in, following, after_leaf, first_key, entries_at, items_in}
+use Rattle.tree.proofs.Words.{Arena, header_at, NodeEntry, Node, Item, Describes, item_of, entries_of, index_in, items_not_below, after_leaf, first_key, entries_at, items_in}
 use Rattle.tree.proofs.callers.Partitions.{none_pass, none_fail}
 use Rattle.tree.proofs.Found.{IsFound, entries_read}
 
@@ -24,7 +24,7 @@ first_key-children below key (e ∷ es) t =
 
 -- what stands behind a bound, where all before and none behind a part passes
 pub following-parts : (is_below : ℕ → Bool) (a c b : List Item) → All (λ x. is_below x.key ≡ true) a
-    → All (λ x. is_below x.key ≡ false) b → following is_below (a ++ (c ++ b)) ≡ following is_below c ++ b
+    → All (λ x. is_below x.key ≡ false) b → items_not_below is_below (a ++ (c ++ b)) ≡ items_not_below is_below c ++ b
 following-parts is_below a c b p f =
     let n = (none_fail (λ (x : Item). is_below x.key) a p).1 in
     let m = (none_pass (λ (x : Item). is_below x.key) b f).1 in

@@ -2,7 +2,7 @@
 use Rattle.std.proofs.Common.{◌≡◌, ℕ, ℤ, ◌+◌, ◌-◌, ◌<◌, ◌≤◌, Bool, List, Option, [], ◌∷◌, ◌++◌, pos, length, get_or, take, drop, filter, map, sym, ◌∙◌, ap, arith, length-drop}
 use Rattle.std.proofs.lemmas.List.{take_more, drop_more, map-append, length-map, length-take-le, take-append-drop, drop-drop}
 use mathlib.Core.List.{map-map}
-use Rattle.tree.proofs.Words.{NodeEntry, Removal, Item, item_of, version_of, IsPartitioned, first_key, RemovesExpired, IsLast, unexpired, expired}
+use Rattle.tree.proofs.Words.{NodeEntry, Removal, Item, item_of, version_of, IsPartitioned, first_key, RemovesExpired, IsLast, unexpired_items, expired_items}
 use Rattle.tree.proofs.Removing.{run, all_stay}
 use Rattle.tree.proofs.WrittenLeaf.{items_parted}
 
@@ -14,9 +14,9 @@ module _ (es : List NodeEntry) (begin end : ℕ) (some : begin < end) (most : en
       cc (take-append-drop (end - begin) (drop begin es), drop-drop (end - begin) begin es)
 
   -- Where no item goes, all stay.
-  pub untouched : (edge before : ℤ) → expired edge before (map item_of (run es begin end)) ≡ []
+  pub untouched : (edge before : ℤ) → expired_items edge before (map item_of (run es begin end)) ≡ []
       → map item_of es ≡ map item_of (take begin es)
-      ++ (unexpired edge before (map item_of (run es begin end)) ++ map item_of (drop end es))
+      ++ (unexpired_items edge before (map item_of (run es begin end)) ++ map item_of (drop end es))
   untouched edge before none =
       let items = map-append item_of (take begin es) (drop begin es) in
       let following = map-append item_of (run es begin end) (drop end es) in
@@ -28,8 +28,8 @@ module _ (es : List NodeEntry) (begin end : ℕ) (some : begin < end) (most : en
       → end - begin ≤ count → removal.looked_at ≡ end - begin
       → IsLast removal.last (map version_of (run es begin end))
       → now ≡ map item_of (take begin es)
-      ++ (unexpired edge before (map item_of (run es begin end)) ++ map item_of (drop end es))
-      → out ≡ expired edge before (map item_of (run es begin end))
+      ++ (unexpired_items edge before (map item_of (run es begin end)) ++ map item_of (drop end es))
+      → out ≡ expired_items edge before (map item_of (run es begin end))
       → removal.next ≡ first_key next (map item_of (drop end es))
       → RemovesExpired p count edge before removal out next (map item_of es) now
   leaf_unexpired p partitioned is_below count edge before removal out next now few looked_at last now_is run_is next_is =

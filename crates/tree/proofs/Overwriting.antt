@@ -6,7 +6,7 @@ use Rattle.std.proofs.lemmas.Bool.{cases_Bool}
 use Rattle.tree.specs.declared.entry.NodeEntry.{NodeEntry}
 use Rattle.tree.specs.Item.{Item, item_of}
 use Rattle.tree.specs.Overwrite.{first_is_below}
-use Rattle.tree.specs.Path.{IsPartitioned, items_below, following, first_key}
+use Rattle.tree.specs.Path.{IsPartitioned, items_below, items_not_below, first_key}
 use Rattle.tree.specs.Tree.{ended_by}
 use Rattle.tree.proofs.callers.Partitions.{not_both, none_pass, rest_fails}
 
@@ -25,7 +25,7 @@ items_put false first second x others is = ap (λ y. item_of first ∷ (y ∷ ot
 
 -- those that are below the second bound, of those that aren't below the first
 pub between_is : (q r : ℕ → Bool) (items : List Item)
-    → filter (λ (x : Item). not (q x.key) && r x.key) items ≡ items_below r (following q items)
+    → filter (λ (x : Item). not (q x.key) && r x.key) items ≡ items_below r (items_not_below q items)
 between_is q r [] = refl
 between_is q r (x ∷ items) =
     let rest = between_is q r items in

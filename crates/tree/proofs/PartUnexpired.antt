@@ -1,7 +1,7 @@
 -- Items of which a run is swept of expired items: what is said of a leaf's is said of all of them, and how many stay.
 use Rattle.std.proofs.Common.{◌≡◌, ◌≢◌, ℕ, ℤ, ◌+◌, ◌≤◌, ◌≤ℤ◌, int_lt, Bool, true, false, List, [], ◌∷◌, ◌++◌, Option, None, length, sym, ◌∙◌, ap, arith, append_assoc, length-append}
 use Rattle.std.proofs.lemmas.Int.{ints}
-use Rattle.tree.proofs.Words.{Removal, Item, items_below, RemovesExpired, GivesUnexpired, unexpired, IsChangedWithin}
+use Rattle.tree.proofs.Words.{Removal, Item, items_below, RemovesExpired, GivesUnexpired, unexpired_items, IsChangedWithin}
 use Rattle.tree.proofs.callers.Partitions.{filter_around}
 use Rattle.tree.proofs.callers.Times.{none_or_some}
 use Rattle.tree.proofs.Inserting.{length-partitioned}
@@ -33,7 +33,7 @@ unexpired_all p count edge before removal run was now c some =
     }
 
 -- The first of a run stays behind a version that isn't below the edge.
-first_stays : (edge before : ℤ) (xs : List Item) → 1 ≤ length xs → edge ≤ℤ before → 1 ≤ length (unexpired edge before xs)
+first_stays : (edge before : ℤ) (xs : List Item) → 1 ≤ length xs → edge ≤ℤ before → 1 ≤ length (unexpired_items edge before xs)
 first_stays edge before [] some h = absurd (omega arith)
 first_stays edge before (x ∷ xs) some h =
     let not_under : int_lt before edge ≡ false = grind (arith, ints) in

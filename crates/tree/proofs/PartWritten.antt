@@ -7,7 +7,7 @@ use Rattle.tree.specs.declared.overwrite.OverwriteResult.{OverwriteResult}
 use Rattle.tree.specs.declared.overwrite.OverwriteResult.TheVariants.{Partly, Entirely}
 use Rattle.tree.specs.Item.{Item}
 use Rattle.tree.specs.Overwrite.{IsOverwritten, GivesPart, GivesWritten, OverwritesPart, Overwrites}
-use Rattle.tree.specs.Path.{IsPartitioned, items_below, following, between}
+use Rattle.tree.specs.Path.{IsPartitioned, items_below, items_not_below, between}
 use Rattle.tree.specs.Walk.{IsChangedWithin}
 use Rattle.tree.proofs.callers.Partitions.{All-front, filter_around, none_pass, none_passed, not_both, IsPartitioned-parts}
 use Rattle.tree.proofs.FromLast.{none_of_fewer}
@@ -25,8 +25,8 @@ module _ (p q : ℕ → Bool) (nested : (key : ℕ) → p key ≡ true → q key
   passing_too : items_below q was ≡ front ++ items_below q part
   passing_too = ap (items_below q) c.was_is ∙ filter_around (λ (x : Item). q x.key) front part back pass fail
 
-  after_too : following q was ≡ following q part ++ back
-  after_too = ap (following q) c.was_is ∙ following-parts q front part back pass fail
+  after_too : items_not_below q was ≡ items_not_below q part ++ back
+  after_too = ap (items_not_below q) c.was_is ∙ following-parts q front part back pass fail
 
   fail_first : All (λ x. p x.key ≡ false) back
   fail_first = none_of_fewer (λ (x : Item). p x.key) (λ (x : Item). q x.key) (λ x. nested x.key) back fail
@@ -46,9 +46,9 @@ module _ (p q : ℕ → Bool) (nested : (key : ℕ) → p key ≡ true → q key
 
     between_part : between (Some p) (Some q) was ≡ between (Some p) (Some q) part
     between_part =
-        let rest = ap (following p) c.was_is ∙ following-parts p front part back opens fail_first in
+        let rest = ap (items_not_below p) c.was_is ∙ following-parts p front part back opens fail_first in
         let none = (none_pass (λ (x : Item). q x.key) back fail).0 in
-        rw (between_is p q was, between_is p q part, rest, filter-append, none) (append-nil (items_below q (following p part)))
+        rw (between_is p q was, between_is p q part, rest, filter-append, none) (append-nil (items_below q (items_not_below p part)))
 
     -- Where those of the leaf are written over, all items are.
     written_part : (first : Item) (second : ℕ) (given : Option ℤ) (is_ended : Bool) → items_below q part ≢ []
@@ -77,21 +77,21 @@ module _ (p q : ℕ → Bool) (nested : (key : ℕ) → p key ≡ true → q key
         → OverwritesPart p q last run was now
     part_taken last run gives some =
         let front_is = (IsPartitioned-parts here front (part ++ back) (rw c.was_is at partitioned)).0 in
-        let kept = following p front in
+        let kept = items_not_below p front in
         let fails = none_pass here part (none_passed here part gives.none) in
         let fails_back = none_pass here back fail_first in
         let filled : front ≢ [] = λ none. some (gives.some (c.first_is.1 (refl, none))) in
         let stays = All-filter (λ (x : Item). not (p x.key)) (λ (x : Item). q x.key ≡ true) front pass in
         let passing_all : items_below p was ≡ items_below p front =
         ap (items_below p) c.was_is ∙ (rw (filter-append, filter-append, gives.none, fails_back.0) (append-nil _)) in
-        let rest : following p was ≡ kept ++ (part ++ back) =
-        ap (following p) c.was_is ∙ (rw (filter-append, filter-append, fails.1, fails_back.1)) in
+        let rest : items_not_below p was ≡ kept ++ (part ++ back) =
+        ap (items_not_below p) c.was_is ∙ (rw (filter-append, filter-append, fails.1, fails_back.1)) in
         record {
           kept = kept;
           some = λ none. some (sym gives.run_is ∙ none);
           run_is = rw (between_is p q was, rest, filter_around (λ (x : Item). q x.key) kept part back stays fail, gives.run_is);
           last_is = gives.last_is;
-          now_is = cc (c.now_is, gives.rest, after_too, passing_all, append_assoc (items_below p front) kept (following q was));
+          now_is = cc (c.now_is, gives.rest, after_too, passing_all, append_assoc (items_below p front) kept (items_not_below q was));
           first = λ none. filled (front_is ∙ (rw passing_all at none));
         }
 
@@ -110,7 +110,7 @@ overwritten p q r nested first second given (Entirely ended) run was now c first
     record {
       run_is = c.gives.run_is ∙ sym (between_part p q nested c opens);
       ended_is = answered_by_first q r was ended second_bound third_bound
-          (rw (after_too p q nested c, first_key-append None (following q c.leaf) c.following) c.gives.ended_is);
+          (rw (after_too p q nested c, first_key-append None (items_not_below q c.leaf) c.following) c.gives.ended_is);
       written = written_part p q nested c opens first second given ended c.gives.some c.gives.written;
     }
 overwritten p q r nested first second given (Partly last) run was now c first_bound second_bound third_bound some =

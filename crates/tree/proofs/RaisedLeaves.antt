@@ -14,7 +14,7 @@ use Rattle.tree.specs.declared.walk.RaisedLeaf.{RaisedLeaf}
 use Rattle.tree.specs.Heads.{KeyBytes}
 use Rattle.tree.specs.Item.{Item, Describes}
 use Rattle.tree.specs.Overwrite.{IsPartOfPartitioned, part_of_part}
-use Rattle.tree.specs.Path.{IsPartitioned, items_below, following, first_key}
+use Rattle.tree.specs.Path.{IsPartitioned, items_below, items_not_below, first_key}
 use Rattle.tree.specs.Children.{child_at, items_of, AreChildren, IsRebalancedAt}
 use Rattle.tree.specs.Subtree.{entries_at, items_in, slots_in}
 use Rattle.tree.specs.Tree.{IsRooted, least_of}
@@ -185,7 +185,7 @@ module _ {N : ℕ} {a : Arena (Node N)} (leaf : RaisedLeaf) where
     -- The items of a tree of which the leaf was changed, that has items on both sides of a bound.
     pub within_raised : (is_below : ℕ → Bool) (Gives : Bool → Option ℕ → List Item → List Item → Type 0) (height slot : ℕ)
         → CanChange a height slot → IsRaisedIn a leaf height slot → IsPartitioned (λ x. is_below x.key) (items_in a height slot)
-        → items_below is_below (items_in a 0 leaf.slot) ≢ [] → following is_below (items_in a 0 leaf.slot) ≢ []
+        → items_below is_below (items_in a 0 leaf.slot) ≢ [] → items_not_below is_below (items_in a 0 leaf.slot) ≢ []
         → ((is_first : Bool) (next : Option ℕ) → Gives is_first next (items_in a 0 leaf.slot) (items_in b 0 leaf.slot))
         → IsChangedWithin is_below Gives true None (items_in a height slot) (items_in b height slot)
     within_raised is_below Gives height slot can there partitioned some_below some_after gives =

@@ -4,7 +4,7 @@ use Rattle.std.proofs.lemmas.Grind.{drop_more_same}
 use Rattle.std.proofs.lemmas.Int.{ints}
 use Rattle.std.proofs.lemmas.List.{append-nil, get_or-drop, map-append, take_more, take_more_set, drop-set-lt, drop_more}
 use Rattle.std.proofs.lemmas.Bool.{cases_Bool}
-use Rattle.tree.proofs.Words.{NodeEntry, Item, item_of, version_of, IsLast, unexpired, expired}
+use Rattle.tree.proofs.Words.{NodeEntry, Item, item_of, version_of, IsLast, unexpired_items, expired_items}
 
 -- the entries from an index up to another
 abbrev pub run : List NodeEntry → ℕ → ℕ → List NodeEntry
@@ -12,7 +12,7 @@ run es from to = take (to - from) (drop from es)
 
 -- each goes or stays
 pub expired_or_kept : (edge before : ℤ) (xs : List Item)
-    → length (unexpired edge before xs) + length (expired edge before xs) ≡ length xs
+    → length (unexpired_items edge before xs) + length (expired_items edge before xs) ≡ length xs
 expired_or_kept edge before [] = omega arith
 expired_or_kept edge before (x ∷ xs) =
     grind (arith, expired_or_kept edge x.version xs, cases_Bool (int_lt before edge && int_lt x.version edge))
@@ -23,7 +23,7 @@ pub from_index : (es : List NodeEntry) (index : ℕ) (e : NodeEntry) → index <
 from_index es index e inside is = rw is (drop_more es index e inside)
 
 -- where none goes, all stay
-pub all_stay : (edge before : ℤ) (xs : List Item) → expired edge before xs ≡ [] → unexpired edge before xs ≡ xs
+pub all_stay : (edge before : ℤ) (xs : List Item) → expired_items edge before xs ≡ [] → unexpired_items edge before xs ≡ xs
 all_stay edge before [] none = refl
 all_stay edge before (x ∷ xs) none =
     grind (arith, cases_Bool (int_lt before edge && int_lt x.version edge), all_stay edge x.version xs)
@@ -31,11 +31,11 @@ all_stay edge before (x ∷ xs) none =
 module _ (edge last : ℤ) (es : List NodeEntry) (index : ℕ) (e : NodeEntry) (inside : index < length es) (is : e ≡ get_or es index e) where
   -- Where the entry at an index stays, those that go are behind it.
   pub one_passed : (int_lt last edge && int_lt e.version edge) ≡ false
-      → expired edge last (map item_of (drop index es)) ≡ expired edge e.version (map item_of (drop (index + 1) es))
+      → expired_items edge last (map item_of (drop index es)) ≡ expired_items edge e.version (map item_of (drop (index + 1) es))
   one_passed f = rw (from_index es index e inside is, f) refl
 
   -- Where the entry at an index goes, one goes.
-  pub one_found : (int_lt last edge && int_lt e.version edge) ≡ true → expired edge last (map item_of (drop index es)) ≢ []
+  pub one_found : (int_lt last edge && int_lt e.version edge) ≡ true → expired_items edge last (map item_of (drop index es)) ≢ []
   one_found t none = let found = rw (from_index es index e inside is, t) at none in absurd (cc)
 
 -- the version of the last entry of a run is the last of the versions
@@ -61,9 +61,9 @@ pub record RemovesExpired (edge before last : ℤ) (es now : List NodeEntry) (ou
   pub counted : kept + length out ≡ index
   pub same_length : length now ≡ length es
   pub ahead : drop index now ≡ drop index es
-  pub stayed : map item_of (take kept now) ++ unexpired edge last (map item_of (run es index to))
-      ≡ map item_of (take from es) ++ unexpired edge before (map item_of (run es from to))
-  pub went : out ++ expired edge last (map item_of (run es index to)) ≡ expired edge before (map item_of (run es from to))
+  pub stayed : map item_of (take kept now) ++ unexpired_items edge last (map item_of (run es index to))
+      ≡ map item_of (take from es) ++ unexpired_items edge before (map item_of (run es from to))
+  pub went : out ++ expired_items edge last (map item_of (run es index to)) ≡ expired_items edge before (map item_of (run es from to))
 
 module _ {edge before last : ℤ} {es now : List NodeEntry} {out : List Item} {from to index kept : ℕ}
     (t : RemovesExpired edge before last es now out from to index kept) (within : to ≤ length es) where
@@ -105,9 +105,9 @@ module _ {edge before last : ℤ} {es now : List NodeEntry} {out : List Item} {f
     -- at the end of the run
     pub all_kept : (after : List NodeEntry) → after ≡ take kept now ++ drop to now
         → map item_of after
-        ≡ map item_of (take from es) ++ (unexpired edge before (map item_of (run es from to)) ++ map item_of (drop to es))
+        ≡ map item_of (take from es) ++ (unexpired_items edge before (map item_of (run es from to)) ++ map item_of (drop to es))
     all_kept after is = rw (is, map-append, rw (none_ahead, append-nil) at t.stayed, rw end at t.ahead, append_assoc) refl
 
     -- Those that went are all that go.
-    pub all_expired : out ≡ expired edge before (map item_of (run es from to))
+    pub all_expired : out ≡ expired_items edge before (map item_of (run es from to))
     all_expired = rw (none_ahead, append-nil) at t.went

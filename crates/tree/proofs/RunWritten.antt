@@ -5,7 +5,7 @@ use Rattle.std.proofs.lemmas.List.{drop-take, map-append, same_from_push, take_m
 use Rattle.tree.specs.declared.entry.NodeEntry.{NodeEntry}
 use Rattle.tree.specs.Item.{Item, item_of}
 use Rattle.tree.specs.Overwrite.{GivesEntire, first_is_below}
-use Rattle.tree.specs.Path.{IsPartitioned, items_below, following, first_key}
+use Rattle.tree.specs.Path.{IsPartitioned, items_below, items_not_below, first_key}
 use Rattle.tree.specs.Tree.{IsLast, ended_by}
 use Rattle.tree.proofs.WrittenLeaf.{some_item, items_parted, between_entries}
 
@@ -16,7 +16,7 @@ pub entire_run : (p q r : ℕ → Bool) → ((key : ℕ) → p key ≡ true → 
     → (first : Item) (second : ℕ) (given : Option ℤ) (ended is_first : Bool) (next : Option ℕ) (run now : List Item)
     → (1 ≤ begin) ⊎ IsTrue is_first → 1 ≤ end → (last : ℤ)
     → ((x : Item) → IsLast x (items_below q (map item_of es)) → last ≡ x.version)
-    → run ≡ map item_of (drop begin (take end es)) → ended ≡ first_is_below r (first_key next (following q (map item_of es)))
+    → run ≡ map item_of (drop begin (take end es)) → ended ≡ first_is_below r (first_key next (items_not_below q (map item_of es)))
     → now ≡ map item_of (take begin es)
     ++ (first ∷ ended_by ended (record { key = second; version = unwrap_or given last }) ++ map item_of (drop end es))
     → GivesEntire p q r first second given ended run is_first next (map item_of es) now

@@ -2,12 +2,12 @@
 use Rattle.std.proofs.Common.{◌≡◌, ◌≢◌, ℕ, zero, suc, ◌+◌, ◌*◌, ◌-◌, ◌≤◌, ◌<◌, ℤ, int_lt, ◌&&◌, List, [], ◌∷◌, ◌++◌, length, drop, get_or, All, refl, sym, subst, ◌∙◌, ap, arith, length-append}
 use Rattle.std.proofs.lemmas.Bool.{cases_Bool}
 use Rattle.std.proofs.lemmas.List.{drop_more}
-use Rattle.tree.proofs.Words.{Arena, Node, NodeEntry, Item, Unexpired, items_in, entries_at, IsChild, IsSubtree, IsCounted, last_version, items_from, unexpired}
+use Rattle.tree.proofs.Words.{Arena, Node, NodeEntry, Item, Unexpired, items_in, entries_at, IsChild, IsSubtree, IsCounted, last_version, items_from, unexpired_items}
 use Rattle.tree.proofs.Removing.{from_index}
 
 -- those that stay of two parts
 unexpired-append : (edge before : ℤ) (xs ys : List Item)
-    → unexpired edge before (xs ++ ys) ≡ unexpired edge before xs ++ unexpired edge (last_version before xs) ys
+    → unexpired_items edge before (xs ++ ys) ≡ unexpired_items edge before xs ++ unexpired_items edge (last_version before xs) ys
 unexpired-append edge before [] ys = refl
 unexpired-append edge before (x ∷ xs) ys =
     grind (arith, cases_Bool (int_lt before edge && int_lt x.version edge), unexpired-append edge x.version xs ys)
@@ -17,14 +17,14 @@ last_version-append : (before : ℤ) (xs ys : List Item)
 last_version-append before [] ys = refl
 last_version-append before (x ∷ xs) ys = last_version-append x.version xs ys
 
-fewer_stay : (edge before : ℤ) (xs : List Item) → length (unexpired edge before xs) ≤ length xs
+fewer_stay : (edge before : ℤ) (xs : List Item) → length (unexpired_items edge before xs) ≤ length xs
 fewer_stay edge before [] = omega arith
 fewer_stay edge before (x ∷ xs) =
     grind (arith, fewer_stay edge x.version xs, cases_Bool (int_lt before edge && int_lt x.version edge))
 
 -- of all items, the rest is still to be counted
 pub record IsStillCounted (edge : ℤ) (before : Unexpired) (all : List Item) (now : Unexpired) (rest : List Item) : Type 0 where
-  pub count : before.count + length (unexpired edge before.last all) ≡ now.count + length (unexpired edge now.last rest)
+  pub count : before.count + length (unexpired_items edge before.last all) ≡ now.count + length (unexpired_items edge now.last rest)
   pub last : last_version before.last all ≡ last_version now.last rest
   pub few : now.count + length rest ≤ before.count + length all
 
@@ -36,7 +36,7 @@ module _ (edge : ℤ) (before : Unexpired) (all : List Item) where
       → IsCounted edge now xs later → IsStillCounted edge before all later ys
   more_counted now later xs ys h c =
       let parts = ap length (unexpired-append edge now.last xs ys)
-      ∙ length-append (unexpired edge now.last xs) (unexpired edge (last_version now.last xs) ys) in
+      ∙ length-append (unexpired_items edge now.last xs) (unexpired_items edge (last_version now.last xs) ys) in
       let fewer = fewer_stay edge now.last xs in
       rw c.last record {
         count = omega (arith, h.count, parts, c.count);
@@ -52,7 +52,7 @@ pub both_counted : (edge : ℤ) (before middle later : Unexpired) (xs ys : List 
     → IsCounted edge middle ys later → IsCounted edge before (xs ++ ys) later
 both_counted edge before middle later xs ys first second =
     let parts = ap length (unexpired-append edge before.last xs ys)
-    ∙ length-append (unexpired edge before.last xs) (unexpired edge (last_version before.last xs) ys) in
+    ∙ length-append (unexpired_items edge before.last xs) (unexpired_items edge (last_version before.last xs) ys) in
     let answered = rw first.last at second.count in
     record {
       count = omega (arith, first.count, answered, parts);

@@ -10,7 +10,7 @@ use Rattle.keys.proofs.callers.SomeElement.{Any-first, Any-right}
 use Rattle.tree.specs.declared.entry.NodeEntry.{NodeEntry}
 use Rattle.tree.specs.Item.{Item, item_of}
 use Rattle.tree.specs.Overwrite.{IsOverwritten, IsPartOfPartitioned, first_is_below}
-use Rattle.tree.specs.Path.{IsPartitioned, items_below, following, between, first_key}
+use Rattle.tree.specs.Path.{IsPartitioned, items_below, items_not_below, between, first_key}
 use Rattle.tree.specs.Tree.{IsLast, ended_by}
 use Rattle.tree.specs.Walk.{IsRaised}
 use Rattle.tree.proofs.callers.Partitions.{All-back, none_fail, IsPartitioned-parts}
@@ -35,7 +35,7 @@ some_item p es n some count none =
 -- so many entries are below the bound, and the items that do are theirs
 pub items_parted : (p : ℕ → Bool) (es : List NodeEntry) (n : ℕ) → IsPartitioned (λ e. p e.key) es
     → n ≡ length (filter (λ e. p e.key) es)
-    → (items_below p (map item_of es) ≡ map item_of (take n es)) × (following p (map item_of es) ≡ map item_of (drop n es))
+    → (items_below p (map item_of es) ≡ map item_of (take n es)) × (items_not_below p (map item_of es) ≡ map item_of (drop n es))
 items_parted p es n partitioned count =
     let parts = parted p es n partitioned count in (
       filter-items p es ∙ ap (map item_of) (sym parts.0),
@@ -91,7 +91,7 @@ pub raised : (p q : ℕ → Bool) → ((key : ℕ) → p key ≡ true → q key 
 raised p q nested first second ended was now partitioned some some_second written =
     let end = ended_some (items_below q was) some_second in
     let x : Item = record { key = second; version = end.last.version } in
-    let rest = first ∷ ended_by ended x ++ following q was in
+    let rest = first ∷ ended_by ended x ++ items_not_below q was in
     let now_is : now ≡ items_below p was ++ rest = written end.last (end.front, end.is) in
     let Known : Item → Type 0 = λ x. Any (λ (w : Item). x.version ≡ w.version) was in
     let P : Item → Type 0 = λ x. (x.version ≡ first.version) ⊎ Known x in
@@ -103,22 +103,22 @@ raised p q nested first second ended was now partitioned some some_second writte
     let ends : All P (ended_by ended x) =
     (elim ended as (λ b. All P (ended_by b x)) [ true ↦ All-nil P | false ↦ All-cons P x [] (inr last) (All-nil P) ]) in
     record {
-      first = cc (now_is, first_of_front (items_below p was) rest (following p was) some, partitioned);
+      first = cc (now_is, first_of_front (items_below p was) rest (items_not_below p was) some, partitioned);
       there = rw now_is (Any-right (λ (x : Item). x.version ≡ first.version) (items_below p was) rest (Any-first _ first _ refl));
       others = rw now_is
           (All-append P (items_below p was) rest (All-filter (λ (x : Item). p x.key) P was own)
           (All-cons P first _ (inl refl)
-          (All-append P _ (following q was) ends (All-filter (λ (x : Item). not (q x.key)) P was own))));
+          (All-append P _ (items_not_below q was) ends (All-filter (λ (x : Item). not (q x.key)) P was own))));
     }
 
 module _ (q r : ℕ → Bool) (es : List NodeEntry) (end : ℕ) (others : drop end es ≡ filter (λ e. not (q e.key)) es)
     (otherwise : Option ℕ) (ended : Bool) where
-  after_end : following q (map item_of es) ≡ map item_of (drop end es)
+  after_end : items_not_below q (map item_of es) ≡ map item_of (drop end es)
   after_end = filter-items (λ key. not (q key)) es ∙ sym (ap (map item_of) others)
 
   -- The next entry of the leaf tells whether the first key behind the second bound passes.
   pub ended_in_leaf : end < length es → ((e : NodeEntry) → slice_get es end ≡ Some e → ended ≡ r e.key)
-      → ended ≡ first_is_below r (first_key otherwise (following q (map item_of es)))
+      → ended ≡ first_is_below r (first_key otherwise (items_not_below q (map item_of es)))
   ended_in_leaf within describes = elim (slice_get_cases es end).1 [
     | inl at ↦ rw (after_end, drop_more es end at.0 within, at.3) (describes at.0 at.2)
     | inr none ↦ absurd (omega (arith, none.0))
@@ -127,7 +127,7 @@ module _ (q r : ℕ → Bool) (es : List NodeEntry) (end : ℕ) (others : drop e
   -- Where there is none, the key behind the leaf does.
   pub ended_after : length es ≤ end → (post : ℕ → Type 0) → MatchOption otherwise (ended ≡ false) post
       → ((key : ℕ) → post key → ended ≡ r key)
-      → ended ≡ first_is_below r (first_key otherwise (following q (map item_of es)))
+      → ended ≡ first_is_below r (first_key otherwise (items_not_below q (map item_of es)))
   ended_after all post tested says =
       let Describes = λ (key : Option ℕ). MatchOption key (ended ≡ false) post → ended ≡ first_is_below r key in
       rw (after_end, drop_all end es all) ((elim otherwise as Describes [ None ↦ λ none. none | Some key ↦ says key ]) tested)

@@ -7,7 +7,7 @@ use Rattle.tree.specs.declared.node.Node.{Node}
 use Rattle.tree.specs.declared.unexpired.Unexpired.{Unexpired}
 use Rattle.tree.specs.Item.{Item, item_of}
 use Rattle.tree.specs.Subtree.{items_in}
-use Rattle.tree.specs.Tree.{unexpired}
+use Rattle.tree.specs.Tree.{unexpired_items}
 
 -- the version of the last of these items, or the one given if there is none
 abbrev pub last_version : ℤ → List Item → ℤ
@@ -16,7 +16,7 @@ last_version before (x ∷ xs) = last_version x.version xs
 
 -- These items were counted, too: those that stay after an item of the previous version.
 pub record IsCounted (edge : ℤ) (before : Unexpired) (items : List Item) (now : Unexpired) : Type 0 where
-  pub count : now.count ≡ before.count + length (unexpired edge before.last items)
+  pub count : now.count ≡ before.count + length (unexpired_items edge before.last items)
   pub last : now.last ≡ last_version before.last items
 
 module _ {N : ℕ} where

@@ -9,7 +9,7 @@ use Rattle.tree.specs.Heads.{AllAreHeads, KeyBytes}
 use Rattle.tree.specs.Item.{Item}
 use Rattle.tree.specs.Node.{all_heads_of, entries_of, key_heads_of}
 use Rattle.tree.specs.Overwrite.{GivesEntire}
-use Rattle.tree.specs.Path.{IsPartitioned, items_below, following}
+use Rattle.tree.specs.Path.{IsPartitioned, items_below, items_not_below}
 use Rattle.tree.specs.Rebalancing.{IsStored}
 use Rattle.tree.specs.Children.{IsKeyless}
 use Rattle.tree.specs.Subtree.{entries_at, items_in}
@@ -76,7 +76,7 @@ module _ {N : ℕ} where
       (run : List Item) (old new : Arena (Node N)) (slot : ℕ) : Type 0 where
     pub given_none : given ≡ None
     pub some_before : items_below from (items_in old 0 slot) ≢ []
-    pub some_after : following to (items_in old 0 slot) ≢ []
+    pub some_after : items_not_below to (items_in old 0 slot) ≢ []
     pub gives : (is_first : Bool) (next : Option ℕ) → GivesEntire from to past first second given ended run is_first next
         (items_in old 0 slot) (items_in new 0 slot)
     pub filled : least_of N ≤ length (entries_at new slot)

@@ -4,8 +4,8 @@ use Rattle.tree.specs.declared.entry.NodeEntry.{NodeEntry}
 use Rattle.tree.specs.declared.expiry.Removal.{Removal}
 use Rattle.tree.specs.Heads.{AllAreHeads, KeyBytes}
 use Rattle.tree.specs.Item.{Item}
-use Rattle.tree.specs.Path.{IsPartitioned, items_below, following, first_key}
-use Rattle.tree.specs.Tree.{Items, IsLast, tree_heads, unexpired, expired}
+use Rattle.tree.specs.Path.{IsPartitioned, items_below, items_not_below, first_key}
+use Rattle.tree.specs.Tree.{Items, IsLast, tree_heads, unexpired_items, expired_items}
 
 -- A tree of which a run of items may be looked at, at most `count` of them. The run begins with the last one below the bound, and
 -- `before` is the version of the item before it. None is taken out yet.
@@ -29,12 +29,12 @@ pub record RemovesExpired (is_below : ℕ → Bool) (count : ℕ) (edge before :
   pub looked : List Item
   pub rest : List Item
   pub front_is : items_below is_below was ≡ front ++ first ∷ []
-  pub looked_is : first ∷ following is_below was ≡ looked ++ rest
+  pub looked_is : first ∷ items_not_below is_below was ≡ looked ++ rest
   pub looked_at : length looked ≡ removal.looked_at
   pub some : 1 ≤ removal.looked_at
   pub few : removal.looked_at ≤ count
-  pub now_is : now ≡ front ++ (unexpired edge before looked ++ rest)
-  pub run_is : run ≡ expired edge before looked
+  pub now_is : now ≡ front ++ (unexpired_items edge before looked ++ rest)
+  pub run_is : run ≡ expired_items edge before looked
   pub last : IsLast removal.last (map (λ x. x.version) looked)
   pub next_is : removal.next ≡ first_key next rest
 

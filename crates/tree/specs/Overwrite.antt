@@ -6,7 +6,7 @@ use Rattle.tree.specs.declared.overwrite.OverwriteResult.{OverwriteResult}
 use Rattle.tree.specs.declared.overwrite.OverwriteResult.TheVariants.{Partly, Entirely}
 use Rattle.tree.specs.Heads.{AllAreHeads, KeyBytes}
 use Rattle.tree.specs.Item.{Item}
-use Rattle.tree.specs.Path.{IsPartitioned, items_below, following, between, first_key}
+use Rattle.tree.specs.Path.{IsPartitioned, items_below, items_not_below, between, first_key}
 use Rattle.tree.specs.Tree.{Items, IsLast, ended_by, tree_heads}
 
 -- Items once written over: the first of the new ones replaces those from one bound to another. A second one has the
@@ -15,7 +15,7 @@ abbrev pub IsOverwritten : (ℕ → Bool) → (ℕ → Bool) → Item → ℕ �
 IsOverwritten from to first second given ended was now =
     (last : Item) → IsLast last (items_below to was)
     → now ≡ items_below from was
-    ++ (first ∷ ended_by ended (record { key = second; version = unwrap_or given last.version }) ++ following to was)
+    ++ (first ∷ ended_by ended (record { key = second; version = unwrap_or given last.version }) ++ items_not_below to was)
 
 -- how many items replace the run
 abbrev pub put_of : OverwriteResult → ℕ
@@ -50,14 +50,14 @@ pub record GivesEntire (from to past : ℕ → Bool) (first : Item) (second : �
   pub there : (items_below from was ≢ []) ⊎ IsTrue is_first
   pub some : items_below to was ≢ []
   pub run_is : run ≡ between (Some from) (Some to) was
-  pub ended_is : ended ≡ first_is_below past (first_key next (following to was))
+  pub ended_is : ended ≡ first_is_below past (first_key next (items_not_below to was))
   pub written : IsOverwritten from to first second given ended was now
 
 -- The items of a leaf, of which the run's are taken out: no item before the run is among them.
 pub record GivesPart (from to : ℕ → Bool) (last : ℤ) (run : List Item) (is_first : Bool) (was now : List Item) : Type 0 where
   pub none : items_below from was ≡ []
   pub run_is : run ≡ items_below to was
-  pub rest : now ≡ following to was
+  pub rest : now ≡ items_not_below to was
   pub last_is : (x : Item) → IsLast x run → last ≡ x.version
   pub some : IsTrue is_first → items_below to was ≡ []
 
@@ -92,7 +92,7 @@ pub record OverwritesPart (from to : ℕ → Bool) (last : ℤ) (run was now : L
   pub some : run ≢ []
   pub run_is : between (Some from) (Some to) was ≡ kept ++ run
   pub last_is : (x : Item) → IsLast x run → last ≡ x.version
-  pub now_is : now ≡ items_below from was ++ (kept ++ following to was)
+  pub now_is : now ≡ items_below from was ++ (kept ++ items_not_below to was)
   pub first : items_below from was ++ kept ≢ []
 
 -- either of them

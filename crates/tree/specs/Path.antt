@@ -15,8 +15,8 @@ IsPartitioned is_below xs = xs ≡ filter is_below xs ++ filter (λ x. not (is_b
 abbrev pub items_below : (ℕ → Bool) → List Item → List Item
 items_below is_below items = filter (λ x. is_below x.key) items
 
-abbrev pub following : (ℕ → Bool) → List Item → List Item
-following is_below items = filter (λ x. not (is_below x.key)) items
+abbrev pub items_not_below : (ℕ → Bool) → List Item → List Item
+items_not_below is_below items = filter (λ x. not (is_below x.key)) items
 
 -- the key of the first of them, or the one given if there is none
 abbrev pub first_key : Option ℕ → List Item → Option ℕ

@@ -45,16 +45,16 @@ abbrev pub ended_by : Bool → Item → List Item
 ended_by ended item = if ended then [] else item ∷ []
 
 -- The items that stay of a run. One goes if its version and its predecessor's are below the edge.
-abbrev pub unexpired : ℤ → ℤ → List Item → List Item
-unexpired edge before [] = []
-unexpired edge before (x ∷ xs) =
-    if int_lt before edge && int_lt x.version edge then unexpired edge x.version xs else x ∷ unexpired edge x.version xs
+abbrev pub unexpired_items : ℤ → ℤ → List Item → List Item
+unexpired_items edge before [] = []
+unexpired_items edge before (x ∷ xs) =
+    if int_lt before edge && int_lt x.version edge then unexpired_items edge x.version xs else x ∷ unexpired_items edge x.version xs
 
 -- those that go, in order
-abbrev pub expired : ℤ → ℤ → List Item → List Item
-expired edge before [] = []
-expired edge before (x ∷ xs) =
-    if int_lt before edge && int_lt x.version edge then x ∷ expired edge x.version xs else expired edge x.version xs
+abbrev pub expired_items : ℤ → ℤ → List Item → List Item
+expired_items edge before [] = []
+expired_items edge before (x ∷ xs) =
+    if int_lt before edge && int_lt x.version edge then x ∷ expired_items edge x.version xs else expired_items edge x.version xs
 
 -- the least number of entries of a node that isn't the root
 abbrev pub least_of : ℕ → ℕ

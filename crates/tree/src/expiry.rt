@@ -7,7 +7,7 @@ ghost use Rattle.tree.specs.Heads.{AreHeads, KeyBytes};
 ghost use Rattle.tree.specs.Node.{entries_of, key_heads_of};
 ghost use Rattle.tree.specs.Path.{first_key};
 ghost use Rattle.tree.specs.Expire.{GivesUnexpired};
-ghost use Rattle.tree.specs.Tree.{IsLast, unexpired, expired};
+ghost use Rattle.tree.specs.Tree.{IsLast, unexpired_items, expired_items};
 
 use crate::bound::Bound;
 use crate::entry::{NodeEntry, key_at};
@@ -109,7 +109,7 @@ fn look_at(entries: &[NodeEntry], from: usize, to: usize, following: Option<Slot
 // Returns whether the version of one of these entries and that of its predecessor are below `edge`.
 // `before` is the version of the entry before the first of them.
 fn has_expired(entries: &[NodeEntry], edge: i64, before: i64) -> bool
-    ensures expired { IsTrue result ↔ (expired edge before (map item_of entries.now) ≢ []) }
+    ensures expired { IsTrue result ↔ (expired_items edge before (map item_of entries.now) ≢ []) }
 {
     let mut last = before;
     for entry in entries {
@@ -136,10 +136,12 @@ fn remove_expired<const N: usize>(
     requires some { from < to }
     requires within { to ≤ length (entries_of node.old) }
     ensures kept { map item_of (entries_of node.new) ≡ map item_of (take from (entries_of node.old))
-        ++ (unexpired edge before (map item_of (take (to - from) (drop from (entries_of node.old))))
+        ++ (unexpired_items edge before
+        (map item_of (take (to - from) (drop from (entries_of node.old))))
         ++ map item_of (drop to (entries_of node.old))) }
     ensures taken { map item_of taken.new.items
-        ≡ expired edge before (map item_of (take (to - from) (drop from (entries_of node.old)))) }
+        ≡ expired_items edge before
+        (map item_of (take (to - from) (drop from (entries_of node.old)))) }
     ensures headed { (bytes : KeyBytes) → AreHeads bytes (key_heads_of node.old)
         → AreHeads bytes (key_heads_of node.new) }
 {

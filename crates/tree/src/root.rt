@@ -7,7 +7,7 @@ ghost use Rattle.tree.specs.Overwrite.{GivesWritten, IsPartOfPartitioned};
 ghost use Rattle.tree.specs.Rebalancing.{CanGrow, CanShrink};
 ghost use Rattle.tree.specs.Node.{all_heads_of};
 ghost use Rattle.tree.specs.Subtree.{items_in};
-ghost use Rattle.tree.specs.Path.{items_below, following, first_key};
+ghost use Rattle.tree.specs.Path.{items_below, items_not_below, first_key};
 ghost use Rattle.tree.specs.ReachedLeaf.{CanReach, IsReached};
 ghost use Rattle.tree.specs.Children.{items_with};
 ghost use Rattle.tree.specs.Tree.{least_of, IsLast};
@@ -65,7 +65,7 @@ pub fn last_and_next<P: Bound, const N: usize>(
         (λ e. IsLast (item_of e) (items_below (P.below bound.now)
         (items_in nodes.now root.height root.slot))) }
     ensures next { result.1 ≡ first_key None
-        (following (P.below bound.now) (items_in nodes.now root.height root.slot)) }
+        (items_not_below (P.below bound.now) (items_in nodes.now root.height root.slot)) }
 {
     let reached = reach(nodes, root, bound);
     let leaf = nodes.header_ref(reached.leaf);

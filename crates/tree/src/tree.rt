@@ -7,10 +7,11 @@ ghost use Rattle.tree.specs.Item.{item_of, IsGreatest};
 ghost use Rattle.tree.specs.Heads.{AllAreHeads, KeyBytes};
 ghost use Rattle.tree.specs.Overwrite.{CanOverwrite, Overwrites};
 ghost use Rattle.tree.specs.Expire.{CanRemoveExpired, RemovesExpired};
-ghost use Rattle.tree.specs.Path.{IsPartitioned, items_below, following, first_key, from_last};
+ghost use Rattle.tree.specs.Path.{IsPartitioned, items_below, items_not_below, first_key};
+ghost use Rattle.tree.specs.Path.{from_last};
 ghost use Rattle.tree.specs.Question.{Exceeds};
 ghost use Rattle.tree.specs.declared.question.TheConstants.{SIDE};
-ghost use Rattle.tree.specs.Tree.{CanSearchItems, IsLast, tree_heads, KnowItems, unexpired};
+ghost use Rattle.tree.specs.Tree.{CanSearchItems, IsLast, tree_heads, KnowItems, unexpired_items};
 
 use crate::bound::Bound;
 use crate::entry::NodeEntry;
@@ -151,7 +152,8 @@ impl<const N: usize> Tree<N> {
         requires can_search { CanSearchItems (P.below bound.now) (P.bytes bound.now) self.now }
         ensures last { MatchOption result.0 (items_below (P.below bound.now) self.now.items ≡ [])
             (λ e. IsLast (item_of e) (items_below (P.below bound.now) self.now.items)) }
-        ensures next { result.1 ≡ first_key None (following (P.below bound.now) self.now.items) }
+        ensures next { result.1
+            ≡ first_key None (items_not_below (P.below bound.now) self.now.items) }
     {
         last_and_next(&self.nodes, self.root, bound)
     }
@@ -196,7 +198,7 @@ impl<const N: usize> Tree<N> {
     /// predecessor's version are below `edge`. `before` is the version before the first one. It
     /// reads every leaf, and takes no memory.
     pub fn count_unexpired(&self, edge: i64, before: i64) -> usize
-        ensures count { result ≡ length (unexpired edge before self.now.items) }
+        ensures count { result ≡ length (unexpired_items edge before self.now.items) }
     {
         // There are no more items than a number can count.
         let _len = self.len;

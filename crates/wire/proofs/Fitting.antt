@@ -12,7 +12,7 @@ use Rattle.keyspace.specs.declared.reply.Entry.{Entry}
 use Rattle.keyspace.specs.declared.reply.Reply.{Reply}
 use Rattle.keyspace.specs.declared.reply.Verdict.{Verdict}
 use Rattle.keyspace.specs.declared.reply.Verdict.TheVariants.{Conflict, TooOld, Committed}
-use Rattle.keyspace.specs.Writes.{Write, counted}
+use Rattle.keyspace.specs.Writes.{Write, counted_ranges}
 use Rattle.keyspace.specs.Judged.{Judged, edge}
 use Rattle.keyspace.specs.Judge.{is_too_old, is_in_conflict, is_hit, meets_earlier, places_from, hits_or_first, report, without_places, in_conflict_at, judge_txn, judge_txns}
 use Rattle.keyspace.proofs.callers.Judging.{only_judge}
@@ -118,7 +118,7 @@ entries_fit : (v : WireVersion) (edge : ℤ) (ws : List Write) (before : List Ra
 entries_fit v edge ws before [] = omega arith
 entries_fit v edge ws before (t ∷ ts) =
     let e = judge_txn edge ws before t in
-    let after = before ++ counted e.verdict t.writes in
+    let after = before ++ counted_ranges e.verdict t.writes in
     omega (
       arith,
       length-append (entry_text (entry_fields e))

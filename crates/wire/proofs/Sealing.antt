@@ -15,9 +15,9 @@ use Rattle.wire.proofs.Rests.{bytes_by_front}
 abbrev pub sealed_one : List ℕ → Span → List ℕ
 sealed_one frame span = if span.begin == span.end then set frame (span.begin + span.begin_length) 0 else frame
 
-abbrev pub sealed : List ℕ → List Span → List ℕ
-sealed frame [] = frame
-sealed frame (span ∷ spans) = sealed (sealed_one frame span) spans
+abbrev pub sealed_bytes : List ℕ → List Span → List ℕ
+sealed_bytes frame [] = frame
+sealed_bytes frame (span ∷ spans) = sealed_bytes (sealed_one frame span) spans
 
 single_test : (span : Span) (to : ℕ) → HasSingleKey span to → eqb span.begin span.end ≡ true
 single_test span to h = eq-eqb span.begin span.end (sym h.0)
@@ -211,34 +211,34 @@ one_reported frame from span to h lt =
 
 -- spans change nothing before the first of them
 all_in_front : (frame : List ℕ) (from : ℕ) (spans : List Span) (to : ℕ) → AreApart from spans to
-    → take (from + 1) (sealed frame spans) ≡ take (from + 1) frame
+    → take (from + 1) (sealed_bytes frame spans) ≡ take (from + 1) frame
 all_in_front frame from [] to h = refl
 all_in_front frame from (span ∷ spans) to h =
     let one = sealed_one frame span in
     let least : from + 1 ≤ h.0 + 1 = omega (arith, between_rises from span h.0 h.1) in
-    take_fewer (sealed one spans) one (h.0 + 1) (from + 1) (all_in_front one h.0 spans to h.2) least
+    take_fewer (sealed_bytes one spans) one (h.0 + 1) (from + 1) (all_in_front one h.0 spans to h.2) least
     ∙ one_in_front frame from span h.0 h.1
 
 -- the spans mean what was read once all have their ends
 all_reported : (frame : List ℕ) (from : ℕ) (spans : List Span) (to : ℕ) → AreApart from spans to → to < length frame
-    → map (range_of_span (sealed frame spans)) spans ≡ map (range_read frame) spans
+    → map (range_of_span (sealed_bytes frame spans)) spans ≡ map (range_read frame) spans
 all_reported frame from [] to h lt = refl
 all_reported frame from (span ∷ spans) to h lt =
     let one = sealed_one frame span in
     let least : h.0 ≤ to = omega (arith, apart_rises h.0 spans to h.2) in
     let here : h.0 < length frame = omega (arith, least, lt) in
     let still : to < length one = rw (one_length frame from span h.0 h.1) lt in
-    let first : range_of_span (sealed one spans) span ≡ range_read frame span =
-    reported_in_front (sealed one spans) one from span h.0 h.1 (all_in_front one h.0 spans to h.2)
+    let first : range_of_span (sealed_bytes one spans) span ≡ range_read frame span =
+    reported_in_front (sealed_bytes one spans) one from span h.0 h.1 (all_in_front one h.0 spans to h.2)
     ∙ one_reported frame from span h.0 h.1 here in
-    let others : map (range_of_span (sealed one spans)) spans ≡ map (range_read frame) spans =
+    let others : map (range_of_span (sealed_bytes one spans)) spans ≡ map (range_read frame) spans =
     all_reported one h.0 spans to h.2 still
     ∙ reads_after one frame h.0 spans to h.2 (one_after frame from span h.0 h.1) in
     λ i. first i ∷ others i
 
 -- .. a byte more than the frame has
 pub sealed_reported : (frame : List ℕ) (spans : List Span) → AreApart 0 spans (length frame)
-    → map (range_of_span (sealed (frame ++ 0 ∷ []) spans)) spans ≡ map (range_read frame) spans
+    → map (range_of_span (sealed_bytes (frame ++ 0 ∷ []) spans)) spans ≡ map (range_read frame) spans
 sealed_reported frame spans h =
     let more = frame ++ 0 ∷ [] in
     let lt : length frame < length more = omega (arith, length-append frame (0 ∷ [])) in
@@ -266,9 +266,9 @@ next_key spans i d from to lt h =
 
 -- all spans have their ends
 pub sealed_all : (frame made : List ℕ) (spans : List Span) (i : ℕ) → AreApart 0 spans (length frame) → length spans ≤ i
-    → sealed made (drop i spans) ≡ sealed (frame ++ 0 ∷ []) spans
+    → sealed_bytes made (drop i spans) ≡ sealed_bytes (frame ++ 0 ∷ []) spans
     → map (range_of_span made) spans ≡ map (range_read frame) spans
 sealed_all frame made spans i h le e =
-    let is : made ≡ sealed (frame ++ 0 ∷ []) spans =
-    ap (λ (l : List Span). sealed made l) (sym (drop_all i spans le)) ∙ e in
+    let is : made ≡ sealed_bytes (frame ++ 0 ∷ []) spans =
+    ap (λ (l : List Span). sealed_bytes made l) (sym (drop_all i spans le)) ∙ e in
     ap (λ (x : List ℕ). map (range_of_span x) spans) is ∙ sealed_reported frame spans h

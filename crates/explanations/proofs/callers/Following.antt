@@ -15,7 +15,7 @@ use Rattle.keyspace.specs.Processed.{Processed}
 use Rattle.keyspace.specs.Chain.{IsChain}
 use Rattle.keyspace.specs.Writes.{writes, earlier}
 use Rattle.keyspace.specs.Judged.{edge, HasVerdict, IsTooOld}
-use Rattle.explanations.specs.Explains.{explaining, newest_of}
+use Rattle.explanations.specs.Explains.{explaining_writes, newest_of}
 use Rattle.explanations.specs.History.{FollowsChain, HistoryState, Keeps}
 use Rattle.explanations.proofs.Explaining.{dropped_explain_nothing}
 use Rattle.explanations.proofs.Rising.{Precedes, versions_below, newest_of-more}
@@ -139,7 +139,7 @@ module _ (window : ℤ) (ps : List Processed) (p : Processed) (h : HistoryState)
 
   pub same_explaining : (j : ℕ) (t : Txn) (e : Entry) → slice_get p.batch.txns j ≡ Some t → slice_get p.reply.entries j ≡ Some e
       → e.verdict ≡ Conflict → (i : ℕ) (range : Range) → slice_get t.reads i ≡ Some range
-      → explaining (ps ++ p ∷ []) p.batch j i ≡ explaining h.kept p.batch j i
+      → explaining_writes (ps ++ p ∷ []) p.batch j i ≡ explaining_writes h.kept p.batch j i
   same_explaining j t e at_t at_e is i range read =
       let inside : i < length t.reads = slice_get_within t.reads i range read in
       let some : 0 < length t.reads = omega (arith, inside) in

@@ -4,7 +4,7 @@ ghost use Rattle.std.specs.Prelude.{◌≡◌, ◌||◌, map, option_map};
 ghost use Rattle.std.specs.List.{list_any};
 ghost use Rattle.clap.specs.Words.{found_of, rows_of};
 ghost use Rattle.replay_arguments.specs.KeptInputs.{has_written_input, is_among, is_name, is_read};
-ghost use Rattle.replay_arguments.specs.KeptInputs.{is_read_if_any, named};
+ghost use Rattle.replay_arguments.specs.KeptInputs.{is_read_if_any, given_names};
 ghost use Rattle.replay_arguments.specs.Names.{texts};
 
 use crate::opened_files::STANDARD_INPUT;
@@ -106,7 +106,7 @@ fn is_name(name: &str, other: Option<&str>) -> bool
 // Returns the names, or none if none are given.
 fn given<'m, 'a>(names: Option<&'m [&'a str]>) -> &'m [&'a str]
     ensures names { texts result
-        ≡ named (option_map (λ s. map (λ v. v.now) s.now) names.entry) }
+        ≡ given_names (option_map (λ s. map (λ v. v.now) s.now) names.entry) }
 {
     match names {
         Some(names) => names,

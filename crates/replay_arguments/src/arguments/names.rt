@@ -6,7 +6,7 @@ ghost use Rattle.clap.specs.Words.{all_of, found_of, rows_of};
 ghost use Rattle.replay_arguments.specs.Names.{HoldsNames};
 ghost use Rattle.replay_arguments.specs.Arguments.{HasFiles, HasRecords, HasReplies, HoldsExplain};
 ghost use Rattle.replay_arguments.specs.Arguments.{HoldsForm, HoldsStream, HoldsSummary};
-ghost use Rattle.replay_arguments.specs.Arguments.{NamesNothing, named};
+ghost use Rattle.replay_arguments.specs.Arguments.{NamesNothing, given_names};
 
 use crate::arguments::input::has_input_once;
 use crate::arguments::kept_inputs::writes_input;
@@ -120,7 +120,7 @@ fn records_of<'m, 'a>(
     file_count: usize,
 ) -> Result<&'m [&'a str], Mistake>
     ensures records { IfOk result (λ records. map (λ name. name.now) records.now
-        ≡ named (all_of (codes "replies") (rows_of (found_of matches.entry.now)))) }
+        ≡ given_names (all_of (codes "replies") (rows_of (found_of matches.entry.now)))) }
     ensures each { IfOk result (λ records. (length records.now ≡ 0)
         ⊎ (length records.now ≡ file_count)) }
     ensures streamed { OnOk result (

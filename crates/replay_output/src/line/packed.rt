@@ -30,11 +30,11 @@ pub struct PackedText {
 impl Model for PackedText {
     ghost use Rattle.std.specs.Prelude.{ℕ, List};
     ghost use Rattle.std.specs.List.{All};
-    ghost use Rattle.replay_output.specs.Packed.{IsUnit, spelled_all};
+    ghost use Rattle.replay_output.specs.Packed.{IsUnit, text_of_units};
 
     ghost Value = { List ℕ };
 
-    ghost view = { λ t. spelled_all t.units.items };
+    ghost view = { λ t. text_of_units t.units.items };
 
     ghost invariant = { λ t. All IsUnit t.units.items };
 }

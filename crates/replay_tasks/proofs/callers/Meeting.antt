@@ -14,7 +14,7 @@ use Rattle.replay_output.specs.declared.status.Status.TheVariants.{Done, Failed,
 use Rattle.replay_output.specs.Failures.{ending_line, failure_lines, proxy_lines}
 use Rattle.replay_output.specs.declared.line.Line.{Line}
 use Rattle.replay_output.specs.declared.options.Options.{Options}
-use Rattle.replay_output.specs.Quieted.{quieted}
+use Rattle.replay_output.specs.Quieted.{options_quieted}
 use Rattle.replay_workers.specs.Run.{IsObservedRun}
 use Rattle.replay_workers.proofs.callers.Lists.{found}
 use Rattle.replay_tasks.specs.declared.met.Met.{Met}
@@ -29,10 +29,10 @@ met_nothing options files met error none =
 
 -- what it met doesn't depend on which lines are shown
 pub met_quieted : (options : Options) (files : List (Option (List ℕ))) (met : Met) (error : Written)
-    → HasMet (quieted options) files met error → HasMet options files met error
+    → HasMet (options_quieted options) files met error → HasMet options files met error
 met_quieted options files met error has = go met.stop has
   where
-    go : (stop : Option Stop) → IfSome stop (λ s. MetStop (quieted options) files s met.version × ReportsStop s error)
+    go : (stop : Option Stop) → IfSome stop (λ s. MetStop (options_quieted options) files s met.version × ReportsStop s error)
         → IfSome stop (λ s. MetStop options files s met.version × ReportsStop s error)
     go None has = tt
     go (Some s) has =

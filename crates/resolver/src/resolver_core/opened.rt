@@ -4,7 +4,7 @@
 ghost use Rattle.std.specs.Prelude.{◌≡◌, ◌≤ℤ◌, ℕ, ℤ, pos, negsuc, [], ◌∷◌, IfOk, IfErr};
 ghost use Rattle.keyspace.specs.declared.reply.Verdict.TheVariants.{Committed};
 ghost use Rattle.keyspace.specs.Judge.{without_places};
-ghost use Rattle.keyspace.specs.Found.{kept};
+ghost use Rattle.keyspace.specs.Found.{kept_reply};
 ghost use Rattle.keyspace.specs.Run.{run};
 ghost use Rattle.chain.specs.Replies.{reply_of};
 ghost use Rattle.resolver.specs.OpeningLog.{opening_log};
@@ -19,7 +19,7 @@ use std::alloc::{AllocError, Global};
 pub(super) fn replies_at(alloc: Global, proxies: usize, version: i64) -> Result<Replies, Stop>
     requires least_version { negsuc 0 ≤ℤ version }
     ensures kept { IfOk result (λ replies. (window : ℤ) (p : ℕ) (v : ℤ) → reply_of replies p v
-        ≡ kept (run window (opening_log proxies version)).processed p v) }
+        ≡ kept_reply (run window (opening_log proxies version)).processed p v) }
     ensures memory { IfErr result (λ stop. stop ≡ Stop.Memory) }
 {
     let mut replies = Replies::new(alloc);

@@ -1,10 +1,10 @@
 use Rattle.std.proofs.Common.{◌≡◌, ◌++◌, refl, sym, ◌∙◌, inr, subst}
 use Rattle.keyspace.specs.declared.reply.Reply.{Reply}
-use Rattle.keyspace.specs.Writes.{committed, writes_of}
+use Rattle.keyspace.specs.Writes.{committed_ranges, writes_of}
 use Rattle.keyspace.specs.Judged.{edge}
 use Rattle.keyspace.proofs.callers.Judging.{only_judge}
 use Rattle.conflict.specs.declared.error.SetStop.TheVariants.{Memory, ArenaFull}
-use Rattle.conflict.specs.ConflictSet.{raised, stop_after, HasRoomToWrite}
+use Rattle.conflict.specs.ConflictSet.{with_edge, stop_after, HasRoomToWrite}
 use Rattle.archcaraway_c.proofs.ReplyLength.{reply_within}
 use Rattle.archcaraway_c.proofs.WhenFull.{met_after}
 use Rattle.archcaraway_c.proofs.set_object.reply_to.Goals as goal
@@ -99,6 +99,6 @@ returns-clause-stops c =
           let same : c.in-Ok.reply ≡ reply =
           only_judge old.window ws batch c.in-Ok.reply (c.in-Ok.ensures.resolves.map.judged ws before.covers)
           ∙ sym (only_judge old.window ws batch reply judged) in
-          inr (subst (λ (r : Reply). HasRoomToWrite (raised (edge old.window batch) old.map) (committed batch.txns r.entries))
+          inr (subst (λ (r : Reply). HasRoomToWrite (with_edge (edge old.window batch) old.map) (committed_ranges batch.txns r.entries))
           same c.in-Ok.ensures.resolves.map.room);
     }

@@ -7,7 +7,7 @@ use Rattle.std.proofs.lemmas.Bool.{cases_lt}
 use Rattle.std.proofs.lemmas.Int.{to_z-of_z}
 use Rattle.keys.proofs.callers.Booleans.{not_both_ways}
 use Rattle.keyspace.specs.storage.BatchRanges.{ranges_in}
-use Rattle.keyspace.specs.Writes.{Write, at_version, committed, writes_of}
+use Rattle.keyspace.specs.Writes.{Write, at_version, committed_ranges, writes_of}
 use Rattle.keyspace.specs.Judge.{judge_txns}
 use Rattle.keyspace.specs.Judged.{edge}
 use Rattle.stepmap.specs.StepMap.{Steps, lengths}
@@ -15,12 +15,12 @@ use Rattle.stepmap.specs.Covers.{MapCovers}
 use Rattle.stepmap.specs.Rooted.{Ends, Rooted}
 use Rattle.stepmap.specs.Counting.{live_count}
 use Rattle.stepmap.specs.Laws.{IsWriting}
-use Rattle.stepmap.specs.Limit.{HasRoomFor, made_room, prepared}
+use Rattle.stepmap.specs.Limit.{HasRoomFor, made_room, after_prepare}
 use Rattle.stepmap.specs.Sweeping.{rest, after_sweep}
 use Rattle.stepmap.specs.declared.error.StepError.TheVariants as step
 use Rattle.limits.specs.declared.settings.TheConstants.{MAX_LIMIT}
 use Rattle.conflict.specs.declared.when_full.WhenFull.TheVariants.{Refuse}
-use Rattle.conflict.specs.ConflictSet.{IsSwept, raised, HasRoomToWrite}
+use Rattle.conflict.specs.ConflictSet.{IsSwept, with_edge, HasRoomToWrite}
 use Rattle.conflict.specs.InBatch.{in_batches}
 use Rattle.conflict.specs.Pace.{after_writes, with_written, IsPaced}
 use Rattle.conflict.specs.Union.{IsUnion}
@@ -122,12 +122,12 @@ late c = edge_below c.args.window c.args.batch.now c.requires.least_window
 
 -- the spans are those of ranges that unite what is committed
 union : (c : After-spans-spans) → IsUnion (ranges_in c.args.batch.now.txns) c.spans-spans.result.now
-    c.gather.new.self.lengths.items (committed c.args.batch.now.txns c.judge_in_batch.new.entries)
+    c.gather.new.self.lengths.items (committed_ranges c.args.batch.now.txns c.judge_in_batch.new.entries)
 union c =
     let txns = c.args.batch.now.txns in
-    subst (λ spans. IsUnion (ranges_in txns) spans c.gather.new.self.lengths.items (committed txns c.judge_in_batch.new.entries))
+    subst (λ spans. IsUnion (ranges_in txns) spans c.gather.new.self.lengths.items (committed_ranges txns c.judge_in_batch.new.entries))
     (sym c.spans-spans.ensures.spans)
-    (subst (λ es. IsUnion (ranges_in txns) c.gather.new.self.union c.gather.new.self.lengths.items (committed txns es)) (items c)
+    (subst (λ es. IsUnion (ranges_in txns) c.gather.new.self.union c.gather.new.self.lengths.items (committed_ranges txns es)) (items c)
     c.in_ok-gather.ensures.union)
 
 pub gather-requires : goal.gather-requires
@@ -165,7 +165,7 @@ returns-then-not-can_make_room-clause-fails c =
     refuses c.args.window c.args.batch.now c.args.steps.now c.judge_in_batch.new.entries (judged here) c.one_reply.ensures.only
     c.counts.ensures.along (late here) c.spans-spans.result.now c.gather.new.self.lengths.items (union here) c.args.when_full
     (λ room. not_both_ways c.can_make_room.result (c.can_make_room.ensures.room.1
-    (subst (λ e. HasRoomFor n (made_room n (raised e c.args.steps.now))) (sym is) room)) none)
+    (subst (λ e. HasRoomFor n (made_room n (with_edge e c.args.steps.now))) (sym is) room)) none)
     (λ ws rooted. subst (λ e. c.args.steps.now.limit < 1 + 2 * (live_count e ws + n)) is
     (c.can_make_room.ensures.bound (λ some. not_both_ways c.can_make_room.result some none) ws rooted))
 
@@ -180,24 +180,24 @@ returns-in_err-prepare-clause-fails c =
     let n = length spans in
     let e = edge c.args.window b in
     let is = edge_is here in
-    let up : c.raise.new.self ≡ raised e steps = c.raise.ensures.map ∙ ap (λ e. raised e steps) is in
+    let up : c.raise.new.self ≡ with_edge e steps = c.raise.ensures.map ∙ ap (λ e. with_edge e steps) is in
     let many : length c.lengths.result.now ≡ n =
     ap length c.lengths.ensures.lengths
-    ∙ each_count (ranges_in b.txns) spans each (committed b.txns entries) (union here) in
+    ∙ each_count (ranges_in b.txns) spans each (committed_ranges b.txns entries) (union here) in
     let error = c.in_err-prepare.field-0.0 in
-    let none : error ≡ step.Full → ¬ HasRoomFor n (made_room n (raised e steps)) = λ same.
+    let none : error ≡ step.Full → ¬ HasRoomFor n (made_room n (with_edge e steps)) = λ same.
     subst (λ (m : Steps). ¬ HasRoomFor n (made_room n m)) up
     (subst (λ n. ¬ HasRoomFor n (made_room n c.raise.new.self)) many (c.in_err-prepare.ensures.full.0 (ap Err same))) in
-    let full : ¬ HasRoomFor n (made_room n (raised e steps)) → error ≡ step.Full = λ none.
+    let full : ¬ HasRoomFor n (made_room n (with_edge e steps)) → error ≡ step.Full = λ none.
     let is_full = c.in_err-prepare.ensures.full.1 (subst (λ n. ¬ HasRoomFor n (made_room n c.raise.new.self)) (sym many)
     (subst (λ (m : Steps). ¬ HasRoomFor n (made_room n m)) (sym up) none)) in
     cc in
-    let fits : c.args.when_full ≡ Refuse → HasRoomFor n (made_room n (raised e steps)) = λ refuse.
+    let fits : c.args.when_full ≡ Refuse → HasRoomFor n (made_room n (with_edge e steps)) = λ refuse.
     let equal : sameb the_type c.args.when_full Refuse ≡ true =
     subst (λ (w : WhenFull). sameb the_type w Refuse ≡ true) (sym refuse) refl in
     elim c.else-eq.branch [
       | else-eq-via-then-eq+else-not-can_make_room w ↦
-          subst (λ e. HasRoomFor n (made_room n (raised e steps))) is (w.can_make_room.ensures.room.0 w.if-not-can_make_room.false)
+          subst (λ e. HasRoomFor n (made_room n (with_edge e steps))) is (w.can_make_room.ensures.room.0 w.if-not-can_make_room.false)
       | else-eq-via-else-eq w ↦ absurd (not_both_ways c.eq.result (c.eq.ensures ∙ equal) w.if-eq.false)
     ] in
     if_err _ _ c.from_residual-in_err-prepare.result c.from_residual-in_err-prepare.ensures.1
@@ -219,7 +219,7 @@ pub write_spans-requires-clause-apart : goal.write_spans-requires-clause-apart
 write_spans-requires-clause-apart c =
     let b = c.args.batch.now in
     apart (ranges_in b.txns) c.spans-spans.result.now c.gather.new.self.lengths.items
-    (committed b.txns c.judge_in_batch.new.entries) (union (goal.at.write_spans-requires-clause-apart c).After-spans-spans)
+    (committed_ranges b.txns c.judge_in_batch.new.entries) (union (goal.at.write_spans-requires-clause-apart c).After-spans-spans)
 
 -- what a write of the first range requires, for all ranges that the spans name
 pub write_spans-requires-clause-start : goal.write_spans-requires-clause-start
@@ -228,10 +228,10 @@ write_spans-requires-clause-start c = λ united spanned.
     let here = (goal.at.write_spans-requires-clause-start c).After-spans-spans in
     let spans = c.spans-spans.result.now in
     let each = c.gather.new.self.lengths.items in
-    let all = committed b.txns c.judge_in_batch.new.entries in
+    let all = committed_ranges b.txns c.judge_in_batch.new.entries in
     let fits : SFits w64 b.version = search rules in
     let turn = c.writing.ensures.in_turn united b.version (apart (ranges_in b.txns) spans each all (union here) united spanned) in
-    let up = c.raise.ensures.map ∙ ap (λ e. raised e c.args.steps.now) (edge_is here) in
+    let up = c.raise.ensures.map ∙ ap (λ e. with_edge e c.args.steps.now) (edge_is here) in
     let ready = ap (λ (m : Steps). m.ready) c.in_ok-prepare.ensures.ok ∙ c.lengths.ensures.lengths
     ∙ ready_same (ranges_in b.txns) spans each all (union here) united spanned in
     let edge_now = c.in_ok-prepare.ensures.edge ∙ ap (λ (m : Steps). m.edge) up in
@@ -243,7 +243,7 @@ write_spans-requires-clause-start c = λ united spanned.
 
 -- the united ranges are written at the batch's version
 module _ (c : After-write_spans) (one : IsUnion (ranges_in c.args.batch.now.txns) c.spans-spans.result.now
-    c.gather.new.self.lengths.items (committed c.args.batch.now.txns c.judge_in_batch.new.entries)) where
+    c.gather.new.self.lengths.items (committed_ranges c.args.batch.now.txns c.judge_in_batch.new.entries)) where
   exact : c.write_spans.new.steps ≡ after_writes one.united c.args.batch.now.version c.prepare.new.self
   exact =
       let version = c.args.batch.now.version in
@@ -252,7 +252,7 @@ module _ (c : After-write_spans) (one : IsUnion (ranges_in c.args.batch.now.txns
       (rw c.note_keys.ensures.same at c.write_spans.ensures.written one.united one.spanned)
 
   wrote : edge c.args.window c.args.batch.now ≤ℤ c.args.batch.now.version
-      → c.raise.new.self ≡ raised (edge c.args.window c.args.batch.now) c.args.steps.now
+      → c.raise.new.self ≡ with_edge (edge c.args.window c.args.batch.now) c.args.steps.now
       → IsWriting one.united c.args.batch.now.version (length one.united) c.prepare.new.self c.write_spans.new.steps
   wrote late up =
       let b = c.args.batch.now in
@@ -273,7 +273,7 @@ module _ (c : After-write_spans) (one : IsUnion (ranges_in c.args.batch.now.txns
       let prepare = c.in_ok-prepare.ensures in
       let ready = ap (λ (m : Steps). length m.ready) prepare.ok ∙ ap length c.lengths.ensures.lengths
       ∙ each_count (ranges_in b.txns) c.spans-spans.result.now c.gather.new.self.lengths.items
-      (committed b.txns c.judge_in_batch.new.entries) one in
+      (committed_ranges b.txns c.judge_in_batch.new.entries) one in
       omega (arith, prepare.steps.within, prepare.steps.limit, ready)
 
 pub overflow_mul-spans : goal.overflow_mul-spans
@@ -311,29 +311,29 @@ returns-clause-detects c =
     let fits : SFits w64 b.version = search rules in
     let one = union here in
     let is = edge_is here in
-    let same_count : length one.united ≡ n = count (ranges_in txns) spans c.gather.new.self.lengths.items (committed txns entries) one in
-    let up : c.raise.new.self ≡ raised e old = c.raise.ensures.map ∙ ap (λ e. raised e old) is in
+    let same_count : length one.united ≡ n = count (ranges_in txns) spans c.gather.new.self.lengths.items (committed_ranges txns entries) one in
+    let up : c.raise.new.self ≡ with_edge e old = c.raise.ensures.map ∙ ap (λ e. with_edge e old) is in
     let prepare = c.in_ok-prepare.ensures in
     let many : length c.lengths.result.now ≡ n =
     ap length c.lengths.ensures.lengths
-    ∙ each_count (ranges_in txns) spans c.gather.new.self.lengths.items (committed txns entries) one in
+    ∙ each_count (ranges_in txns) spans c.gather.new.self.lengths.items (committed_ranges txns entries) one in
     let as_entries : reply.entries ≡ entries =
     c.new-2.ensures.entries ∙ c.new.ensures.items ∙ sym c.deref.ensures.value ∙ items here in
     let version : reply.version ≡ b.version = c.new-2.ensures.version ∙ to_z-of_z w64 b.version fits in
     let in_sequence = wrote at.After-write_spans one (late here) up in
-    let written = (c.writing.ensures.in_turn one.united b.version one.unites.apart).entire (committed txns entries) c.prepare.new.self
+    let written = (c.writing.ensures.in_turn one.united b.version one.unites.apart).entire (committed_ranges txns entries) c.prepare.new.self
     mid in_sequence one.unites in
-    let exactly : mid ≡ with_written one.united b.version (raised e old) =
+    let exactly : mid ≡ with_written one.united b.version (with_edge e old) =
     exact at.After-write_spans one
-    ∙ ap (after_writes one.united b.version) (prepare.ok ∙ ap (λ ls. prepared ls c.raise.new.self) (c.lengths.ensures.lengths ∙ one.ready)
-    ∙ ap (prepared (map lengths one.united)) up) in
+    ∙ ap (after_writes one.united b.version) (prepare.ok ∙ ap (λ ls. after_prepare ls c.raise.new.self) (c.lengths.ensures.lengths ∙ one.ready)
+    ∙ ap (after_prepare (map lengths one.united)) up) in
     let mid_edge : mid.edge ≡ e = in_sequence.edge ∙ prepare.edge ∙ ap (λ (m : Steps). m.edge) up in
     let swept_to : (ws : List Write) → Rooted old ws
-    → Ends mid.boundaries (ws ++ at_version b.version (committed txns entries)) e
+    → Ends mid.boundaries (ws ++ at_version b.version (committed_ranges txns entries)) e
     ⊎ ((mid.round ≡ old.round) × (rest mid ≤ rest old + 2 * n)) = λ ws rooted.
     let raised_edge : c.raise.new.self.edge ≤ℤ b.version =
     subst (λ (m : Steps). m.edge ≤ℤ b.version) (sym up) (late here) in
-    let swept : Ends mid.boundaries (ws ++ at_version b.version (committed txns entries)) c.raise.new.self.edge
+    let swept : Ends mid.boundaries (ws ++ at_version b.version (committed_ranges txns entries)) c.raise.new.self.edge
     ⊎ ((mid.round ≡ c.raise.new.self.round) × (rest mid ≤ rest c.raise.new.self + 2 * n)) =
     elim (cases_lt c.raise.new.self.limit (length c.raise.new.self.boundaries + 2 * length c.lengths.result.now)) [
       | inl full ↦ inl (written.ends ws c.raise.new.self.edge raised_edge
@@ -345,9 +345,9 @@ returns-clause-detects c =
             omega (arith, in_sequence.left, ap rest same, same_count),
           )
     ] in
-    since_raised old c.raise.new.self mid e (ws ++ at_version b.version (committed txns entries)) n (ap (λ (m : Steps). m.edge) up)
+    since_raised old c.raise.new.self mid e (ws ++ at_version b.version (committed_ranges txns entries)) n (ap (λ (m : Steps). m.edge) up)
     (ap (λ (m : Steps). m.round) up) (ap rest up) swept in
-    let room : HasRoomFor n (made_room n (raised e old)) =
+    let room : HasRoomFor n (made_room n (with_edge e old)) =
     subst (λ (m : Steps). HasRoomFor n (made_room n m)) up
     (subst (λ n. HasRoomFor n (made_room n c.raise.new.self)) many
     (room_unless (length c.lengths.result.now) (made_room (length c.lengths.result.now) c.raise.new.self) prepare.full.1 (λ same. absurd (cc)))) in
@@ -355,26 +355,26 @@ returns-clause-detects c =
       judged = right c.args.window b old entries (judged here) c.one_reply.ensures.right reply version as_entries;
       covers = λ ws covers.
           c.sweep.ensures.covers (ws ++ writes_of b reply)
-          (subst (λ es. MapCovers mid (ws ++ at_version b.version (committed txns es))) (sym as_entries)
+          (subst (λ es. MapCovers mid (ws ++ at_version b.version (committed_ranges txns es))) (sym as_entries)
           (written.covers ws (prepare.covers ws (c.raise.ensures.covers ws covers))));
       rooted = λ ws rooted.
           c.sweep.ensures.rooted (ws ++ writes_of b reply)
-          (subst (λ es. Rooted mid (ws ++ at_version b.version (committed txns es))) (sym as_entries)
+          (subst (λ es. Rooted mid (ws ++ at_version b.version (committed_ranges txns es))) (sym as_entries)
           (written.rooted ws (prepare.rooted ws (c.raise.ensures.rooted ws rooted))));
       swept = λ ws rooted.
-          let all = ws ++ at_version b.version (committed txns entries) in
+          let all = ws ++ at_version b.version (committed_ranges txns entries) in
           let rooted_mid = written.rooted ws (prepare.rooted ws (c.raise.ensures.rooted ws rooted)) in
-          subst (λ es. IsSwept e old now (ws ++ at_version b.version (committed txns es)) (committed txns es)) (sym as_entries)
-          (swept_on e old mid now all (committed txns entries) n (one.united, one.unites, same_count) mid_edge (swept_to ws rooted)
+          subst (λ es. IsSwept e old now (ws ++ at_version b.version (committed_ranges txns es)) (committed_ranges txns es)) (sym as_entries)
+          (swept_on e old mid now all (committed_ranges txns entries) n (one.united, one.unites, same_count) mid_edge (swept_to ws rooted)
           (c.sweep.ensures.ends_stay all e) c.sweep.result
           (λ round. c.sweep.ensures.ends round all rooted_mid) c.sweep.ensures.front c.sweep.ensures.fewer);
-      paced = subst (λ es. IsPaced e b.version old now (committed txns es)) (sym as_entries) (
+      paced = subst (λ es. IsPaced e b.version old now (committed_ranges txns es)) (sym as_entries) (
         one.united,
         one.unites,
         c.sweep.ensures.map ∙ ap (λ n. after_sweep (3 * n + 10) mid) (sym same_count)
             ∙ ap (after_sweep (3 * length one.united + 10)) exactly,
       );
-      room = subst (λ es. HasRoomToWrite (raised e old) (committed txns es)) (sym as_entries)
+      room = subst (λ es. HasRoomToWrite (with_edge e old) (committed_ranges txns es)) (sym as_entries)
           (has_room c.args.window b old entries (judged here) c.one_reply.ensures.only c.counts.ensures.along (late here) spans
           c.gather.new.self.lengths.items one room);
       newest = c.sweep.ensures.newest b.version in_sequence.newest;

@@ -8,7 +8,7 @@ use Rattle.keyspace.specs.declared.reply.Entry.{Entry}
 use Rattle.keyspace.specs.declared.reply.Verdict.{Verdict}
 use Rattle.keyspace.specs.declared.reply.Verdict.TheVariants.{Conflict, TooOld, Committed}
 use Rattle.keyspace.specs.declared.txn.Txn.{Txn}
-use Rattle.keyspace.specs.Writes.{counted}
+use Rattle.keyspace.specs.Writes.{counted_ranges}
 use Rattle.keys.proofs.callers.Lists.{some_at}
 use Rattle.explanations.specs.Written.{written_from}
 use Rattle.explanations.specs.Explains.{explains}
@@ -19,12 +19,12 @@ use Rattle.explanations.proofs.write_search.search_batch.Goals as goal
 use denote.Enum.Bare.{sameb}
 
 -- what the comparison says
-counted_if : (verdict : Verdict) (t : Txn) → sameb the_type verdict Committed ≡ true → t.writes ≡ counted verdict t.writes
+counted_if : (verdict : Verdict) (t : Txn) → sameb the_type verdict Committed ≡ true → t.writes ≡ counted_ranges verdict t.writes
 counted_if Committed t h = refl
 counted_if TooOld t h = cc
 counted_if Conflict t h = cc
 
-not_counted_unless : (verdict : Verdict) (t : Txn) → sameb the_type verdict Committed ≡ false → [] ≡ counted verdict t.writes
+not_counted_unless : (verdict : Verdict) (t : Txn) → sameb the_type verdict Committed ≡ false → [] ≡ counted_ranges verdict t.writes
 not_counted_unless Committed t h = cc
 not_counted_unless TooOld t h = refl
 not_counted_unless Conflict t h = refl

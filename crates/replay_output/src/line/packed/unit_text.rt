@@ -4,7 +4,7 @@ ghost use Rattle.std.specs.Prelude.{◌≡◌, ◌+◌, ◌<◌, ◌≤◌, ◌+
 ghost use Rattle.std.specs.Io.KnownBytes.{Appends};
 ghost use Rattle.std.specs.List.{All};
 ghost use Rattle.arrayvec.specs.ArrayVec.{array_vec_len};
-ghost use Rattle.replay_output.specs.Packed.{IsUnit, spelled, spelled_all};
+ghost use Rattle.replay_output.specs.Packed.{IsUnit, text_of_unit, text_of_units};
 
 use super::word::{FIRST_WORD, LONGEST_WORD, MOST_IN_A_ROW, Word, times};
 use arrayvec::ArrayVec;
@@ -23,9 +23,9 @@ const ROOM: usize = RUN * UNIT_ROOM;
 pub fn print_units<W: Sink>(out: &mut W, units: &[u8]) -> Result<(), Failed>
     requires units { All IsUnit units.now }
     ensures entire { OnOk result (Appends (W.given out.old) (W.given out.new)
-        (spelled_all units.now)) }
+        (text_of_units units.now)) }
     ensures prefix { OnErr result (IfSome (W.given out.new) (λ _.
-        (n : ℕ) × Appends (W.given out.old) (W.given out.new) (take n (spelled_all units.now)))) }
+        (n : ℕ) × Appends (W.given out.old) (W.given out.new) (take n (text_of_units units.now)))) }
     ensures ok { OnOk result (W.failures out.new ≡ W.failures out.old) }
     ensures failed { OnErr result (W.failures out.old < W.failures out.new) }
 {
@@ -44,7 +44,7 @@ pub fn print_units<W: Sink>(out: &mut W, units: &[u8]) -> Result<(), Failed>
 fn spell(text: &mut ArrayVec<u8, ROOM>, units: &[u8])
     requires units { All IsUnit units.now }
     requires run { length units.now ≤ RUN }
-    ensures text { text.new.items ≡ spelled_all units.now }
+    ensures text { text.new.items ≡ text_of_units units.now }
 {
     text.clear();
     for unit in units {
@@ -55,7 +55,7 @@ fn spell(text: &mut ArrayVec<u8, ROOM>, units: &[u8])
 fn push_unit(text: &mut ArrayVec<u8, ROOM>, unit: u8)
     requires unit { IsUnit unit }
     requires room { array_vec_len text.old + UNIT_ROOM ≤ ROOM }
-    ensures text { text.new.items ≡ text.old.items ++ spelled unit }
+    ensures text { text.new.items ≡ text.old.items ++ text_of_unit unit }
     ensures length { array_vec_len text.new ≤ array_vec_len text.old + UNIT_ROOM }
 {
     if unit < FIRST_WORD {

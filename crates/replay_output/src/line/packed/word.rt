@@ -1,7 +1,8 @@
 //! The words that recur in lines, and the units that represent them.
 
 ghost use Rattle.std.specs.Prelude.{◌≡◌, ◌<◌, ◌≤◌, ◌++◌, length, IfSome, IsSome};
-ghost use Rattle.replay_output.specs.Packed.{IsUnit, numbered, spelled, times_of, word_of};
+ghost use Rattle.replay_output.specs.Packed.{IsUnit, word_of_number, text_of_unit, times_of};
+ghost use Rattle.replay_output.specs.Packed.{word_of};
 ghost use Rattle.replay_output.specs.Packed.{word_text};
 
 /// The first unit that represents a word. Those below it are letters.
@@ -53,7 +54,7 @@ impl Word {
     }
 
     fn number(self) -> u8
-        ensures word { numbered result ≡ self }
+        ensures word { word_of_number result ≡ self }
         ensures below { result < WORDS }
     {
         match self {
@@ -70,7 +71,7 @@ impl Word {
     /// Returns the unit that represents the word once.
     pub fn unit(self) -> u8
         ensures unit { IsUnit result }
-        ensures spelled { spelled result ≡ word_text self }
+        ensures spelled { text_of_unit result ≡ word_text self }
     {
         FIRST_WORD + self.number()
     }
@@ -80,7 +81,8 @@ impl Word {
     /// unit can.
     pub fn after(self, unit: u8) -> Option<u8>
         ensures unit { IfSome result IsUnit }
-        ensures spelled { IfSome result (λ more. spelled more ≡ spelled unit ++ word_text self) }
+        ensures spelled { IfSome result (λ more. text_of_unit more
+            ≡ text_of_unit unit ++ word_text self) }
         ensures some { FIRST_WORD ≤ unit → word_of unit ≡ self → times_of unit < MOST_IN_A_ROW
             → IsSome result }
     {

@@ -13,7 +13,7 @@ use Rattle.replay_output.specs.declared.options.Options.{Options}
 use Rattle.replay_shards.specs.declared.clips.Clips.{Clips}
 use Rattle.replay_sharded.specs.declared.runs.StartedShards.{StartedShards}
 use Rattle.replay_sharded.specs.Files.{AreFresh}
-use Rattle.replay_sharded.specs.Runs.{given_to, keeping}
+use Rattle.replay_sharded.specs.Runs.{given_to, keeping_options}
 use Rattle.replay_sharded.proofs.Works.{IsDone, given_by, proxies_each, runs_of}
 use Rattle.replay_sharded.proofs.runs.run_shards.Goals as goal
 
@@ -38,7 +38,7 @@ start-requires-clause-fresh g c κs within =
 pub loop-clips-preserved : goal.loop-clips-preserved
 loop-clips-preserved g c =
     let Fits : Vec (Clips g.row.S.Denot) Global → Type 0 = λ clips. (1 ≤ vec_len clips) × (vec_len clips ≤ MAX_PROXIES) in
-    let options = keeping c.args.options in
+    let options = keeping_options c.args.options in
     let before = c.loop-clips.invariant in
     let clips = c.in-Some.clips in
     let rest = into_iter_items c.next.new.self in
@@ -67,7 +67,7 @@ loop-clips-preserved g c =
 pub returns-clause-runs : goal.returns-clause-runs
 returns-clause-runs g c =
     let remaining = g.S.Source.remaining in
-    let options = keeping c.args.options in
+    let options = keeping_options c.args.options in
     let given = map given_to c.loop-clips.started.items in
     let none : into_iter_items c.loop-clips.clips-iterator ≡ [] = first_of (search rules, grind (arith, common_steps)) in
     let entire =
@@ -83,7 +83,7 @@ returns-clause-runs g c =
 pub returns-clause-proxies : goal.returns-clause-proxies
 returns-clause-proxies g c =
     let remaining = g.S.Source.remaining in
-    let options = keeping c.args.options in
+    let options = keeping_options c.args.options in
     let given = map given_to c.loop-clips.started.items in
     let none : into_iter_items c.loop-clips.clips-iterator ≡ [] = first_of (search rules, grind (arith, common_steps)) in
     let entire =

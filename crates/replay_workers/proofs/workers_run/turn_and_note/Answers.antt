@@ -1,6 +1,6 @@
 use Rattle.std.proofs.Common.{◌≡◌, ℕ, ap, length, subst, sym, ◌∙◌, refl, arith}
 use Rattle.replay_summary.specs.declared.occupancy.Occupancy.{Occupancy}
-use Rattle.replay_summary.specs.Occupancy.{noted}
+use Rattle.replay_summary.specs.Occupancy.{occupancy_after}
 use Rattle.replay_workers.proofs.Occupying.{measured_turn, stopped_if, unstopped_if}
 use Rattle.replay_workers.proofs.workers_run.turn_and_note.Goals as goal
 
@@ -28,8 +28,8 @@ returns-clause-measured g c =
     measured_turn c.args.resolver.now now c.turn_observed-turn.result turned.turns (g.O.Observer.has_seen c.args.observer.now)
     (g.O.Observer.has_seen c.turn_observed-turn.new.observer) turned.sees_taken turned.sees_finish turned.sees_nothing before after
     (λ none. (
-      subst (λ (n : ℕ). after ≡ noted n (length now.core.set.map.boundaries) before) c.held.ensures.count
-          (subst (λ (n : ℕ). after ≡ noted c.held.result n before) c.boundaries.ensures.count c.note.ensures.noted),
+      subst (λ (n : ℕ). after ≡ occupancy_after n (length now.core.set.map.boundaries) before) c.held.ensures.count
+          (subst (λ (n : ℕ). after ≡ occupancy_after c.held.result n before) c.boundaries.ensures.count c.note.ensures.noted),
       omega (arith, c.boundaries.ensures.count, c.boundaries.ensures.within),
       c.boundaries.ensures.steps,
       c.boundaries.ensures.window,

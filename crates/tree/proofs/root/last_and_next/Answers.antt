@@ -1,7 +1,7 @@
 use Rattle.std.proofs.Common.{◌<◌, rules, ◌≡◌, ◌∙◌, length, filter, take, drop, map, ◌++◌, None, sym, ap, refl, arith}
 use Rattle.std.specs.Prelude.{not}
 use Rattle.std.proofs.Math.Seq.{drop-append_seam, take-append_seam}
-use Rattle.tree.proofs.Words.{Item, following, after_leaf, first_key, item_of, items_in}
+use Rattle.tree.proofs.Words.{Item, items_not_below, after_leaf, first_key, item_of, items_in}
 use Rattle.tree.specs.declared.entry.NodeEntry.{NodeEntry}
 use Rattle.tree.specs.Node.{entries_of}
 use Rattle.tree.specs.Subtree.{entries_at}
@@ -38,8 +38,8 @@ returns g c =
     let rest : drop (length (filter p es)) es ≡ filter (λ e. not (p e)) es =
     ap (drop (length (filter p es))) found.partitioned ∙ drop-append_seam (filter p es) (filter (λ e. not (p e)) es) in
     let later = after_leaf nodes c.args.root.height c.args.root.slot is_below in
-    let after_is : following is_below (items_in nodes c.args.root.height c.args.root.slot) ≡ map item_of (drop (length (filter p es)) es) ++ later =
-    ap (following is_below) found.items_are ∙ following-parts is_below _ (map item_of es) later found.before found.after
+    let after_is : items_not_below is_below (items_in nodes c.args.root.height c.args.root.slot) ≡ map item_of (drop (length (filter p es)) es) ++ later =
+    ap (items_not_below is_below) found.items_are ∙ following-parts is_below _ (map item_of es) later found.before found.after
     ∙ ap (λ xs. xs ++ later) (filter-items (λ (x : Item). not (is_below x.key)) es ∙ ap (map item_of) (sym rest)) in
     record {
       next = rw (c.lower_bound-count.ensures.count.count_is, c.entries-entries.ensures.entries, ← read, found.next) at c.key_at.ensures.key

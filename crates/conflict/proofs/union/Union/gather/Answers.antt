@@ -7,7 +7,7 @@ use Rattle.keys.specs.declared.range.Range.{Range}
 use Rattle.keys.proofs.callers.GapRuns.{chosen_filled, empty_if}
 use Rattle.conflict.specs.Union.{AreUnited}
 use Rattle.conflict.proofs.UnionAdded.{united_none}
-use Rattle.conflict.proofs.UnionOrder.{listed, listed_before, marked_next, unmarked_next, unites_picked}
+use Rattle.conflict.proofs.UnionOrder.{listed_ranges, listed_before, marked_next, unmarked_next, unites_picked}
 use Rattle.conflict.proofs.union.Union.gather.Goals.{then-written-index+in_ok-add, else-written-index}
 use Rattle.conflict.proofs.union.Union.gather.Goals as goal
 
@@ -65,10 +65,10 @@ loop-index-preserved g c =
     let are = c.requires.in_order in
     let filled = chosen_filled are.chosen ranges order are.in_order i 0 inside in
     let range = filled.0 in
-    let next = listed marks ranges (take (i + 1) order) in
+    let next = listed_ranges marks ranges (take (i + 1) order) in
     elim c.if-written-index.branch [
       | then-written-index+in_ok-add w ↦
-          let more = w.in_ok-add.ensures.added range (listed marks ranges (take i order)) filled.1
+          let more = w.in_ok-add.ensures.added range (listed_ranges marks ranges (take i order)) filled.1
           (not_empty range filled.2)
           (listed_before marks ranges order i index range are.in_order.in_order inside is filled.1)
           c.loop-index.invariant in
@@ -88,7 +88,7 @@ returns g c =
     let ranges = g.L.RangeList.ranges c.args.ranges.now in
     let order = c.args.order.now in
     let all = take_all c.loop-index.index-index order c.loop-index-test.false in
-    let are = subst (λ is. AreUnited ranges c.loop-index.self (listed c.args.written.now ranges is)) all
+    let are = subst (λ is. AreUnited ranges c.loop-index.self (listed_ranges c.args.written.now ranges is)) all
     c.loop-index.invariant in
     record {
       united = (

@@ -4,9 +4,9 @@ use Rattle.keys.specs.GapRuns.{AreChosenInOrder}
 use Rattle.keys.specs.Singles.{AreRankedFor}
 use Rattle.keys.specs.declared.range.Range.{Range}
 use Rattle.keyspace.specs.storage.BatchRanges.{is_write_in, writes_in}
-use Rattle.keyspace.specs.Writes.{committed}
+use Rattle.keyspace.specs.Writes.{committed_ranges}
 use Rattle.stepmap.specs.Uniting.{Unites}
-use Rattle.conflict.specs.Union.{AreSpanned, picked}
+use Rattle.conflict.specs.Union.{AreSpanned, marked_ranges}
 use Rattle.conflict.proofs.writes.UnitedWrites.gather.Goals.{After-spans}
 use Rattle.conflict.proofs.writes.UnitedWrites.gather.Goals as goal
 
@@ -31,13 +31,13 @@ gather-requires-clause-in_order c =
 
 -- the spans are those of ranges that unite what the batch commits
 union : (c : After-spans) → (united : List Range) × AreSpanned c.ranges-ranges.result c.spans.result.now united
-    × Unites united (committed c.args.batch.now.txns c.args.entries.now)
+    × Unites united (committed_ranges c.args.batch.now.txns c.args.entries.now)
 union c =
     let txns = c.args.batch.now.txns in
     let united = c.in_ok-gather.ensures.united in
-    let picks : picked c.deref.result.now c.ranges-ranges.result ≡ committed txns c.args.entries.now =
-    ap (λ marks. picked marks c.ranges-ranges.result) c.deref.ensures.value
-    ∙ ap (picked c.mark_written.new.written.items) c.ranges-ranges.ensures.ranges
+    let picks : marked_ranges c.deref.result.now c.ranges-ranges.result ≡ committed_ranges txns c.args.entries.now =
+    ap (λ marks. marked_ranges marks c.ranges-ranges.result) c.deref.ensures.value
+    ∙ ap (marked_ranges c.mark_written.new.written.items) c.ranges-ranges.ensures.ranges
     ∙ c.in_ok-mark_written.ensures.written in (
       united.0,
       subst (λ spans. AreSpanned c.ranges-ranges.result spans united.0) (sym c.spans.ensures.spans) united.1,

@@ -3,7 +3,7 @@ use Rattle.std.proofs.lemmas.List.{length-map}
 use Rattle.keys.specs.Hash.{AreHashesOf}
 use Rattle.keys.specs.Range.{IsSingle}
 use Rattle.keys.specs.GapRuns.{AreChosenInOrder, AreRanked, GapRunsView}
-use Rattle.keys.specs.Singles.{is_marked, picked, AreRankedFor, HaveInOrder}
+use Rattle.keys.specs.Singles.{is_marked, marked_ranges, AreRankedFor, HaveInOrder}
 use Rattle.keys.specs.declared.range.Range.{Range}
 use Rattle.keys.proofs.callers.GapRuns.{among_within}
 use Rattle.keyspace.specs.storage.BatchRanges.{is_write_in, ranges_in, writes_in}
@@ -68,7 +68,7 @@ module _ (buffer : List ℕ) (spans : List Span) (rows : List Row) (tables : Are
   txns = txns_with (txns_of_tables buffer spans rows) holds
 
   kept : (ranges : List Range) (written : List Bool) (ranks : GapRunsView) (order writes : List ℕ) (hashes : List (Option ℕ))
-      → ranges ≡ ranges_in txns → written ≡ marks_of_rows rows → AreRankedFor (picked written ranges) ranges ranks
+      → ranges ≡ ranges_in txns → written ≡ marks_of_rows rows → AreRankedFor (marked_ranges written ranges) ranges ranks
       → AreRanked ranges ranks ⊎ All IsSingle ranges → HaveInOrder (is_marked written) ranges order
       → writes ≡ filter (is_marked written) order → AreHashesOf ranges hashes
       → AreRankedFor (writes_in txns) (ranges_in txns) ranks
@@ -93,7 +93,7 @@ invariant_of-result-2 c =
     (ranges_are c.args.buffer.items c.args.spans.items c.args.rows.items c.requires.tables _ c.deref.result.now
     c.deref-2.result.now ranges c.deref.ensures.value c.deref-2.ensures.value c.new-ranges.ensures.reported)
     (c.in_ok-written.ensures.marks ∙ ap marks_of_rows c.deref-3.ensures.value)
-    (subst (λ (ms : List Bool). AreRankedFor (picked ms ranges) ranges c.in_ok-ranks.ranks) c.deref-5.ensures.value
+    (subst (λ (ms : List Bool). AreRankedFor (marked_ranges ms ranges) ranges c.in_ok-ranks.ranks) c.deref-5.ensures.value
     c.in_ok-ranks.ensures.ranked)
     c.in_ok-ranks.ensures.exact
     (subst (λ (ms : List Bool). HaveInOrder (is_marked ms) ranges order) c.deref-5.ensures.value c.in_ok-ranks.ensures.order)

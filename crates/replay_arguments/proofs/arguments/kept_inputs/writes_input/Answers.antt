@@ -3,7 +3,7 @@ use Rattle.std.specs.Prelude.{◌||◌, option_map}
 use Rattle.std.specs.List.{list_any}
 use Rattle.clap.specs.Words.{all_of, first_of, found_of, rows_of}
 use Rattle.clap.proofs.WalkLemmas.{first_value-rows, raw_values-rows}
-use Rattle.replay_arguments.specs.KeptInputs.{is_read, is_read_if_any, named, writes_input}
+use Rattle.replay_arguments.specs.KeptInputs.{is_read, is_read_if_any, given_names, writes_input}
 use Rattle.replay_arguments.specs.Names.{texts}
 use Rattle.replay_arguments.proofs.arguments.kept_inputs.writes_input.Goals as goal
 
@@ -30,15 +30,15 @@ returns c =
     record {
       writes =
           c.is_any_true.ensures.any
-          ∙ of_names (texts c.given-files.result) (named (all_of (codes "FILE") rows)) (texts c.given-replies.result)
-          (named (all_of (codes "check") rows)) (texts c.given-records.result) (named (all_of (codes "replies") rows))
+          ∙ of_names (texts c.given-files.result) (given_names (all_of (codes "FILE") rows)) (texts c.given-replies.result)
+          (given_names (all_of (codes "check") rows)) (texts c.given-records.result) (given_names (all_of (codes "replies") rows))
           (option_map (λ name. name.now) c.get_str-points.result) (first_of (codes "split-points") rows)
           (option_map (λ name. name.now) c.get_str.result) (first_of (codes "output") rows)
           (option_map (λ name. name.now) c.get_str-2.result) (first_of (codes "summary-to") rows)
-          (c.given-files.ensures.names ∙ ap named (c.get_strs.ensures ∙ raw_values-rows found (codes "FILE")))
-          (c.given-replies.ensures.names ∙ ap named (c.get_strs-2.ensures ∙ raw_values-rows found (codes "check")))
+          (c.given-files.ensures.names ∙ ap given_names (c.get_strs.ensures ∙ raw_values-rows found (codes "FILE")))
+          (c.given-replies.ensures.names ∙ ap given_names (c.get_strs-2.ensures ∙ raw_values-rows found (codes "check")))
           (c.get_str-points.ensures ∙ first_value-rows found (codes "split-points"))
-          (c.given-records.ensures.names ∙ ap named (c.get_strs-3.ensures ∙ raw_values-rows found (codes "replies")))
+          (c.given-records.ensures.names ∙ ap given_names (c.get_strs-3.ensures ∙ raw_values-rows found (codes "replies")))
           (c.get_str.ensures ∙ first_value-rows found (codes "output"))
           (c.get_str-2.ensures ∙ first_value-rows found (codes "summary-to"))
           _ _ _ c.have_if_any-has_output.ensures.any c.have_if_any-has_summary.ensures.any c.have_one_of-has_record.ensures.one;

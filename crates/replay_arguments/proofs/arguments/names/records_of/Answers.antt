@@ -3,7 +3,7 @@ use Rattle.std.specs.Prelude.{false, is_some}
 use Rattle.std.proofs.lemmas.Bool.{false≢true}
 use Rattle.clap.specs.Words.{found_of, rows_of}
 use Rattle.clap.proofs.WalkLemmas.{raw_values-rows}
-use Rattle.replay_arguments.specs.Arguments.{HoldsStream, named}
+use Rattle.replay_arguments.specs.Arguments.{HoldsStream, given_names}
 use Rattle.replay_arguments.proofs.Refusals.{not_streamed, other_records}
 use Rattle.replay_arguments.proofs.arguments.names.records_of.Goals as goal
 
@@ -11,7 +11,7 @@ pub returns-in_default-clause-records : goal.returns-in_default-clause-records
 returns-in_default-clause-records c =
     let none = sym (raw_values-rows (found_of c.args.matches.now) (codes "replies")) ∙ sym c.get_strs.ensures
     ∙ ap (option_map (λ s. map (λ v. v.now) s.now)) c.in_default.is in
-    ap (map (λ (v : Bor (List ℕ)). v.now)) c.no_names.ensures.none ∙ sym (ap named none)
+    ap (map (λ (v : Bor (List ℕ)). v.now)) c.no_names.ensures.none ∙ sym (ap given_names none)
 
 pub returns-in_default-clause-streamed : goal.returns-in_default-clause-streamed
 returns-in_default-clause-streamed c = λ some.
@@ -41,4 +41,4 @@ pub returns-clause-records : goal.returns-clause-records
 returns-clause-records c =
     let found = sym (raw_values-rows (found_of c.args.matches.now) (codes "replies")) ∙ sym c.get_strs.ensures
     ∙ ap (option_map (λ s. map (λ v. v.now) s.now)) c.in-Some.is in
-    sym (ap named found)
+    sym (ap given_names found)

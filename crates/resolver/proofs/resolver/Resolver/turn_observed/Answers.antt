@@ -11,7 +11,7 @@ use Rattle.resolver.proofs.Turning.{
   full_on,
   stopped_on,
   stop_met_on,
-  reported,
+  reported_turn,
   steps_on,
   closed_by,
   done_means,
@@ -78,9 +78,9 @@ returns-clause-sees_nothing g c = sees_nothing_on c.deliver.ensures c.close.ensu
 same_Ok : {x y : Turn} → ◌≡◌ {A = Result Turn Stop} (Ok x) (Ok y) → x ≡ y
 same_Ok is = cc
 
-result_is : (g : Over) (c : Joined-branch-2 g) → c.match-branch-2.result ≡ reported c.in_ok-proxy.field-0 c.self.inside.closed
+result_is : (g : Over) (c : Joined-branch-2 g) → c.match-branch-2.result ≡ reported_turn c.in_ok-proxy.field-0 c.self.inside.closed
 result_is g c = elim c.match-branch-2.branch [
-  | in-Some w ↦ w.result-is ∙ ap (λ t. reported t c.self.inside.closed) (sym w.in-Some.is)
+  | in-Some w ↦ w.result-is ∙ ap (λ t. reported_turn t c.self.inside.closed) (sym w.in-Some.is)
   | in-None w ↦ rw (w.in-None.is, w.if-self.true) w.result-is
   | in-None-2 w ↦ rw (w.in-None.is, w.if-self.false) w.result-is
 ]

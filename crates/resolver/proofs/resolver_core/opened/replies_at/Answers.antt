@@ -2,7 +2,7 @@ use Rattle.std.proofs.Common.{w64, to_z, of_z, ◌==◌, ◌&&◌, cond, Some, s
 use Rattle.std.specs.Prelude.{pos, ◌≤ℤ◌, ◌<ℤ◌}
 use Rattle.std.specs.Ordering.{int_eq}
 use Rattle.std.proofs.lemmas.Int.{ints, to_z-of_z}
-use Rattle.keyspace.specs.Found.{kept}
+use Rattle.keyspace.specs.Found.{kept_reply}
 use Rattle.keyspace.specs.Run.{run}
 use Rattle.resolver.specs.OpeningLog.{opening_log}
 use Rattle.resolver.proofs.OpenedCore.{kept_opening, kept_start}
@@ -24,4 +24,4 @@ returns-clause-kept c = λ window p v.
     ∙ ap (cond ((c.args.proxies == p) && int_eq reply.version v) (Some reply)) (c.new-replies.ensures.none p v)
     ∙ kept_opening window c.args.proxies version reply natural c.in_ok-opening_reply.ensures.version
     c.in_ok-opening_reply.ensures.entries p v
-    ∙ ap (λ n. kept (run window (opening_log c.args.proxies n)).processed p v) same
+    ∙ ap (λ n. kept_reply (run window (opening_log c.args.proxies n)).processed p v) same

@@ -7,10 +7,10 @@ use Rattle.keys.specs.declared.key.TheConstants.{MAX_KEY_LENGTH}
 use Rattle.keys.specs.declared.range.Range.{Range}
 use Rattle.keys.proofs.callers.KeyOrder.{before_at_most_same}
 use Rattle.stepmap.specs.Boundary.{Boundary, AreBoundaries, value_at}
-use Rattle.stepmap.specs.Copying.{following, IsCopiedTo}
+use Rattle.stepmap.specs.Copying.{boundaries_after, IsCopiedTo}
 use Rattle.stepmap.specs.StepMap.{lengths}
 use Rattle.stepmap.specs.Stored.{first_key, spare_in}
-use Rattle.stepmap.specs.Writing.{written}
+use Rattle.stepmap.specs.Writing.{boundaries_after_write}
 use Rattle.stepmap.proofs.CopiedOn.{IsNext, has_next, next_has, rises, filled, version_here, copied_next, copied_longer, copied_boundaries}
 use Rattle.stepmap.proofs.boundaries.Boundaries.copy_next.Given as given
 use Rattle.stepmap.proofs.boundaries.Boundaries.copy_next.Goals as goal
@@ -24,7 +24,7 @@ next_one g c =
     let bs = c.args.self.now.boundaries in
     has_next bs c.requires.boundaries c.args.from.now.items c.args.copy.now.boundaries c.requires.copied c.requires.more
     c.look_past-version.new.next.items
-    (c.look_past-version.ensures.next ∙ ap (λ key. first_key (following key bs)) c.deref.ensures.value)
+    (c.look_past-version.ensures.next ∙ ap (λ key. first_key (boundaries_after key bs)) c.deref.ensures.value)
 
 pub new-requires-clause-end : goal.new-requires-clause-end
 new-requires-clause-end g c =
@@ -81,13 +81,13 @@ write-requires g c =
 
 -- what is written then
 is_written : (g : given.Over) (c : After-write g)
-    → c.write.new.self.boundaries ≡ written c.of-2.result c.look_past-version.result c.args.copy.now.boundaries
+    → c.write.new.self.boundaries ≡ boundaries_after_write c.of-2.result c.look_past-version.result c.args.copy.now.boundaries
 is_written g c =
     let fits : FitsSigned w64 c.look_past-version.result = search rules in
     c.write.ensures.boundaries
-    ∙ ap (λ (bs : List Boundary). written c.of-2.result (to_z w64 (of_z w64 c.look_past-version.result)) bs)
+    ∙ ap (λ (bs : List Boundary). boundaries_after_write c.of-2.result (to_z w64 (of_z w64 c.look_past-version.result)) bs)
     c.reserve.ensures.boundaries
-    ∙ ap (λ (v : ℤ). written c.of-2.result v c.args.copy.now.boundaries) (to_z-of_z w64 c.look_past-version.result fits)
+    ∙ ap (λ (v : ℤ). boundaries_after_write c.of-2.result v c.args.copy.now.boundaries) (to_z-of_z w64 c.look_past-version.result fits)
 
 pub returns-clause-copied : goal.returns-clause-copied
 returns-clause-copied g c =

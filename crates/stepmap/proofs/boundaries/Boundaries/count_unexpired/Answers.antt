@@ -1,7 +1,7 @@
 use Rattle.std.proofs.Common.{length, sym, ap, ◌∙◌, w64}
 use Rattle.std.proofs.lemmas.Int.{to_z-of_z}
 use Rattle.std.proofs.lemmas.List.{length-map}
-use Rattle.tree.specs.Tree.{unexpired as unexpired_items}
+use Rattle.tree.specs.Tree.{unexpired_items}
 use Rattle.stepmap.specs.Stored.{boundary_of, boundaries_of}
 use Rattle.stepmap.proofs.RoomAnswered.{all_unexpired}
 use Rattle.stepmap.proofs.UnexpiredRun.{boundaries_unexpired}

@@ -7,12 +7,12 @@ use Rattle.std.proofs.lemmas.Option.{MatchOption-at_some}
 use Rattle.arena.specs.Arena.{IsLive}
 use Rattle.keys.specs.Key.{IsKey}
 use Rattle.tree.specs.Item.{Item, item_of}
-use Rattle.tree.specs.Path.{items_below, following}
+use Rattle.tree.specs.Path.{items_below, items_not_below}
 use Rattle.tree.specs.Tree.{IsLast}
 use Rattle.stepmap.specs.Boundary.{value_at}
 use Rattle.stepmap.specs.KeyBound.{slot_is_below}
 use Rattle.stepmap.specs.Stored.{Stored, bytes_at, boundaries_of, first_key}
-use Rattle.stepmap.specs.Copying.{following as after_key}
+use Rattle.stepmap.specs.Copying.{boundaries_after as after_key}
 use Rattle.stepmap.proofs.Asking.{can_search}
 use Rattle.stepmap.proofs.CopiedOn.{after_stored}
 use Rattle.stepmap.proofs.LastFound.{some_is_below, last_boundary, value_of_last}
@@ -34,7 +34,7 @@ move_to-requires-clause-live g c =
     let p = slot_is_below keys true c.args.key.now in
     let items = c.self.inside.tree.items in
     subst (λ o. IfSome o (IsLive keys)) (sym c.last_and_next-last.ensures.next)
-    (first_has keys (IsLive keys) (following p items)
+    (first_has keys (IsLive keys) (items_not_below p items)
     (All-filter (λ x. not (p x.key)) (λ x. IsLive keys x.key) items c.self.invariant.stored.live))
 
 pub move_to-requires-clause-fits : goal.move_to-requires-clause-fits
@@ -48,7 +48,7 @@ move_to-requires-clause-fits g c =
     let each = All-weaker (λ (x : Item). IsKey (bytes_at keys x.key)) (λ x. fit x.key) (λ x k. let short = k.short in omega (arith, c.requires.any_key))
     items (keys_have keys IsKey items all) in
     subst (λ o. IfSome o fit) (sym c.last_and_next-last.ensures.next)
-    (first_has keys fit (following p items) (All-filter (λ x. not (p x.key)) (λ x. fit x.key) items each))
+    (first_has keys fit (items_not_below p items) (All-filter (λ x. not (p x.key)) (λ x. fit x.key) items each))
 
 pub returns-clause-version : goal.returns-clause-version
 returns-clause-version g c =
@@ -67,7 +67,7 @@ pub returns-clause-next : goal.returns-clause-next
 returns-clause-next g c =
     let keys = c.self.inside.keys in
     let key = c.args.key.now in
-    let items = following (slot_is_below keys true key) c.self.inside.tree.items in
+    let items = items_not_below (slot_is_below keys true key) c.self.inside.tree.items in
     c.move_to.ensures.cursor ∙ ap (λ o. unwrap_or (option_map (bytes_at keys) o) []) c.last_and_next-last.ensures.next
     ∙ first_bytes keys items
     ∙ ap first_key (after_stored keys c.self.inside.tree c.self.invariant.stored key)

@@ -8,11 +8,11 @@ use Rattle.tree.specs.Expire.{RemovesExpired}
 use Rattle.stepmap.specs.Boundary.{Boundary, last_version}
 use Rattle.stepmap.specs.KeyBound.{slot_is_below}
 use Rattle.stepmap.specs.Stored.{Stored, bytes_at, boundaries_of, first_key}
-use Rattle.stepmap.specs.Sweeping.{left_from, passed_to, unexpired}
+use Rattle.stepmap.specs.Sweeping.{left_from, passed_to, unexpired_boundaries}
 use Rattle.stepmap.proofs.LastFound.{some_is_below}
 use Rattle.stepmap.proofs.Passed.{keys_have}
 use Rattle.stepmap.proofs.PlacedKeys.{none_placed, run_released}
-use Rattle.stepmap.proofs.UnexpiredRun.{key_is_partitioned, not_alone, looked_within, last_looked, next_has, next_bytes, run_live, run_distinct, unexpired_boundaries, unexpired_indexed}
+use Rattle.stepmap.proofs.UnexpiredRun.{key_is_partitioned, not_alone, looked_within, last_looked, next_has, next_bytes, run_live, run_distinct, passed_are_unexpired, unexpired_indexed}
 use Rattle.stepmap.proofs.boundaries.Boundaries.remove_expired.Given as given
 use Rattle.stepmap.proofs.boundaries.Boundaries.remove_expired.Goals as goal
 use Rattle.stepmap.proofs.boundaries.Boundaries.remove_expired.Goals.{After-deref, After-remove_expired-removal}
@@ -184,8 +184,8 @@ returns-clause-boundaries g c =
     let released = run_released keys keys new [] run (none_placed keys) live e.others e.counted e.spare in
     let n = c.remove_expired-removal.result.looked_at in
     let kept = λ (key : List ℕ) (bs : List Boundary).
-    passed_to key bs ++ (unexpired c.args.edge c.args.before (take n (left_from key bs)) ++ drop n (left_from key bs)) in
-    unexpired_boundaries keys tree c.self.invariant.stored key (later g at) (there g at) c.args.count c.args.edge c.args.before
+    passed_to key bs ++ (unexpired_boundaries c.args.edge c.args.before (take n (left_from key bs)) ++ drop n (left_from key bs)) in
+    passed_are_unexpired keys tree c.self.invariant.stored key (later g at) (there g at) c.args.count c.args.edge c.args.before
     c.remove_expired-removal.result run next (run_of g now)
     new released
     ∙ ap (λ k. kept k (boundaries_of keys tree.items)) c.deref.ensures.value

@@ -5,7 +5,7 @@ use Rattle.std.proofs.lemmas.List.Elements.{All-filter, All-weaker}
 use Rattle.arena.specs.Arena.{IsLive}
 use Rattle.keys.specs.Key.{IsKey}
 use Rattle.tree.specs.Item.{Item, item_of}
-use Rattle.tree.specs.Path.{items_below, following}
+use Rattle.tree.specs.Path.{items_below, items_not_below}
 use Rattle.tree.specs.Tree.{IsLast}
 use Rattle.stepmap.specs.Boundary.{last_version}
 use Rattle.stepmap.specs.KeyBound.{slot_is_below}
@@ -32,7 +32,7 @@ move_to-requires-clause-live g c =
     let p = slot_is_below keys c.is_empty.result c.deref.result.now in
     let items = c.self.inside.tree.items in
     subst (λ o. IfSome o (IsLive keys)) (sym c.last_and_next-last.ensures.next)
-    (first_has keys (IsLive keys) (following p items)
+    (first_has keys (IsLive keys) (items_not_below p items)
     (All-filter (λ x. not (p x.key)) (λ x. IsLive keys x.key) items c.self.invariant.stored.live))
 
 pub move_to-requires-clause-fits : goal.move_to-requires-clause-fits
@@ -46,7 +46,7 @@ move_to-requires-clause-fits g c =
     let each = All-weaker (λ (x : Item). IsKey (bytes_at keys x.key)) (λ x. fit x.key) (λ x k. let short = k.short in omega (arith, c.requires.any_key))
     items (keys_have keys IsKey items all) in
     subst (λ o. IfSome o fit) (sym c.last_and_next-last.ensures.next)
-    (first_has keys fit (following p items) (All-filter (λ x. not (p x.key)) (λ x. fit x.key) items each))
+    (first_has keys fit (items_not_below p items) (All-filter (λ x. not (p x.key)) (λ x. fit x.key) items each))
 
 pub returns-clause-version : goal.returns-clause-version
 returns-clause-version g c =
@@ -67,6 +67,6 @@ returns-clause-cursor g c =
     let cursor = c.args.cursor.now.items in
     let p = are_passed keys c.self.inside.tree c.self.invariant.stored c.is_empty.result c.deref.result.now cursor _
     c.deref.ensures.value c.deref.ensures.len c.is_empty.ensures in
-    let items = following (slot_is_below keys c.is_empty.result c.deref.result.now) c.self.inside.tree.items in
+    let items = items_not_below (slot_is_below keys c.is_empty.result c.deref.result.now) c.self.inside.tree.items in
     c.move_to.ensures.cursor ∙ ap (λ o. unwrap_or (option_map (bytes_at keys) o) []) c.last_and_next-last.ensures.next
     ∙ first_bytes keys items ∙ ap first_key (p.left ∙ ap (λ v. left_from cursor v.boundaries) c.self.view_is)

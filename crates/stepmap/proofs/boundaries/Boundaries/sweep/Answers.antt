@@ -2,7 +2,7 @@ use Rattle.std.proofs.Common.{arith, rules, ◌≡◌, ◌≢◌, ℕ, true, fal
 use Rattle.std.proofs.lemmas.Bool.{eqb-false, eqb-true}
 use Rattle.std.proofs.lemmas.Int.{to_z-of_z}
 use Rattle.stepmap.specs.Boundary.{AreInOrder}
-use Rattle.stepmap.specs.Sweeping.{left_from, passed_to, swept}
+use Rattle.stepmap.specs.Sweeping.{left_from, passed_to, boundaries_after_sweep}
 use Rattle.stepmap.proofs.SweepingOn.{none_swept, more_swept, all_swept, count_swept, swept_keys, first_there}
 use Rattle.stepmap.proofs.boundaries.Boundaries.sweep.Given as given
 use Rattle.stepmap.proofs.boundaries.Boundaries.sweep.Goals as goal
@@ -82,7 +82,7 @@ returns-else-not-is_empty-clause-boundaries g c =
     let none = is_none c.loop-left.cursor (sym c.is_empty.ensures ∙ c.if-not-is_empty.false) in
     let edge = to_z-of_z w64 c.args.edge c.ranges.edge in
     (all_swept _ _ _ order _ _ _ _ _ c.loop-left.invariant.swept none).0
-    ∙ ap (λ e. swept e c.args.count (passed_to c.args.cursor.now.items c.args.self.now.boundaries)
+    ∙ ap (λ e. boundaries_after_sweep e c.args.count (passed_to c.args.cursor.now.items c.args.self.now.boundaries)
     (left_from c.args.cursor.now.items c.args.self.now.boundaries)) edge
 
 pub returns-else-not-is_empty-clause-cursor : goal.returns-else-not-is_empty-clause-cursor
@@ -96,7 +96,7 @@ returns-after-loop-left-clause-boundaries g c =
     let order = in_order g (goal.at.returns-after-loop-left-clause-boundaries g c).After-resume-before in
     let edge = to_z-of_z w64 c.args.edge c.ranges.edge in
     (count_swept _ _ _ order _ _ _ _ _ c.loop-left.invariant.swept (omega arith)).0
-    ∙ ap (λ e. swept e c.args.count (passed_to c.args.cursor.now.items c.args.self.now.boundaries)
+    ∙ ap (λ e. boundaries_after_sweep e c.args.count (passed_to c.args.cursor.now.items c.args.self.now.boundaries)
     (left_from c.args.cursor.now.items c.args.self.now.boundaries)) edge
 
 pub returns-after-loop-left-clause-cursor : goal.returns-after-loop-left-clause-cursor

@@ -1,6 +1,6 @@
 use Rattle.std.proofs.Common.{arith, rules, true, false, ◌≡◌, ◌∙◌, ap, refl, is_some, w64}
 use Rattle.std.proofs.lemmas.Int.{to_z-of_z}
-use Rattle.stepmap.specs.Writing.{written}
+use Rattle.stepmap.specs.Writing.{boundaries_after_write}
 use Rattle.stepmap.proofs.WritingOn.{to_write, is_written, run_written, runs_fewer}
 use Rattle.stepmap.proofs.boundaries.Boundaries.write.Goals as goal
 
@@ -33,7 +33,7 @@ pub returns-clause-boundaries : goal.returns-clause-boundaries
 returns-clause-boundaries g c =
     let none : is_some c.loop-at_end.at_end ≡ false = search rules in
     (is_written c.args.range.now _ c.args.self.now c.loop-at_end.at_end c.loop-at_end.self none c.loop-at_end.invariant.0).is
-    ∙ ap (λ v. written c.args.range.now v c.args.self.now.boundaries) (to_z-of_z w64 c.args.version c.ranges.version)
+    ∙ ap (λ v. boundaries_after_write c.args.range.now v c.args.self.now.boundaries) (to_z-of_z w64 c.args.version c.ranges.version)
 
 pub returns-clause-spare : goal.returns-clause-spare
 returns-clause-spare g c =

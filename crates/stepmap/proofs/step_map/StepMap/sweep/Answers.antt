@@ -23,7 +23,7 @@ use Rattle.std.proofs.lemmas.Int.{to_z-of_z}
 use mir.Syntax.{w64}
 use mir.Val.{SFits, to_z, of_z}
 use Rattle.stepmap.specs.StepMap.{Steps, AreSteps}
-use Rattle.stepmap.specs.Sweeping.{cursor_of, round_edge, rest, after_sweep, passed_to, left_from, swept}
+use Rattle.stepmap.specs.Sweeping.{cursor_of, round_edge, rest, after_sweep, passed_to, left_from, boundaries_after_sweep}
 use Rattle.stepmap.specs.Stored.{first_key}
 use Rattle.stepmap.specs.Kept.{round_of, steps_of, IsKept}
 use Rattle.stepmap.proofs.Changes.{sweep_keeps}
@@ -58,7 +58,7 @@ pass c =
     let at = sym c.self.invariant.at_cursor in
     record {
       boundaries = (rw (edge_is c) at c.sweep.ensures.boundaries)
-          ∙ ap (λ k. swept c.self.inside.edge c.args.count (passed_to k bs) (left_from k bs)) at;
+          ∙ ap (λ k. boundaries_after_sweep c.self.inside.edge c.args.count (passed_to k bs) (left_from k bs)) at;
       cursor = c.sweep.ensures.cursor ∙ ap (λ k. first_key (drop c.args.count (left_from k bs))) at;
     }
 

@@ -4,7 +4,7 @@ use Rattle.std.proofs.lemmas.Int.{ints, to_z-of_z}
 use mir.Syntax.{w64}
 use Rattle.stepmap.specs.Boundary.{Boundary}
 use Rattle.stepmap.specs.StepMap.{Steps, AreSteps, lengths}
-use Rattle.stepmap.specs.Writing.{written, after_write}
+use Rattle.stepmap.specs.Writing.{boundaries_after_write, after_write}
 use Rattle.stepmap.specs.Filtering.{BoundsSteps}
 use Rattle.stepmap.specs.Kept.{steps_of}
 use Rattle.stepmap.specs.Stored.{spare_in, each_length}
@@ -47,11 +47,11 @@ new_is : (c : After-write) → new_map c ≡ after_write c.args.range c.args.ver
 unfolding new_map
 new_is c =
     ap (λ (xs : List Boundary). record (new_map c) { boundaries = xs }) (c.write.ensures.boundaries
-    ∙ ap (λ v. written c.args.range v c.self.inside.boundaries.boundaries)
+    ∙ ap (λ v. boundaries_after_write c.args.range v c.self.inside.boundaries.boundaries)
     (to_z-of_z w64 c.args.version c.ranges.version))
     ∙ ap (λ (rs : List (ℕ × ℕ)). record (new_map c) {
       boundaries =
-          written c.args.range c.args.version c.self.inside.boundaries.boundaries;
+          boundaries_after_write c.args.range c.args.version c.self.inside.boundaries.boundaries;
       ready = rs;
     }) c.pop_front.ensures.rest
     ∙ ap (after_write c.args.range c.args.version) c.self.view_is

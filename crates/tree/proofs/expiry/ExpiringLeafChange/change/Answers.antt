@@ -1,6 +1,6 @@
 use Rattle.std.proofs.Common.{rules, Bool, false, IsTrue, ◌∷◌, ℕ, ◌≡◌, ◌≢◌, ◌≤◌, ◌<◌, ◌+◌, ◌-◌, ◌∙◌, ◌++◌, ap, sym, refl, List, [], length, filter, take, drop, map, arith, w64}
 use Rattle.std.proofs.lemmas.Int.{to_z-of_z}
-use Rattle.tree.proofs.Words.{with_header, NodeEntry, Item, item_of, entries_of, entries_at, GivesUnexpired, unexpired, expired}
+use Rattle.tree.proofs.Words.{with_header, NodeEntry, Item, item_of, entries_of, entries_at, GivesUnexpired, unexpired_items, expired_items}
 use Rattle.tree.proofs.ChangedLeaf.{leaf_can_step, leaf_changed, unchanged}
 use Rattle.tree.proofs.Headed.{headed_at}
 use Rattle.tree.proofs.LastRun.{leaf_unexpired, untouched}
@@ -61,8 +61,8 @@ module _ (g : given.Over) (c : After-has_expired g) where
 
   -- what becomes of the items of the leaf
   swept : (now out : List Item)
-      → now ≡ map item_of (take begin es) ++ (unexpired edge before looked ++ map item_of (drop end es))
-      → out ≡ expired edge before looked
+      → now ≡ map item_of (take begin es) ++ (unexpired_items edge before looked ++ map item_of (drop end es))
+      → out ≡ expired_items edge before looked
       → GivesUnexpired (g.P.Bound.below bound.now) count edge before c.look_at-self.result out
       place.following (map item_of (entries_at nodes slot)) now
   swept now out now_is out_is =

@@ -11,7 +11,7 @@ use Rattle.tree.specs.Heads.{HasPrefix}
 use Rattle.tree.specs.Item.{Item, item_of}
 use Rattle.tree.specs.Node.{entries_of, key_heads_of}
 use Rattle.tree.specs.Overwrite.{GivesEntire, first_is_below}
-use Rattle.tree.specs.Path.{items_below, following, first_key}
+use Rattle.tree.specs.Path.{items_below, items_not_below, first_key}
 use Rattle.tree.specs.Subtree.{entries_at}
 use Rattle.tree.specs.Tree.{IsLast, ended_by}
 use Rattle.tree.specs.Walk.{IsRaisedAt}
@@ -146,7 +146,7 @@ module _ (g : given.Over) (c : Joined-end-len g) where
   ]
 
   -- whether an item of the leaf, or behind it, has the second key
-  answered : ended ≡ first_is_below (g.R.Bound.below new.past.now) (first_key place.following (following q (map item_of es)))
+  answered : ended ≡ first_is_below (g.R.Bound.below new.past.now) (first_key place.following (items_not_below q (map item_of es)))
   answered =
       let others = (parted q es end (leaf_can_step can_change header).can_find.partitioned ends).1 in
       elim c.if-end-len.branch [
