@@ -68,7 +68,8 @@ fn judge_open(
         → IsShapedAs txn.now ranked → AreRunsOf keys runs.now (ranked.reads ++ ranked.writes)
         → AreWrittenGaps keys gaps.old written → All (HaveBegin keys) written
         → (entry.new ≡ in_batch written ranked entry.old)
-        × AreWrittenGaps keys gaps.new (written ++ counted_ranges entry.new.verdict ranked.writes)) }
+        × AreWrittenGaps keys gaps.new
+        (written ++ counted_ranges entry.new.verdict ranked.writes)) }
     ensures count { length gaps.new ≡ length gaps.old }
 {
     let (reads, writes) = runs.split_at(txn.reads.len());
