@@ -47,16 +47,16 @@ abbrev pub IsPartOfPartitioned : (ℕ → Bool) → List Item → Type 0
 IsPartOfPartitioned is_below part = (front back : List Item) × IsPartitioned (λ x. is_below x.key) (front ++ (part ++ back))
 
 -- A part of such items is one too.
-pub part_of_part : (is_below : ℕ → Bool) (before items items_not_below : List Item) → IsPartOfPartitioned is_below (before ++ (items ++ items_not_below))
+pub part_of_part : (is_below : ℕ → Bool) (before items following : List Item) → IsPartOfPartitioned is_below (before ++ (items ++ following))
     → IsPartOfPartitioned is_below items
-part_of_part is_below before items items_not_below part =
+part_of_part is_below before items following part =
     let front = part.0 in
     let back = part.1 in
-    let regrouped : front ++ ((before ++ (items ++ items_not_below)) ++ back) ≡ (front ++ before) ++ (items ++ (items_not_below ++ back)) =
-    ap (λ xs. front ++ xs) (append_assoc before (items ++ items_not_below) back)
-    ∙ ap (λ xs. front ++ (before ++ xs)) (append_assoc items items_not_below back)
-    ∙ sym (append_assoc front before (items ++ (items_not_below ++ back))) in
-    (front ++ before, items_not_below ++ back, subst (IsPartitioned (λ x. is_below x.key)) regrouped part.2)
+    let regrouped : front ++ ((before ++ (items ++ following)) ++ back) ≡ (front ++ before) ++ (items ++ (following ++ back)) =
+    ap (λ xs. front ++ xs) (append_assoc before (items ++ following) back)
+    ∙ ap (λ xs. front ++ (before ++ xs)) (append_assoc items following back)
+    ∙ sym (append_assoc front before (items ++ (following ++ back))) in
+    (front ++ before, following ++ back, subst (IsPartitioned (λ x. is_below x.key)) regrouped part.2)
 
 -- there is room for both keys
 abbrev pub HasKeyRoom : Keys → Overwrite → Type 0
