@@ -1,4 +1,4 @@
-use Rattle.std.proofs.Common.{rules, ◌≡◌, ℕ, Bool, ◌+◌, ◌-◌, ◌≤◌, ◌≤ℤ◌, ℤ, true, length, filter, slice_get, Some, refl, subst, SFits, w64, arith}
+use Rattle.std.proofs.Common.{rules, ◌≡◌, ℕ, Bool, ◌+◌, ◌-◌, ◌≤◌, ◌≤ℤ◌, ℤ, true, length, filter, slice_get, Some, refl, subst, SFits, w64, to_z, arith}
 use Rattle.std.proofs.lemmas.Int.{ints}
 use Rattle.std.proofs.lemmas.Option.{slice_get_read}
 use Rattle.boundaries.specs.Greatest.{IsSought}
@@ -63,7 +63,8 @@ returns-then-height-eq0 t c =
     let items = leaf_from_last _ _ _ _ _ _ _ _ _ (look t s) c.if-height-eq0.true c.step-first.result.index c.step-first.ensures.step.index_is in
     let fits : SFits w64 c.args.least = search rules in
     let leaf = most_leaf c.args.least c.greatest_of.result _ (least_kept fits c.greatest_of.ensures.most) in
-    record { most = rw (items, ← end_is t s) leaf }
+    let kept : SFits w64 c.greatest_of.result = search rules in
+    record { most = most_kept kept (rw (items, ← end_is t s) leaf) }
 
 -- the two children that the search goes on in
 module _ (t : ℕ) (c : After-index-entries-last t) where
@@ -155,21 +156,23 @@ returns-then-first-last t c =
     let h = halves t (goal.at.returns-then-first-last t c).After-index-entries-last in
     let most = rw (c.new-from.ensures.sought, c.new-to.ensures.sought) at c.greatest_between.ensures.most in
     let fits : SFits w64 c.args.least = search rules in
-    record { most = rw (in_one h c.if-first-last.true) (least_kept fits most) }
+    let kept : SFits w64 c.greatest_between.result = search rules in
+    record { most = most_kept kept (rw (in_one h c.if-first-last.true) (least_kept fits most)) }
 
 -- the greatest version once the left child is looked at, too
 sooner : (t : ℕ) (c : Joined-left-most t) → (let h = halves t (goal.at.Joined-left-most t c).After-index-entries-last in
     IsMost item_version c.greatest_of-most.result (left_from_last h) c.if-left-most.most)
 sooner t c =
     let h = halves t (goal.at.Joined-left-most t c).After-index-entries-last in
-    elim c.if-left-most.branch [
+    let fits : SFits w64 c.greatest_of-most.result = search rules in
+    rw (← c.if-left-most.most-is) (elim c.if-left-most.branch [
       | then-left-most w ↦
-          let fits : SFits w64 c.greatest_of-most.result = search rules in
-          rw w.most-is (least_kept fits (rw c.new-from.ensures.sought at w.greatest_from-most.ensures.most))
+          let kept : SFits w64 w.greatest_from-most.result = search rules in
+          rw w.most-is (most_kept kept (least_kept fits (rw c.new-from.ensures.sought at w.greatest_from-most.ensures.most)))
       | else-left-most w ↦
           let le : c.index-entries-first.result.version ≤ℤ c.greatest_of-most.result = grind (arith, ints, w.if-left-most.false) in
-          rw w.most-is (most_passed _ _ (left_items h) _ (λ (x : Item). true) (left_is h).describes le)
-    ]
+          rw w.most-is (most_kept fits (most_passed _ _ (left_items h) _ (λ (x : Item). true) (left_is h).describes le))
+    ])
 
 -- all parts, by what is told of the right child
 entire : (t : ℕ) (c : Joined-left-most t) (most : ℤ) → (let h = halves t (goal.at.Joined-left-most t c).After-index-entries-last in
@@ -185,12 +188,15 @@ entire t c most later =
 pub returns-then-right-most : goal.returns-then-right-most
 returns-then-right-most t c =
     let at = (goal.at.returns-then-right-most t c).Joined-left-most in
-    let fits : SFits w64 c.if-left-most.most = search rules in
-    record { most = entire t at _ (least_kept fits (rw c.new-to.ensures.sought at c.greatest_to-most.ensures.most)) }
+    let h = halves t (goal.at.returns-then-right-most t c).After-index-entries-last in
+    let later : IsMost item_version (to_z w64 c.if-left-most.most-bits) (right_before h) c.greatest_to-most.result =
+    rw c.new-to.ensures.sought at c.greatest_to-most.ensures.most in
+    let kept : SFits w64 c.greatest_to-most.result = search rules in
+    record { most = most_kept kept (entire t at _ (rw c.if-left-most.most-is at later)) }
 
 pub returns-else-right-most : goal.returns-else-right-most
 returns-else-right-most t c =
     let at = (goal.at.returns-else-right-most t c).Joined-left-most in
     let h = halves t (goal.at.returns-else-right-most t c).After-index-entries-last in
     let le : c.index-entries-last.result.version ≤ℤ c.if-left-most.most = grind (arith, ints, c.if-right-most.false) in
-    record { most = entire t at _ (most_passed _ _ (right_items h) 0 _ (right_is h).describes le) }
+    record { most = rw c.if-left-most.most-is (entire t at _ (most_passed _ _ (right_items h) 0 _ (right_is h).describes le)) }

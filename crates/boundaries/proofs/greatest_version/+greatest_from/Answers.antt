@@ -48,7 +48,9 @@ returns-then-height-eq0 t c =
     let items = leaf_from_last _ _ _ _ _ _ _ _ _ (look t s) c.if-height-eq0.true c.step-step.result.index
     c.step-step.ensures.step.index_is in
     let fits : SFits w64 c.args.least = search rules in
-    record { most = rw items (most_leaf c.args.least c.greatest_of.result _ (least_kept fits c.greatest_of.ensures.most)) }
+    let kept : SFits w64 c.greatest_of.result = search rules in
+    let leaf = most_leaf c.args.least c.greatest_of.result _ (least_kept fits c.greatest_of.ensures.most) in
+    record { most = most_kept kept (rw items leaf) }
 
 -- the child that the search goes on in
 module _ (t : ℕ) (c : After-index-entries-step t) where
@@ -119,4 +121,5 @@ returns t c =
     let s = (goal.at.returns t c).After-index-entries-step in
     let fits : SFits w64 c.greatest_of-most.result = search rules in
     let below = least_kept fits (rw c.new-from.ensures.sought at c.greatest_from.ensures.most) in
-    record { most = most_of_two c.args.least _ _ _ _ _ (items t s) (later t s) below }
+    let kept : SFits w64 c.greatest_from.result = search rules in
+    record { most = most_kept kept (most_of_two c.args.least _ _ _ _ _ (items t s) (later t s) below) }

@@ -55,7 +55,9 @@ returns-then-height-eq0 t c =
     ∙ ap (λ (l : List NodeEntry). filter (λ (x : Item). below x.key) (map item_of l)) (look t s).read
     ∙ filter-items (λ x. below x.key) es ∙ ap (map item_of) (sym front) in
     let fits : SFits w64 c.args.least = search rules in
-    record { most = rw items (most_leaf c.args.least c.greatest_of.result _ (least_kept fits c.greatest_of.ensures.most)) }
+    let kept : SFits w64 c.greatest_of.result = search rules in
+    let leaf = most_leaf c.args.least c.greatest_of.result _ (least_kept fits c.greatest_of.ensures.most) in
+    record { most = most_kept kept (rw items leaf) }
 
 -- the child that the search goes on in
 module _ (t : ℕ) (c : After-index-entries-step t) where
@@ -123,4 +125,5 @@ returns t c =
     let s = (goal.at.returns t c).After-index-entries-step in
     let fits : SFits w64 c.greatest_of-most.result = search rules in
     let below = least_kept fits (rw c.new-to.ensures.sought at c.greatest_to.ensures.most) in
-    record { most = rw (items t s) (most_append c.args.least _ _ _ _ (sooner t s) below) }
+    let kept : SFits w64 c.greatest_to.result = search rules in
+    record { most = most_kept kept (rw (items t s) (most_append c.args.least _ _ _ _ (sooner t s) below)) }

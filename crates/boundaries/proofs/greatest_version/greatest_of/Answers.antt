@@ -9,9 +9,10 @@ loop-entry-preserved c =
     let e = c.entry-item.result in
     let new = c.max-most.result in
     let fits : SFits w64 e.version = search rules in
-    let max = simp to_z-of_z at c.max-most.ensures in
+    let max = simp (to_z-of_z, c.loop-entry.most-is) at c.max-most.ensures in
+    let before = rw c.loop-entry.most-is at c.loop-entry.invariant in
     rw (to_z-of_z w64 new (search rules)) (most_next version_of _ c.args.entries.now c.loop-entry.entry-index e
-    c.loop-entry.most new c.loop-entry-test.true c.entry-item.is c.loop-entry.invariant max.value max.self_bound max.other_bound)
+    c.loop-entry.most new c.loop-entry-test.true c.entry-item.is before max.value max.self_bound max.other_bound)
 
 pub returns : goal.returns
 returns c =

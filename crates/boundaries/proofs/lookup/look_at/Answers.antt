@@ -24,5 +24,6 @@ returns c = record {
     | goal.in-Leaf w ↦
         rw (w.in-Leaf.is, w.header_ref-leaf.ensures.header, w.head-is) (rw w.from.ensures.bound at w.head_for-head.ensures.head)
     | goal.in-Clear w ↦ elim w.in-Clear.is [ inl is ↦ rw is tt | inr is ↦ rw is tt ]
+    | goal.in-Clear-2 w ↦ elim w.in-Clear.is [ inl is ↦ rw is tt | inr is ↦ rw is tt ]
   ];
 }

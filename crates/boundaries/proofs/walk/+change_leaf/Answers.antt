@@ -159,7 +159,7 @@ still g t c new keeps was now changed = record {
 pub change_leaf-requires : goal.change_leaf-requires
 change_leaf-requires g t c κs low =
     let can = can_change_child g t (goal.at.change_leaf-requires g t c).After-child-below in
-    (search rules, record { can_change = can })
+    (search rules, (search rules, can))
 
 pub raise_entry-requires : goal.raise_entry-requires
 raise_entry-requires g t c =

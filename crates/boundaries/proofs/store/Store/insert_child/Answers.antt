@@ -1,4 +1,4 @@
-use Rattle.std.proofs.Common.{◌≡◌, ◌<◌, ◌∷◌, [], List, IfSome, length, get_or, sym, ap, ◌∙◌, arith}
+use Rattle.std.proofs.Common.{◌≡◌, ◌<◌, ◌∷◌, [], List, IfSome, length, get_or, take, sym, ap, ◌∙◌, arith}
 use Rattle.std.proofs.lemmas.List.Elements.{All-cons, All-nil}
 use Rattle.boundaries.specs.Heads.{AreHeadsBeside}
 use Rattle.boundaries.specs.Node.{IsHeaded}
@@ -24,7 +24,8 @@ module _ (c : After-header_ref-node) where
   child : (get_or c.entries.result.now c.args.index c.index-entries-index.result).child
       ≡ child_at (entries_at c.args.self.now.nodes c.args.slot) c.args.index
   child =
-      ap (λ (l : List NodeEntry). (get_or l c.args.index c.index-entries-index.result).child) (c.entries.ensures.entries ∙ sym read)
+      let first = entries_from_header c.args.self.now.nodes c.args.slot c.header_ref.result.now c.header_ref.ensures.header in
+      ap (λ (l : List NodeEntry). (get_or l c.args.index c.index-entries-index.result).child) (c.entries.ensures.entries ∙ sym first)
       ∙ sym (child_is _ c.args.index c.index-entries-index.result c.requires.can_insert.within)
 
   first_known : IsKnown (key_at c.args.self.now.keys) c.entry_for.result.key
@@ -53,8 +54,8 @@ head_of-second-requires c =
 
 -- the heads of both keys, where both begin as all others do
 beside : (c : Joined-first) → IfSome c.match-first.heads
-    (AreHeadsBeside (key_at c.args.self.now.keys) (key_heads_of c.header_ref-node.result.now)
-    (c.entry_for.result.key ∷ c.entry_for-2.result.key ∷ []))
+    (λ heads. AreHeadsBeside (key_at c.args.self.now.keys) (key_heads_of c.header_ref-node.result.now)
+    (c.entry_for.result.key ∷ c.entry_for-2.result.key ∷ []) (take 2 heads))
 beside c = elim c.match-first.branch [
   | in-Some-Some w ↦ rw w.heads-is
       (rw w.in-Some-Some.is-0 at c.head_of-first.ensures.head, (rw w.in-Some-Some.is-1 at c.head_of-second.ensures.head, tt))

@@ -15,7 +15,8 @@ read c = c.entries-entries.ensures.entries ∙ sym (entries_from_header c.args.s
 
 pub header_ref-requires-2 : goal.header_ref-requires-2
 header_ref-requires-2 c =
-    record { live = (both c.index-entries-index.result c.index-entries-index-2.result c.requires.can_merge (read c)).live_first }
+    let seen = read (goal.at.header_ref-requires-2 c).After-index-entries-index-2 in
+    record { live = (both c.index-entries-index.result c.index-entries-index-2.result c.requires.can_merge seen).live_first }
 
 pub header_ref-requires-3 : goal.header_ref-requires-3
 header_ref-requires-3 c =
