@@ -1,4 +1,4 @@
-use Rattle.std.proofs.Common.{rules, ◌≡◌, ◌≤◌, ◌<◌, ◌∙◌, ℕ, drop, ◌+◌, ◌-◌, Bool, true, false, List, length, length-drop, filter, get_or, get_or-drop, slice_get, Option, Some, IsTrue, refl, sym, arith}
+use Rattle.std.proofs.Common.{rules, ◌≡◌, ◌≤◌, ◌<◌, ◌∙◌, ℕ, drop, ◌+◌, ◌-◌, Bool, true, false, List, length, length-drop, filter, get_or, get_or-drop, slice_get, Option, Some, IsTrue, refl, subst, sym, arith}
 use Rattle.std.proofs.lemmas.Bool.{eqb-false, eqb-true, true≢false}
 use Rattle.std.proofs.lemmas.Option.{get_or_from_slice_get, slice_get_read, slice_get_within}
 use Rattle.boundaries.specs.Question.{IsRestAt, begun, before_end, bound_after, is_clear}
@@ -178,20 +178,24 @@ module _ (t : ℕ) (c : Joined-step-len t) where
   there = slice_get_read es _ _ c.index-entries-step.result refl step.within is
 
   is_rest : IsRest c.args.store.now node c.step_by-step.result.index q c.args.hint.rest c.if-step-len.rest
-  is_rest = elim c.if-step-len.branch [
-    | then-step-len w ↦ rw w.rest-is (elim c.if-question.branch [
-      | then-question v ↦
-          rest_single c.args.store.now node c.step_by-step.result.index q c.args.hint.rest v.if-question.true
-          (can_step t at_node).can_find.partitioned step.index_is
-      | else-question v ↦
-          let end = eqb-true (c.step_by-step.result.index + 1) v.len.result (sym v.value-is ∙ w.if-step-len.true) in
-          rest_last c.args.store.now node c.step_by-step.result.index q c.args.hint.rest (end ∙ v.len.ensures.len)
-    ])
-    | else-step-len+then-height-eq1 w ↦ rw w.rest-is (rest_next c.args.store.now node c.step_by-step.result.index q c.args.hint.rest
-        w.rest_at.result (more t (record { before = c.before; if-step-len = w.if-step-len })) w.rest_at.ensures.rest)
-    | else-step-len+else-height-eq1 w ↦
-        rw w.rest-is (rest_open c.args.store.now node c.step_by-step.result.index q c.args.hint.rest)
-  ]
+  is_rest =
+      let Is = IsRest c.args.store.now node c.step_by-step.result.index q c.args.hint.rest in
+      elim c.if-step-len.branch [
+        | then-step-len w ↦ subst Is (sym w.rest-is) (elim c.if-question.branch [
+          | then-question v ↦
+              rest_single c.args.store.now node c.step_by-step.result.index q c.args.hint.rest v.if-question.true
+              (can_step t at_node).can_find.partitioned step.index_is
+          | else-question v ↦
+              let end = eqb-true (c.step_by-step.result.index + 1) v.len.result (sym v.value-is ∙ w.if-step-len.true) in
+              rest_last c.args.store.now node c.step_by-step.result.index q c.args.hint.rest (end ∙ v.len.ensures.len)
+        ])
+        | else-step-len+then-height-eq1 w ↦
+            let next = more t (record { before = c.before; if-step-len = w.if-step-len }) in
+            subst Is (sym w.rest-is)
+            (rest_next c.args.store.now node c.step_by-step.result.index q c.args.hint.rest w.rest_at.result next w.rest_at.ensures.rest)
+        | else-step-len+else-height-eq1 w ↦
+            subst Is (sym w.rest-is) (rest_open c.args.store.now node c.step_by-step.result.index q c.args.hint.rest)
+      ]
 
   -- What is told of its items is told of those of the node.
   answered : (result : Option Bool)

@@ -57,6 +57,10 @@ pub slice_bounds-greatest_of-count : goal.slice_bounds-greatest_of-count
 slice_bounds-greatest_of-count t c =
     omega (arith, ordered t (goal.at.slice_bounds-greatest_of-count t c).After-step-last)
 
+pub slice_bounds-greatest_of-start : goal.slice_bounds-greatest_of-start
+slice_bounds-greatest_of-start t c =
+    omega (arith, ordered t (goal.at.slice_bounds-greatest_of-start t c).After-step-last)
+
 pub returns-then-height-eq0 : goal.returns-then-height-eq0
 returns-then-height-eq0 t c =
     let s = (goal.at.returns-then-height-eq0 t c).After-step-last in
@@ -131,6 +135,10 @@ greatest_between-requires t c =
 pub slice_bounds-greatest_of-count-2 : goal.slice_bounds-greatest_of-count-2
 slice_bounds-greatest_of-count-2 t c =
     (apart (halves t (goal.at.slice_bounds-greatest_of-count-2 t c).After-index-entries-last) c.if-first-last.false).0
+
+pub slice_bounds-greatest_of-start-2 : goal.slice_bounds-greatest_of-start-2
+slice_bounds-greatest_of-start-2 t c =
+    (apart (halves t (goal.at.slice_bounds-greatest_of-start-2 t c).After-index-entries-last) c.if-first-last.false).0
 
 pub greatest_from-most-requires : goal.greatest_from-most-requires
 greatest_from-most-requires t c =
