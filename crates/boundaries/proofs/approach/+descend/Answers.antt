@@ -20,7 +20,7 @@ use Rattle.boundaries.proofs.approach.+descend.Goals as goal
 use Rattle.boundaries.proofs.approach.+descend.Goals.{
   After-header_ref-node,
   After-step_by-step,
-  Else-step-len,
+  Joined-question,
   Joined-step-len,
   then-question,
   else-question,
@@ -112,14 +112,14 @@ head_beside-to_head-requires t c =
     }
 
 -- There is a next entry where it is looked at.
-more : (t : ℕ) (c : Else-step-len t)
+more : (t : ℕ) (c : Joined-question t) → c.if-question.value ≡ false
     → c.step_by-step.result.index + 1 < length (entries_of c.header_ref-node.result.now)
-more t c =
-    let step = is_step t (goal.at.Else-step-len t c).After-step_by-step in
+more t c looked =
+    let step = is_step t (goal.at.Joined-question t c).After-step_by-step in
     elim c.if-question.branch [
-      | then-question w ↦ absurd (true≢false (sym w.if-question.true ∙ sym w.value-is ∙ c.if-step-len.false))
+      | then-question w ↦ absurd (true≢false (sym w.if-question.true ∙ sym w.value-is ∙ looked))
       | else-question w ↦
-          let apart = eqb-false (c.step_by-step.result.index + 1) w.len.result (sym w.value-is ∙ c.if-step-len.false) in
+          let apart = eqb-false (c.step_by-step.result.index + 1) w.len.result (sym w.value-is ∙ looked) in
           omega (arith, step.within, apart, w.len.ensures.len)
     ]
 
@@ -131,7 +131,7 @@ rest_at-requires t c =
     record {
       headed = can.can_find.headed;
       to = ends t at.After-header_ref-node;
-      within = more t at.Else-step-len;
+      within = more t at.Joined-question c.if-step-len.false;
       head = head;
     }
 
@@ -190,7 +190,7 @@ module _ (t : ℕ) (c : Joined-step-len t) where
               rest_last c.args.store.now node c.step_by-step.result.index q c.args.hint.rest (end ∙ v.len.ensures.len)
         ])
         | else-step-len+then-height-eq1 w ↦
-            let next = more t (record { before = c.before; if-step-len = w.if-step-len }) in
+            let next = more t (goal.at.Joined-step-len t c).Joined-question w.if-step-len.false in
             subst Is (sym w.rest-is)
             (rest_next c.args.store.now node c.step_by-step.result.index q c.args.hint.rest w.rest_at.result next w.rest_at.ensures.rest)
         | else-step-len+else-height-eq1 w ↦
@@ -218,16 +218,18 @@ descend-requires t c =
     let knows = step.knows e (there t at) in
     let least_some : 1 ≤ HALF_FULL = omega arith in
     let can = child_reached _ _ _ _ _ _ _ _ _ k c.if-height-eq0.false _ _ step.within (is t at) c.requires.asked.searchable least_some in
-    let to = child_partitioned _ _ _ _ _ _ _ _ _ k c.if-height-eq0.false _ _ step.within (is t at) _ c.requires.asked.to in
-    (search rules, (
-      record { searchable = can; to = to; some_below = some_told (p t at) e _ child.describes knows.0 },
-      record {
-        live = live_if_some c.args.store.now.nodes e.child can.some;
-        some = can.some;
-        headed = can.headed;
-        known = knows_child _ _ _ e e.child _ (p t at) c.args.question.now.begin.now _ child refl knows;
-      },
-    ))
+    let to = child_partitioned _ _ _ _ _ _ _ _ _ k c.if-height-eq0.false _ _ step.within (is t at) _ c.requires.asked.to in (
+      search rules,
+      (
+        record { searchable = can; to = to; some_below = some_told (p t at) e _ child.describes knows.0 },
+        record {
+          live = live_if_some c.args.store.now.nodes e.child can.some;
+          some = can.some;
+          headed = can.headed;
+          known = knows_child _ _ _ e e.child _ (p t at) c.args.question.now.begin.now _ child refl knows;
+        },
+      ),
+    )
 
 pub returns-then-height-eq0 : goal.returns-then-height-eq0
 returns-then-height-eq0 t c =

@@ -128,9 +128,11 @@ module _ (t : ℕ) (c : After-index-entries-last t) where
 
 pub greatest_between-requires : goal.greatest_between-requires
 greatest_between-requires t c =
-    let s = (goal.at.greatest_between-requires t c).After-index-entries-last in
-    (search rules, rw (c.new-from.ensures.sought, c.new-to.ensures.sought)
-    (left_from t s, (left_to t s c.if-first-last.true, c.requires.nested)))
+    let s = (goal.at.greatest_between-requires t c).After-index-entries-last in (
+      search rules,
+      rw (c.new-from.ensures.sought, c.new-to.ensures.sought)
+          (left_from t s, (left_to t s c.if-first-last.true, c.requires.nested)),
+    )
 
 pub slice_bounds-greatest_of-count-2 : goal.slice_bounds-greatest_of-count-2
 slice_bounds-greatest_of-count-2 t c =
