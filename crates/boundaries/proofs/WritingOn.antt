@@ -1,5 +1,5 @@
 -- A range is written, run by run: first its boundaries are removed, and at last it is written over.
-use Rattle.std.proofs.Common.{◌≡◌, ℕ, ◌+◌, ◌≤◌, arith, [], ◌∷◌, length, None, Some, refl, sym, ap, ◌∙◌}
+use Rattle.std.proofs.Common.{◌≡◌, ℕ, ◌+◌, ◌≤◌, arith, [], ◌∷◌, length, None, Some, refl, ◌∙◌}
 use Rattle.std.specs.Prelude.{ℤ}
 use Rattle.arena.specs.Arena.{HasRoomFor, wanted_of}
 use Rattle.keys.specs.declared.range.Range.{Range}
