@@ -1,6 +1,6 @@
 -- A tree in which boundaries are stored: it can be searched and changed, and they are stored again once it was.
 use Rattle.std.proofs.Common.{◌≡◌, ℕ, ◌+◌, ◌-◌, ◌*◌, ◌/◌, ◌<◌, ◌≤◌, ◌^◌, inl, inr, true, List, [], ◌∷◌, ◌++◌, None, Option, Some, length, map, option_map, is_some, false, refl, sym, ◌∙◌, ap, subst, arith, append-nil}
-use Rattle.std.specs.Prelude.{ℤ, nat_eq, slice_get}
+use Rattle.std.specs.Prelude.{ℤ, nat_eq, slice_get, Result, Ok, Err, OnOk, is_ok}
 use Rattle.std.specs.List.{All, Contains, IsDistinct}
 use Rattle.std.specs.FinMap as finite
 use Rattle.std.proofs.Math.Nat.{mul-le-mul_left}
@@ -263,6 +263,11 @@ stored_with tree store room more s keys nodes none wider enough =
       raised = raised_stays a b tree.root.slot tree.root.height tree.raised nodes s.raised;
       none_removed = none;
     }
+
+-- what is told where a call went well
+pub ok_holds : {T E P : Type 0} (r : Result T E) → is_ok r ≡ true → OnOk r P → P
+ok_holds (Ok x) went h = h
+ok_holds (Err e) went h = cc
 
 module _ (tree : Tree) (store : Store) (room : ℕ) (s : AreStored tree room) (keys : store.keys.records ≡ tree.store.keys.records)
     (nodes : store.nodes.records ≡ tree.store.nodes.records) (none : store.removed.items ≡ []) where
