@@ -6,10 +6,10 @@ greatest_between-requires c =
     let from = c.requires.from in
     let to = c.requires.to in
     record {
-      from = rw c.new.ensures.sought record { searchable = from.searchable; known = root_known from };
-      to = rw c.new-2.ensures.sought record { searchable = to.searchable; known = root_known to };
-      nested = rw (c.new.ensures.sought, c.new-2.ensures.sought) c.requires.nested;
+      from = rw c.new-from.ensures.sought record { searchable = from.searchable; known = root_known from };
+      to = rw c.new-to.ensures.sought record { searchable = to.searchable; known = root_known to };
+      nested = rw (c.new-from.ensures.sought, c.new-to.ensures.sought) c.requires.nested;
     }
 
 pub returns : goal.returns
-returns c = record { most = rw (c.new.ensures.sought, c.new-2.ensures.sought) at c.greatest_between.ensures.most }
+returns c = record { most = rw (c.new-from.ensures.sought, c.new-to.ensures.sought) at c.greatest_between.ensures.most }

@@ -27,7 +27,7 @@ splice-requires c =
     let can = splices s in record {
       can_splice = can;
       room = simp (length-append, length-take, length-drop)
-          (omega (arith, c.len.ensures.len, c.len.ensures.most, can.within, can.ordered, c.if-splice-FAN_OUT.true));
+          (omega (arith, c.len.ensures.len, c.len.ensures.most, can.within, can.ordered, c.if-splice-len.true));
     }
 
 pub splice_apart-right-requires : goal.splice_apart-right-requires
@@ -36,7 +36,7 @@ splice_apart-right-requires c =
     let can = splices s in record {
       can_splice = can;
       many = simp (length-append, length-take, length-drop)
-            (omega (arith, c.len.ensures.len, can.within, can.ordered, c.if-splice-FAN_OUT.false));
+            (omega (arith, c.len.ensures.len, can.within, can.ordered, c.if-splice-len.false));
     }
 
 pub place-requires : goal.place-requires
@@ -50,9 +50,9 @@ place-requires c =
       room = omega (arith, c.requires.can_splice.room, put.live, put.spare);
     }
 
-pub returns-then-splice-FAN_OUT : goal.returns-then-splice-FAN_OUT
-returns-then-splice-FAN_OUT c =
-    let s = (goal.at.returns-then-splice-FAN_OUT c).After-header_mut-node in
+pub returns-then-splice-len : goal.returns-then-splice-len
+returns-then-splice-len c =
+    let s = (goal.at.returns-then-splice-len c).After-header_mut-node in
     let a = c.args.self.now.nodes in
     let now = c.splice.new.self in
     let can = c.requires.can_splice in
@@ -85,7 +85,7 @@ returns c =
             (headed_header _ old b slot now refl can.sound.headed split.headed.0));
       };
       fits = λ few. (let sum = simp (length-append, length-take, length-drop) at (rw (read s) at few) in
-          absurd (omega (arith, sum, c.len.ensures.len, (splices s).within, (splices s).ordered, c.if-splice-FAN_OUT.false)));
+          absurd (omega (arith, sum, c.len.ensures.len, (splices s).within, (splices s).ordered, c.if-splice-len.false)));
       keeps = record { keys = c.place.ensures.keeps.keys; removed = c.place.ensures.keeps.removed };
     }
   where
