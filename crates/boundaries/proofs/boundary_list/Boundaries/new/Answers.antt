@@ -4,6 +4,7 @@ use Rattle.std.specs.Cmp.{nat_cmp_total}
 use Rattle.std.proofs.lemmas.Int.{to_z-of_z}
 use Rattle.std.specs.Ordering.{nat_cmp}
 use Rattle.arena.specs.Arena.{Record, key_at}
+use Rattle.boundaries.specs.declared.store.Store.{Store}
 use Rattle.boundaries.specs.Item.{item_of}
 use Rattle.boundaries.proofs.LeafChange.{headed_alone}
 use Rattle.boundaries.proofs.Placing.{entries_from_header, placed_spare}
@@ -33,8 +34,9 @@ invariant_of-result c =
     ∙ ap (λ records. finite.len records + 1) c.new-keys.ensures.empty
     ∙ ap (λ n. n + 1) (finite.len-empty nat_cmp (Record (Unit {0}))) in
     let own : c.of.result.key ≡ key = ap (λ x. x.key) c.of.ensures.item in
+    let store : Store = record { keys = keys; nodes = b; removed = c.new-removed.result } in
     let headed = headed_alone (key_at keys) a b slot node c.of.result.key empty n.record n.others c.of-2.ensures.key_heads (rw own here) in
     let item : item_of c.of.result ≡ record { key = key; version = c.args.version } =
     c.of.ensures.item ∙ rw (to_z-of_z w64 c.args.version c.ranges.version) refl in
-    stored_one c.new-tree.result c.store slot key c.args.version c.new-tree.ensures.store c.new-tree.ensures.root c.new-tree.ensures.raised
+    stored_one c.new.result store slot key c.args.version c.new.ensures.store c.new.ensures.root c.new.ensures.raised
     c.new-removed.ensures.empty (rw (entries, c.of-2.ensures.entries) (ap (λ x. x ∷ []) item)) here one headed tree

@@ -194,6 +194,6 @@ returns-clause-changed c =
       items = subst (λ v. IsRaised v was there) (sym version) (raised (before_start keys new) (before_end keys new)
           (start_before_end keys new) first gives.second gives.ended was there
           (part_partitioned (before_start keys new) _ c.requires.can_change.wanted.1.part) (rw (read h) some) gives.some given);
-      filled = λ _. omega (arith, size, c.len.ensures.len, c.if-is_short.false);
+      filled = λ _. omega (arith, size, c.len-is_short.ensures.len, c.if-is_short.false);
       no_fewer = λ high. absurd (omega (arith, high));
     }))
