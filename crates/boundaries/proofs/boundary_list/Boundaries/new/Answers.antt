@@ -39,4 +39,4 @@ invariant_of-result c =
     let item : item_of c.of.result ≡ record { key = key; version = c.args.version } =
     c.of.ensures.item ∙ rw (to_z-of_z w64 c.args.version c.ranges.version) refl in
     stored_one c.new.result store slot key c.args.version c.new.ensures.store c.new.ensures.root c.new.ensures.raised
-    c.new-removed.ensures.empty (rw (entries, c.of-2.ensures.entries) (ap (λ x. x ∷ []) item)) here one headed tree
+    c.new-removed.ensures (rw (entries, c.of-2.ensures.entries) (ap (λ x. x ∷ []) item)) here one headed tree
