@@ -15,19 +15,15 @@ use Rattle.stepmap.proofs.step_map.StepMap.answer_some.Goals.{After-are_above-an
 pub are_above-answered-requires : goal.are_above-answered-requires
 are_above-answered-requires g c =
     let queries = g.L.QueryList.queries c.args.queries.now in
-    let marked = c.in_ok-places.ensures.marked in (
-      search rules,
-      (
-        c.self.invariant.steps.boundaries,
-        (
-          c.as_slice.ensures.fits,
-          subst (λ (ps : List ℕ). All (λ place. IsSomeAnd (slice_get queries place) (λ q. ¬ IsEmpty q.0)) ps)
-              (sym c.as_slice.ensures.value)
-              (places_filled c.args.self.now queries (length c.args.answers.now.items) marked.0 c.in_ok-places.places.items
-              marked.3),
-        ),
-      ),
-    )
+    let marked = c.in_ok-places.ensures.marked in
+    record {
+      boundaries = c.self.invariant.steps.boundaries;
+      few = c.as_slice.ensures.fits;
+      filled = subst (λ (ps : List ℕ). All (λ place. IsSomeAnd (slice_get queries place) (λ q. ¬ IsEmpty q.0)) ps)
+          (sym c.as_slice.ensures.value)
+          (places_filled c.args.self.now queries (length c.args.answers.now.items) marked.0 c.in_ok-places.places.items
+          marked.3);
+    }
 
 -- what was told is right of the queries at the places
 right : (g : Over) (c : After-are_above-answered g)

@@ -16,14 +16,10 @@ filled_alone range version filled =
 
 pub are_above-requires : goal.are_above-requires
 are_above-requires c =
-    let few : 1 ≤ 16 = omega arith in (
-      omega arith,
-      (
-        c.self.invariant.steps.boundaries,
-        (
-          few,
-          filled_alone c.args.range.now (to_z w64 (of_z w64 c.args.version))
-              (λ e. not_both_ways c.is_empty.result (c.is_empty.ensures.empty.1 e) c.if-not-is_empty.true),
-        ),
-      ),
-    )
+    let few : 1 ≤ 16 = omega arith in
+    record {
+      boundaries = c.self.invariant.steps.boundaries;
+      few = few;
+      filled = filled_alone c.args.range.now (to_z w64 (of_z w64 c.args.version))
+          (λ e. not_both_ways c.is_empty.result (c.is_empty.ensures.empty.1 e) c.if-not-is_empty.true);
+    }

@@ -24,20 +24,14 @@ some c = some_ready c.self.inside.ready.items (lengths c.args.range) (is_next c)
 
 pub write-requires : goal.write-requires
 write-requires c =
-    let at = (goal.at.write-requires c).After-pop_front in (
-      omega arith,
-      (
-        c.self.invariant.steps.boundaries,
-        (
-          c.requires.filled,
-          (
-            λ size lt. next_fits c.self.inside.ready.items
-                (lengths c.args.range) size (spare_in c.self.inside.boundaries size) (is_next at) (c.self.invariant.keys size lt),
-            omega (arith, c.self.invariant.boundaries, some at),
-          ),
-        ),
-      ),
-    )
+    let at = (goal.at.write-requires c).After-pop_front in
+    record {
+      boundaries = c.self.invariant.steps.boundaries;
+      filled = c.requires.filled;
+      keys = λ size lt. next_fits c.self.inside.ready.items
+          (lengths c.args.range) size (spare_in c.self.inside.boundaries size) (is_next at) (c.self.invariant.keys size lt);
+      nodes = omega (arith, c.self.invariant.boundaries, some at);
+    }
 
 new_map : (c : After-write) → Steps
 new_map c = steps_of c.write.new.self c.self.inside.edge c.pop_front.new.self.items c.self.inside.cursor.items
