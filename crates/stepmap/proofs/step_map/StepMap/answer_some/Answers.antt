@@ -1,4 +1,4 @@
-use Rattle.std.proofs.Common.{rules, ◌≡◌, ◌++◌, ℕ, Bool, List, length, take, drop, refl, ap, sym, subst, ◌∙◌, arith, slice_get}
+use Rattle.std.proofs.Common.{◌≡◌, ◌++◌, ℕ, Bool, List, length, take, drop, refl, ap, sym, subst, ◌∙◌, arith, slice_get}
 use Rattle.std.specs.Prelude.{◌↔◌, IsTrue, IsSomeAnd, count_by}
 use Rattle.std.specs.List.{All, AllZip}
 use Rattle.std.proofs.Math.Seq.{take-append_seam, drop-append_seam}
