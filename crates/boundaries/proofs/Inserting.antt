@@ -1,11 +1,9 @@
 -- A change to the items of a tree, and the last of a list.
-use Rattle.std.proofs.Common.{◌≡◌, ◌≢◌, ℕ, ◌+◌, ◌≤◌, ◌<◌, ◌^◌, Bool, not, List, [], ◌∷◌, ◌++◌, length, refl, ap, arith}
+use Rattle.std.proofs.Common.{◌≡◌, ◌≢◌, ℕ, ◌+◌, ◌≤◌, ◌<◌, ◌^◌, List, [], ◌∷◌, ◌++◌, length, refl, ap, arith}
 use Rattle.std.specs.FinMap as finite
-use Rattle.std.proofs.lemmas.List.Filters.{length-filter_both}
 use Rattle.arena.specs.Arena.{Arena, spare_of}
 use Rattle.boundaries.specs.declared.node.Node.{Node}
 use Rattle.boundaries.specs.Item.{Item}
-use Rattle.boundaries.specs.Path.{items_below, items_not_below}
 use Rattle.boundaries.specs.Subtree.{items_in}
 use Rattle.boundaries.specs.Bound.{Keys}
 use Rattle.boundaries.specs.Position.{CanReach}
@@ -41,12 +39,6 @@ tree_put a b root height slot above len now room t rooted spare counted some wit
       within = within;
       reserved = rw same at t.reserved;
     }
-
--- those that pass and those that don't are all
-pub length-partitioned : (is_below : ℕ → Bool) (items : List Item)
-    → length (items_below is_below items) + length (items_not_below is_below items) ≡ length items
-length-partitioned is_below items =
-    length-filter_both (λ (x : Item). is_below x.key) (λ (x : Item). not (is_below x.key)) (λ x. refl) items
 
 -- a list that isn't empty ends with an element
 pub record Ended {X : Type 0} (xs : List X) : Type 0 where

@@ -1,7 +1,7 @@
 -- Bounds of which one comes before the other: what is below the first is below the second.
 use Rattle.std.proofs.Common.{◌≡◌, ℕ, Bool, true, false, List, Option, Some, None, option_map, unwrap_or}
 use Rattle.keys.specs.Key.{is_before, IsBefore}
-use Rattle.keys.proofs.callers.KeyOrder.{at_most_before, before_at_most_same, before_trans}
+use Rattle.keys.proofs.callers.KeyOrder.{at_most_before, before_trans}
 use Rattle.boundaries.specs.Bound.{Keys, is_below_at, slot_is_below}
 use Rattle.boundaries.specs.Overwrite.{before_end, before_start}
 use Rattle.boundaries.specs.declared.overwrite.Overwrite.{Overwrite}
@@ -23,16 +23,6 @@ module _ (keys : Keys) where
           → unwrap_or (option_map (is_below_at false end) k) false ≡ true
       of_key None h = h
       of_key (Some k) h = passes_sooner up_to begin end k l h
-
-  -- one that is below the bound before a key is below the bound up to it
-  pub nested_around : (key : List ℕ) (slot : ℕ)
-      → slot_is_below keys false key slot ≡ true → slot_is_below keys true key slot ≡ true
-  nested_around key slot = of_key (key_at keys slot)
-    where
-      of_key : (k : Option (List ℕ)) → unwrap_or (option_map (is_below_at false key) k) false ≡ true
-          → unwrap_or (option_map (is_below_at true key) k) false ≡ true
-      of_key None h = h
-      of_key (Some k) h = before_at_most_same k key h
 
   -- what comes before the start comes before the end
   pub start_before_end : (new : Overwrite) (slot : ℕ) → before_start keys new slot ≡ true → before_end keys new slot ≡ true

@@ -18,8 +18,11 @@ unexpired_all {bound} {count} {edge} {before} {removal} {old} {new} {was} {now} 
       looked = h.looked;
       rest = h.rest ++ c.following;
       front_is = cc (pass, h.front_is, append_assoc c.before h.front (h.first ∷ []));
-      looked_is = cc (following-parts p c.before c.leaf c.following c.items_below c.failing, h.looked_is,
-          append_assoc h.looked h.rest c.following);
+      looked_is = cc (
+        following-parts p c.before c.leaf c.following c.items_below c.failing,
+        h.looked_is,
+        append_assoc h.looked h.rest c.following,
+      );
       looked_at = h.looked_at;
       some = h.some;
       few = h.few;

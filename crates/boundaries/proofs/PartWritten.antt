@@ -160,8 +160,13 @@ module _ (new : Overwrite) (old store : Store) (was now : List Item)
         run_is = rw (between_is starts ends was, rest)
             (filter_around (λ (x : Item). ends x.key) kept part back stays c.failing);
         removed = gives.run_is;
-        now_is = cc (c.now_is, gives.rest, after_too starts ends nested c, passing_all,
-            append_assoc (items_below starts front) kept (items_not_below ends was));
+        now_is = cc (
+          c.now_is,
+          gives.rest,
+          after_too starts ends nested c,
+          passing_all,
+          append_assoc (items_below starts front) kept (items_not_below ends was),
+        );
         first = λ none. filled (front_is ∙ (rw passing_all at none));
         last_is = gives.last_is;
         at_end_is = gives.at_end_is;

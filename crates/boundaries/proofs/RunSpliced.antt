@@ -52,8 +52,12 @@ module _ {old : Store} {slot : ℕ} {o : Overwrite} {run : EntryRun} (can : CanW
   can_splice_run mid nodes stay heads heads_are known beside =
       let headed = headed_stays old mid nodes stay can.sound.headed in
       let there : header_at mid.nodes slot ≡ Some leaf = ap (λ n. header_at n slot) nodes ∙ can.run_is.there in
-      let live : 1 ≤ length (entries_at old.nodes slot) = omega (arith, can.run_is.run_is.some, can.run_is.run_is.end.within,
-      ap length (entries_from_header old.nodes slot leaf can.run_is.there)) in
+      let live : 1 ≤ length (entries_at old.nodes slot) = omega (
+        arith,
+        can.run_is.run_is.some,
+        can.run_is.run_is.end.within,
+        ap length (entries_from_header old.nodes slot leaf can.run_is.there),
+      ) in
       let splices : CanSplice mid.keys leaf splice = record {
         ordered = rw (from, to) can.run_is.run_is.ordered;
         within = rw to can.run_is.run_is.end.within;

@@ -1,9 +1,9 @@
 -- How many slots keys of a size take, and how many are spare for them.
-use Rattle.std.proofs.Common.{◌≡◌, ◌≢◌, ℕ, zero, suc, ◌+◌, ◌<◌, ◌≤◌, ◌==◌, if◌then◌else◌, cond, List, [], ◌∷◌, length, Option, Some, refl, sym, ◌∙◌, ap, subst, inl, inr, arith}
-use Rattle.std.specs.Prelude.{IfSome, nat_eq, Result, Ok, OnOk}
+use Rattle.std.proofs.Common.{◌≡◌, ◌≢◌, ℕ, zero, suc, ◌+◌, ◌<◌, ◌≤◌, ◌==◌, if◌then◌else◌, cond, List, [], ◌∷◌, length, refl, sym, ◌∙◌, ap, subst, inl, inr, arith}
+use Rattle.std.specs.Prelude.{nat_eq, Result, Ok, OnOk}
 use Rattle.std.proofs.lemmas.Result.{IfOk-at_ok}
 use Rattle.std.proofs.lemmas.Bool.{eq-eqb, ne_eqb}
-use Rattle.arena.specs.Arena.{Arena, HasRoomFor, key_at, spare_of, size_of, slots_of, wanted_of}
+use Rattle.arena.specs.Arena.{Arena, HasRoomFor, spare_of, size_of, slots_of, wanted_of}
 use Rattle.arena.specs.declared.size.TheConstants.{MAX_LENGTH}
 use Rattle.arena.proofs.callers.Sizes.{size_fits}
 use Rattle.boundaries.proofs.callers.Times.{once_cases}
@@ -56,25 +56,6 @@ module _ {H : Type 0} (a b : Arena H) (key : List ℕ) where
 
       OnOk-at_ok : {T E : Type 0} {r : Result T E} {x : T} (P : Type 0) → r ≡ Ok x → OnOk r P → P
       OnOk-at_ok P e h = IfOk-at_ok (λ _. P) e h
-
-  -- one was released: one more is spare
-  pub given_back : (slot : ℕ) → key_at a slot ≡ Some key
-      → IfSome (key_at a slot) (λ key. spare_of b (size_of (length key)) ≡ spare_of a (size_of (length key)) + 1)
-      → IfSome (key_at a slot) (λ key. (size : ℕ) → size ≢ size_of (length key) → spare_of b size ≡ spare_of a size)
-      → (size : ℕ) → spare_of a size + takes key size ≤ spare_of b size
-  given_back slot is more others size =
-      let spare = held (λ key. spare_of b (size_of (length key)) ≡ spare_of a (size_of (length key)) + 1) (key_at a slot) is more in
-      elim (same_or_other size (size_of (length key))) [
-        | inl same ↦
-            subst (λ n. spare_of a n + takes key n ≤ spare_of b n) (sym same) (omega (arith, takes_own key, spare))
-        | inr other ↦
-            let e = held (λ key. (size : ℕ) → size ≢ size_of (length key) → spare_of b size ≡ spare_of a size)
-            (key_at a slot) is others size other in
-            omega (arith, e, takes_no_other key size other)
-      ]
-    where
-      held : (P : List ℕ → Type 0) (o : Option (List ℕ)) → o ≡ Some key → IfSome o P → P key
-      held P o e h = subst (λ o. IfSome o P) e h
 
 -- where slots are spare for the begin and the end of a range, and the begin's is taken, one is for the end
 module _ (begin end : ℕ) (old : ℕ → ℕ) (keys : HasRoomFor old (begin ∷ end ∷ [])) where

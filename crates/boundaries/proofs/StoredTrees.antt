@@ -283,7 +283,7 @@ module _ (tree : Tree) (store : Store) (room : ℕ) (s : AreStored tree room) (k
   pub stored_still : spare_of tree.store.nodes 0 ≤ spare_of store.nodes 0 → AreStored (record tree { store = store }) room
   stored_still kept =
       let more : finite.len tree.store.nodes.records + spare_of tree.store.nodes 0
-          ≤ finite.len tree.store.nodes.records + spare_of store.nodes 0 =
+      ≤ finite.len tree.store.nodes.records + spare_of store.nodes 0 =
       omega (arith, kept) in
       stored_with tree store room room s keys nodes none (omega arith)
       (omega (arith, mul-le-mul_left (HALF_FULL - 1) more, s.tree_is.reserved)) s.few

@@ -139,8 +139,8 @@ returns-then-end-len c =
     let es = entries_of c.header_ref-leaf.result.now in
     record {
       run = found at c.is_below_at-ended.result (ended_in_leaf r es c.lower_bound_by_head-end.result c.args.position.following
-      c.is_below_at-ended.result (omega (arith, c.if-end-len.true, c.len.ensures.len))
-      (rw c.past.ensures.bound at c.is_below_at-ended.ensures.is_below));
+          c.is_below_at-ended.result (omega (arith, c.if-end-len.true, c.len.ensures.len))
+          (rw c.past.ensures.bound at c.is_below_at-ended.ensures.is_below));
     }
 
 pub returns-in-Some : goal.returns-in-Some
@@ -150,8 +150,8 @@ returns-in-Some c =
     let es = entries_of c.header_ref-leaf.result.now in
     record {
       run = found at c.is_below.result (ended_after r es c.lower_bound_by_head-end.result c.args.position.following
-      c.is_below.result (omega (arith, c.if-end-len.false, c.len.ensures.len)) ((rw c.past-in-Some.ensures.bound at c.is_below.ensures.is_below)
-      ∙ ap (first_is_below r) (sym c.in-Some.is)));
+          c.is_below.result (omega (arith, c.if-end-len.false, c.len.ensures.len)) ((rw c.past-in-Some.ensures.bound at c.is_below.ensures.is_below)
+          ∙ ap (first_is_below r) (sym c.in-Some.is)));
     }
 
 pub returns-in-None : goal.returns-in-None
@@ -161,5 +161,5 @@ returns-in-None c =
     let es = entries_of c.header_ref-leaf.result.now in
     record {
       run = found at false (ended_after r es c.lower_bound_by_head-end.result c.args.position.following
-      false (omega (arith, c.if-end-len.false, c.len.ensures.len)) (cc (c.in-None.is)));
+          false (omega (arith, c.if-end-len.false, c.len.ensures.len)) (cc (c.in-None.is)));
     }

@@ -52,8 +52,13 @@ pub put_removed-requires : goal.put_removed-requires
 put_removed-requires c =
     let es = c.entries-entries.result.now in
     rw c.requires.can_write.none_removed
-    (omega (arith, length-take (c.args.run.end - c.args.run.begin) (drop c.args.run.begin es), length-drop c.args.run.begin es,
-    c.entries-entries.ensures.most, ap length c.entries-entries.ensures.entries))
+    (omega (
+      arith,
+      length-take (c.args.run.end - c.args.run.begin) (drop c.args.run.begin es),
+      length-drop c.args.run.begin es,
+      c.entries-entries.ensures.most,
+      ap length c.entries-entries.ensures.entries,
+    ))
 
 pub unwrap-start-requires : goal.unwrap-start-requires
 unwrap-start-requires c =
@@ -95,7 +100,7 @@ module _ (c : Joined-run) where
   beside = elim c.match-run.branch [
     | in-Some-Some w ↦ rw w.heads-is (
       target_is_beside (key_at store.keys) (key_at c.place.new.self) (stays_known store.keys c.place.new.self (puts_stay puts)) (key_heads_of can_write.run_is.leaf)
-      new.start.now _ c.of-first.result.key (rw w.in-Some-Some.is-0 at can_write.run_is.run_is.begin_head) there,
+          new.start.now _ c.of-first.result.key (rw w.in-Some-Some.is-0 at can_write.run_is.run_is.begin_head) there,
       tt,
     )
     | in_default w ↦ rw w.heads-is tt
@@ -141,7 +146,7 @@ returns-then-run c =
     let now = here at in
     let keeps = c.splice.ensures.keeps in
     let entries = c.splice.ensures.entries
-        ∙ spliced_is can c.new.result new c.new.ensures.run.0 c.new.ensures.run.1 c.new.ensures.new _ now in
+    ∙ spliced_is can c.new.result new c.new.ensures.run.0 c.new.ensures.run.1 c.new.ensures.new _ now in
     let few = spliced_few can c.new.result new c.new.ensures.run.0 c.new.ensures.run.1 c.new.ensures.new _ now in
     record {
       written = record {
@@ -196,10 +201,10 @@ module _ (c : After-of-second) where
       elim c.match-run.branch [
         | in-Some-Some w ↦ rw w.heads-is (
           target_is_beside (key_at store.keys) (key_at c.place-2.new.self) stay key_heads new.start.now _ c.of-first.result.key
-          (rw w.in-Some-Some.is-0 at can_write.run_is.run_is.begin_head) first_there,
+              (rw w.in-Some-Some.is-0 at can_write.run_is.run_is.begin_head) first_there,
           (
             target_is_beside (key_at store.keys) (key_at c.place-2.new.self) stay key_heads new.end.now _ c.of-second.result.key
-            (rw w.in-Some-Some.is-1 at can_write.run_is.run_is.end_head) second_there,
+                (rw w.in-Some-Some.is-1 at can_write.run_is.run_is.end_head) second_there,
             tt,
           ),
         )
@@ -244,7 +249,7 @@ returns c =
     let now = here at in
     let keeps = c.splice-2.ensures.keeps in
     let entries = c.splice-2.ensures.entries
-        ∙ spliced_is can c.new-2.result new c.new-2.ensures.run.0 c.new-2.ensures.run.1 c.new-2.ensures.new _ now in
+    ∙ spliced_is can c.new-2.result new c.new-2.ensures.run.0 c.new-2.ensures.run.1 c.new-2.ensures.new _ now in
     let few = spliced_few can c.new-2.result new c.new-2.ensures.run.0 c.new-2.ensures.run.1 c.new-2.ensures.new _ now in
     record {
       written = record {

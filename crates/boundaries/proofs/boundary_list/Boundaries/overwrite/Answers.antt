@@ -17,8 +17,11 @@ overwrite-at_end-requires c =
 
 pub release_removed-requires : goal.release_removed-requires
 release_removed-requires c =
-    search (rules, removed_live c.self.inside.tree c.overwrite-at_end.new.self c.args.new.now c.self.invariant c.overwrite-at_end.result
-    c.overwrite-at_end.ensures.written)
+    search (
+      rules,
+      removed_live c.self.inside.tree c.overwrite-at_end.new.self c.args.new.now c.self.invariant c.overwrite-at_end.result
+          c.overwrite-at_end.ensures.written,
+    )
 
 -- what the release does
 released : (c : After-release_removed) → IsReleased c.overwrite-at_end.new.self.store c.release_removed.new.self

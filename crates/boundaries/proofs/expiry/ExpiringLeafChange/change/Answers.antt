@@ -97,8 +97,11 @@ remove_expired-requires c =
     search (rules, c.requires.can_change.none_removed, some_looked t, fits)
 
 pub lengthen_prefix-requires : goal.lengthen_prefix-requires
-lengthen_prefix-requires c = search (rules, c.remove_expired.ensures.headed _ (headed_at _ c.args.store.now.nodes c.args.position.slot
-    c.header_mut-leaf.result.now c.requires.can_change.headed c.header_mut-leaf.ensures.header))
+lengthen_prefix-requires c = search (
+  rules,
+  c.remove_expired.ensures.headed _ (headed_at _ c.args.store.now.nodes c.args.position.slot
+      c.header_mut-leaf.result.now c.requires.can_change.headed c.header_mut-leaf.ensures.header),
+)
 
 pub returns-clause-changed : goal.returns-clause-changed
 returns-clause-changed c =

@@ -99,7 +99,7 @@ returns-then-not-has_first-clause-items c =
     let entries = rw (read h) at cleared.entries in
     let last_is = rw (read h) at cleared.last_is in
     let given = to_z-of_z w64 c.unwrap_or.result (search rules) ∙ c.unwrap_or.ensures
-        ∙ ap (unwrap_or c.args.self.now.new.now.at_end) (to_z-of_z w64 c.clear_run-last.result (search rules)) in
+    ∙ ap (unwrap_or c.args.self.now.new.now.at_end) (to_z-of_z w64 c.clear_run-last.result (search rules)) in
     let store = c.args.store.now in
     let first = first_item (es h) (to_known h).can_find.some in
     let no = c.has_first.ensures.first first.entry (rw (read h) first.there) in
