@@ -6,7 +6,6 @@ use Rattle.std.proofs.lemmas.Bool.{eq-eqb, ne_eqb}
 use Rattle.arena.specs.Arena.{Arena, HasRoomFor, spare_of, size_of, slots_of, wanted_of}
 use Rattle.arena.specs.declared.size.TheConstants.{MAX_LENGTH}
 use Rattle.arena.proofs.callers.Sizes.{size_fits}
-use Rattle.boundaries.proofs.callers.Times.{once_cases}
 use Rattle.boundaries.proofs.Releasing.{same_or_other}
 
 -- how many slots of the size a key takes
@@ -23,15 +22,6 @@ wanted_own n = own (size_of n)
 -- a key takes one slot, of its own size
 takes_own : (key : List ℕ) → takes key (size_of (length key)) ≡ 1
 takes_own key = wanted_own (length key)
-
-takes_no_other : (key : List ℕ) (size : ℕ) → size ≢ size_of (length key) → takes key size ≡ 0
-takes_no_other key size other = none (size_of (length key)) other
-  where
-    none : (own : ℕ) → size ≢ own → 0 + cond (nat_eq own size) 1 0 ≡ 0
-    none own other = elim (once_cases size own) [
-      | inl same ↦ absurd (other (sym same.0))
-      | inr n ↦ omega (arith, n.1)
-    ]
 
 module _ {H : Type 0} (a b : Arena H) (key : List ℕ) where
   -- a key was placed: one slot of its size fewer is spare
