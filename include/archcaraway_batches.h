@@ -98,7 +98,7 @@ int archcaraway_set_try_judge(archcaraway_set *set, int64_t version, const archc
 int archcaraway_batch_new(archcaraway_batch *batch);
 
 /*
- * Adds a transaction behind the others. The keys are copied.
+ * Adds a transaction after the others. The keys are copied.
  *
  * Statuses: OK, ARGUMENT, FRAME_VERSION, FRAME_COUNT, FRAME_KEY_LENGTH, FRAME_INVERTED,
  * FRAME_MEMORY, as archcaraway_set_judge. After any status but OK the batch is as before.

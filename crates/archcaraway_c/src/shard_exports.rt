@@ -1,5 +1,6 @@
-//! The exports over split points. Each writes back the pointer of the handle that it takes. What
-//! lies behind that pointer then, no clause can say; that is said of [`PointsObject`].
+//! The exports over split points. Each writes back the pointer of the handle that it takes. No
+//! clause can say what is at that pointer then. The calls of [`PointsObject`] say it of their
+//! object.
 
 ghost use Rattle.std.specs.Prelude.{◌≡◌, ◌≢◌, pos, length, take};
 ghost use Rattle.serial.specs.Shards.{shards};

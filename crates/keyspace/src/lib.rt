@@ -15,7 +15,7 @@
 //! so no key is copied once it is read. Their ranges are ranked ([`GapRuns`]) when a batch is read,
 //! and not when batches are resolved in sequence.
 //!
-//! [`sort_by_version`] sorts what is [`Versioned`], such as replies.
+//! [`sort_by_version`] sorts [`Versioned`] items, such as replies.
 #![tactic(auto)]
 
 mod answer;

@@ -1,7 +1,7 @@
 -- Order by version. This project's own.
 use Rattle.std.specs.Prelude.{◌≡◌, ℤ, false, int_lt, if◌then◌else◌, List, [], ◌∷◌, fold, ⊤}
 
--- an item put behind those of its version and of lesser ones
+-- an item put after those of its version and of lesser ones
 abbrev pub put_in_order : {X : Type 0} → (X → ℤ) → List X → X → List X
 put_in_order version [] item = item ∷ []
 put_in_order version (first ∷ rest) item =
