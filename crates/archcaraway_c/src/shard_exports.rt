@@ -66,7 +66,7 @@ pub extern "C" fn archcaraway_export_split_points_shards(
     count
 }
 
-/// Clips the batch of a frame to a shard, and writes the frame of the clip and the length of that.
+/// Clips the batch of a frame to a shard, and writes the frame of the clip and its length.
 #[unsafe(no_mangle)]
 pub extern "C" fn archcaraway_export_clip(
     points: PointsHandle,
@@ -97,8 +97,8 @@ pub extern "C" fn archcaraway_export_clip(
     }
 }
 
-/// Combines the replies of all shards to the batch of a frame, and writes the frame of the combined
-/// reply and the length of that, and the shard whose reply is refused or the number of shards.
+/// Combines the replies of all shards to the batch of a frame. Writes the frame of the combined
+/// reply and its length, and the shard whose reply is refused or the number of shards.
 // Two words come before the slices, as in `archcaraway_export_batch_add`.
 #[unsafe(no_mangle)]
 pub extern "C" fn archcaraway_export_combine(

@@ -7,9 +7,9 @@
 //! read: the tables of a batch, whose keys are in the frame. The form has two versions, which
 //! differ in the kind of a batch and in the text of a range.
 //!
-//! No key is copied: a batch keeps the frame that it was read from. If a range is spelled by a
-//! single key, the byte after that key is set to zero once the complete frame is read, so that the
-//! end of the range is in the frame too.
+//! No key is copied: a batch keeps the frame that it was read from. A range may be spelled by a
+//! single key. Then the byte after that key is set to zero once the complete frame is read, so that
+//! the end of the range is in the frame too.
 //!
 //! The layers above use these calls:
 //!
