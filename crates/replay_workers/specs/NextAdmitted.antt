@@ -1,4 +1,4 @@
--- Whose batch goes first when all proxies wait for each other. This project's own.
+-- The proxy whose batch goes first if all proxies wait for each other. This project's own.
 use Rattle.std.specs.Prelude.{◌≡◌, ◌≢◌, ℕ, ◌<◌, ◌<ℤ◌, ◌≤ℤ◌, List, Option, None, Some, slice_get}
 use Rattle.replay_workers.specs.declared.shares.next.Candidate.{Candidate}
 use Rattle.replay_workers.specs.declared.shares.reported_state.Stand.{Stand}
