@@ -161,9 +161,10 @@ check:
 	rt all check --jobs $(JOBS)
 
 # The first part of the full check (.ci/run): every proof, the must-fail edits, the tests and the
-# programs. CONTRIBUTING.md says which toolchains take the proofs that an earlier run has kept.
+# programs, as many at a time as .ci/jobs prints. CONTRIBUTING.md says which toolchains take the
+# proofs that an earlier run has kept.
 test:
-	rt ci
+	RT_JOBS=$${RT_JOBS:-$$(.ci/jobs)} rt ci
 
 # Tries the edits of edits/, which `make test` leaves out: all, or those of CRATES='NAME..'. Best
 # after `make test` or, where `rt ci` takes no names, after `make check`: it takes the proofs that
