@@ -172,7 +172,7 @@ test:
 more-edits:
 	.ci/more-edits $(CRATES)
 
-# Behind `make test`, refuses each allocation in turn to the tests named for it and to the program,
+# After `make test`: refuses each allocation in turn to the tests named for it and to the program,
 # as that has built them.
 refused-memory:
 	.ci/refused-memory
@@ -204,7 +204,7 @@ figures:
 figures-test:
 	.ci/figures
 
-# Behind `make test`, compares the manual pages with what the programs print of their options and
+# After `make test`: compares the manual pages with what the programs print of their options and
 # versions.
 manual-page:
 	.ci/manual-page

@@ -69,7 +69,7 @@ static void flatten(Flat *flat, archcaraway_span *spans, const archcaraway_range
     }
 }
 
-/* Takes memory for so many bytes and ranges, and returns whether there was enough. */
+/* Takes memory for that many bytes and ranges, and returns whether there was enough. */
 static bool make_room(Flat *flat, size_t bytes, size_t ranges) {
     flat->keys = bytes <= FEW_BYTES ? flat->few_keys : (uint8_t *)malloc(bytes);
     flat->spans = ranges <= FEW_RANGES
