@@ -160,7 +160,7 @@ int archcaraway_core_admit_batch(archcaraway_core *core, uint32_t proxy, archcar
 
 /* The proved functions under those above, as in archcaraway.h: they test no pointer. */
 
-/* Where the keys of a range lie among the bytes of the keys of its transaction. */
+/* The positions of the keys of a range among the bytes of the keys of its transaction. */
 typedef struct archcaraway_span {
     size_t begin, begin_length;
     size_t end, end_length;

@@ -15,7 +15,7 @@
 /* A transaction up to this size takes no memory but the stack. */
 enum { FEW_BYTES = 4096, FEW_RANGES = 64 };
 
-/* The keys of a transaction, one after the other, and where those of each range lie. */
+/* The keys of a transaction, one by one, and the positions of those of each range. */
 typedef struct {
     uint8_t *keys;
     archcaraway_span *spans; /* the read ranges, and then the write ranges */
