@@ -1,18 +1,14 @@
 -- Whether room can be made with a later edge: what is counted says it.
-use Rattle.std.proofs.Common.{◌≡◌, ℕ, ◌+◌, ◌*◌, ◌≤◌, ◌<◌, Bool, true, false, List, [], ◌∷◌, length, refl, sym, ◌∙◌, inl, inr, arith}
-use Rattle.std.specs.Prelude.{ℤ, ◌≤ℤ◌, ◌↔◌, int_lt, nat_le, IsTrue}
-use Rattle.std.proofs.lemmas.Int.{ints}
+use Rattle.std.proofs.Common.{◌≡◌, ℕ, ◌+◌, ◌*◌, ◌<◌, Bool, true, false, List, [], length, refl, sym, ◌∙◌, inl, inr, arith}
+use Rattle.std.specs.Prelude.{ℤ, ◌≤ℤ◌, ◌↔◌, nat_le, IsTrue}
 use Rattle.keys.proofs.callers.Booleans.{true_or_false}
 use Rattle.keyspace.specs.Writes.{Write}
-use Rattle.stepmap.specs.Boundary.{Boundary}
 use Rattle.stepmap.specs.StepMap.{Steps, AreSteps}
-use Rattle.stepmap.specs.Sweeping.{unexpired_boundaries}
 use Rattle.stepmap.specs.Limit.{HasRoomFor, after_round, made_room, unexpired_all}
 use Rattle.stepmap.specs.Rooted.{Rooted}
 use Rattle.stepmap.specs.Counting.{live_count}
 use Rattle.stepmap.proofs.Changes.{raise_keeps}
 use Rattle.stepmap.proofs.Preparing.{room_if, no_room_if, room_stays, full_bound}
-use Rattle.boundaries.proofs.callers.Unexpired.{all_shorter}
 
 module _ (ranges : ℕ) (m : Steps) where
   -- without a sweep
