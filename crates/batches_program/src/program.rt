@@ -41,7 +41,7 @@ pub fn run<R: Files<File = File> + Env + Input + AllocGlobal, O: Sink, E: Sink>(
     }
 }
 
-// Does the job of the command line, or prints why it can't.
+// Does what the command line asks for, and tells why if it can't.
 fn do_job<R: Files<File = File> + Input + AllocGlobal, O: Sink, E: Sink>(
     rt: &R,
     job: &Job<'_>,
@@ -73,7 +73,7 @@ fn do_job<R: Files<File = File> + Input + AllocGlobal, O: Sink, E: Sink>(
     }
 }
 
-// Does a conversion, or prints why it can't.
+// Does a conversion, and tells why if it can't.
 fn convert_file<R: Files<File = File> + Input + AllocGlobal, O: Sink, E: Sink>(
     rt: &R,
     line: &JobLine<'_>,
@@ -93,7 +93,7 @@ fn convert_file<R: Files<File = File> + Input + AllocGlobal, O: Sink, E: Sink>(
     }
 }
 
-// Writes the batch that starts a chain at the version, or prints why it can't.
+// Writes the batch that starts a chain at the version, and tells why if it can't.
 fn open_chain<O: Sink, E: Sink>(
     alloc: Global,
     version: i64,

@@ -34,7 +34,7 @@ fn window_one(rt: HostRuntime) -> Result<(), Fail> {
     gives(&rt, "--window 1 file", &batches, expected)
 }
 
-// A read whose snapshot is far below the version of its batch.
+// A read far behind what was written.
 #[test]
 fn window_largest(rt: HostRuntime) -> Result<(), Fail> {
     let batches = ["0>100: W[a,b)", "100>9000000: R[a,b) @99"];

@@ -459,8 +459,8 @@ fn key_or_put(buffer: &mut Vec<u8>, at: Option<KeyAt>, key: &[u8]) -> Result<Key
     }
 }
 
-// Appends the key to the buffer, and returns its position. Returns an error if an allocation fails
-// or the buffer has more than 4 GiB.
+// Appends the key to the buffer, and returns where it lies, or an error if memory is refused or the
+// buffer has more than 4 GiB.
 fn put_key(buffer: &mut Vec<u8>, key: &[u8]) -> Result<KeyAt, AllocError>
     requires short { length key.now ≤ MAX_KEY_LENGTH }
     ensures key { OnOk result (buffer.new.items ≡ buffer.old.items ++ key.now) }

@@ -39,7 +39,7 @@ pub fn run_in<R: Env + AllocGlobal, O: Sink, E: Sink>(rt: &R, out: &mut O, error
     }
 }
 
-// Returns the words of the command line, or none if one of them isn't text.
+// Returns the words of the command line, or none where one of them isn't text.
 fn command_line(rt: &(impl Env + AllocGlobal)) -> Result<Option<Vec<String>>, Fault>
     ensures memory { IfErr result (λ fault. fault ≡ Fault.Memory) }
 {
