@@ -161,9 +161,10 @@ check:
 	rt all check --jobs $(JOBS)
 
 # The first part of the full check (.ci/run): every proof, the must-fail edits, the tests and the
-# programs. CONTRIBUTING.md says which toolchains take the proofs that an earlier run has kept.
+# programs, as many at a time as .ci/jobs prints. CONTRIBUTING.md says which toolchains take the
+# proofs that an earlier run has kept.
 test:
-	rt ci
+	RT_JOBS=$${RT_JOBS:-$$(.ci/jobs)} rt ci
 
 # Tries the edits of edits/, which `make test` leaves out: all, or those of CRATES='NAME..'. Best
 # after `make test` or, where `rt ci` takes no names, after `make check`: it takes the proofs that
@@ -171,7 +172,7 @@ test:
 more-edits:
 	.ci/more-edits $(CRATES)
 
-# Behind `make test`, refuses each allocation in turn to the tests named for it and to the program,
+# After `make test`: refuses each allocation in turn to the tests named for it and to the program,
 # as that has built them.
 refused-memory:
 	.ci/refused-memory
@@ -203,7 +204,7 @@ figures:
 figures-test:
 	.ci/figures
 
-# Behind `make test`, compares the manual pages with what the programs print of their options and
+# After `make test`: compares the manual pages with what the programs print of their options and
 # versions.
 manual-page:
 	.ci/manual-page

@@ -13,7 +13,7 @@ unsigned long strtoul(const char *text, char **end, int base);
 __PTRDIFF_TYPE__ write(int file, const void *bytes, size_t count);
 _Noreturn void abort(void);
 
-/* What stands in the C library behind the three names that are taken over below. */
+/* The functions of the C library under the three names that are taken over below. */
 void *__libc_malloc(size_t size);
 void *__libc_calloc(size_t count, size_t size);
 void *__libc_realloc(void *block, size_t size);

@@ -98,7 +98,7 @@ int archcaraway_set_try_judge(archcaraway_set *set, int64_t version, const archc
 int archcaraway_batch_new(archcaraway_batch *batch);
 
 /*
- * Adds a transaction behind the others. The keys are copied.
+ * Adds a transaction after the others. The keys are copied.
  *
  * Statuses: OK, ARGUMENT, FRAME_VERSION, FRAME_COUNT, FRAME_KEY_LENGTH, FRAME_INVERTED,
  * FRAME_MEMORY, as archcaraway_set_judge. After any status but OK the batch is as before.
@@ -160,7 +160,7 @@ int archcaraway_core_admit_batch(archcaraway_core *core, uint32_t proxy, archcar
 
 /* The proved functions under those above, as in archcaraway.h: they test no pointer. */
 
-/* Where the keys of a range lie among the bytes of the keys of its transaction. */
+/* The positions of the keys of a range among the bytes of the keys of its transaction. */
 typedef struct archcaraway_span {
     size_t begin, begin_length;
     size_t end, end_length;

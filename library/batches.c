@@ -15,7 +15,7 @@
 /* A transaction up to this size takes no memory but the stack. */
 enum { FEW_BYTES = 4096, FEW_RANGES = 64 };
 
-/* The keys of a transaction, one after the other, and where those of each range lie. */
+/* The keys of a transaction, one by one, and the positions of those of each range. */
 typedef struct {
     uint8_t *keys;
     archcaraway_span *spans; /* the read ranges, and then the write ranges */
@@ -69,7 +69,7 @@ static void flatten(Flat *flat, archcaraway_span *spans, const archcaraway_range
     }
 }
 
-/* Takes memory for so many bytes and ranges, and returns whether there was enough. */
+/* Takes memory for that many bytes and ranges, and returns whether there was enough. */
 static bool make_room(Flat *flat, size_t bytes, size_t ranges) {
     flat->keys = bytes <= FEW_BYTES ? flat->few_keys : (uint8_t *)malloc(bytes);
     flat->spans = ranges <= FEW_RANGES

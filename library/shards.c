@@ -26,7 +26,7 @@ static const uint8_t *readable(const uint8_t *bytes) {
 
 static uint8_t *writable(uint8_t *bytes) { return bytes != NULL ? bytes : archcaraway_no_bytes(); }
 
-/* Whether there are bytes behind the pointer of each key. */
+/* Whether there are bytes at the pointer of each key. */
 static bool are_keys(const archcaraway_bytes *keys, size_t count) {
     size_t i;
     if (keys == NULL && count != 0) return false;

@@ -143,7 +143,7 @@ func (s *Set) Boundaries() uint64 {
 	return uint64(C.archcaraway_set_boundaries(&s.handle))
 }
 
-// Stats is what a set or a core tells of itself. A set holds no batches and owes no answers.
+// Stats is what a set or a core reports about itself. A set holds no batches and owes no answers.
 type Stats struct {
 	Boundaries, Limit uint64
 	Version, Edge     int64

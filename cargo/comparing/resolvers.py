@@ -130,7 +130,7 @@ class Plain:
     def run(self, replay: Path, batches: Path, shard: int, options: Sequence[str]) -> Shard:
         """Clips the files to a shard and replays them.
 
-        The bytes after a fault are left as they are, behind the clips before it.
+        The bytes after a fault are unchanged, after the clips before it.
         """
         names = []
         for proxy, content in enumerate(self.contents):

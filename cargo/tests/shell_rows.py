@@ -394,7 +394,7 @@ def alone(*counts: int, versions: str, full: tuple[int, int, int] = (0, 3, 3)) -
     return counted("proxy 0", counts, versions) + counted("all", counts, versions) + resolver(*full)
 
 
-# A summary in place of lines.
+# A summary instead of lines.
 TWO_COUNTED = (
     counted("proxy 0", (2, 1, 1, 0, 0, 0, 0, 0), "0 to 100")
     + counted("proxy 1", (1, 1, 0, 1, 0, 0, 0, 0), "200 to 200")

@@ -1,11 +1,11 @@
-// Runs clients on a store, and records what each of their transactions read, wrote and was told.
+// Runs clients on a store, and records what each of their transactions read, wrote and received.
 //
 //     workloads WORKLOAD FOLDER HISTORY [--clients N] [--seconds S] [--life L] [--window V]
 //               [--limit B] [--isolation serializable|snapshot|none] [--start version|empty]
 //
 // WORKLOAD is transfers, skew or appends. HISTORY grows by one line of JSON before each commit, and
 // by one after it, so that a process that is killed leaves no committed transaction out. The number
-// of a life tells the processes on one folder apart. With 0 seconds all is read once, at the end.
+// of a life distinguishes the processes on one folder. With 0 seconds all is read once, at the end.
 #include <fcntl.h>
 #include <unistd.h>
 
@@ -31,7 +31,7 @@ struct Arguments {
     store::Options options;
 };
 
-// Nanoseconds that all processes of the machine count alike.
+// Nanoseconds that all processes of the machine count in the same way.
 std::int64_t now() {
     const auto since = std::chrono::steady_clock::now().time_since_epoch();
     return std::chrono::duration_cast<std::chrono::nanoseconds>(since).count();

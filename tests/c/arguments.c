@@ -1,5 +1,5 @@
 // What is refused before a call does anything: null, numbers outside their ranges, handles that
-// aren't there, bytes behind a frame.
+// aren't there, bytes after a frame.
 #include <stdlib.h>
 
 #include "chains.h"

@@ -17,7 +17,7 @@ int32_t codec_read_reply(const uint8_t *frame, size_t length, uint8_t *out, size
 
 static uint8_t out[5000000];
 
-// A memory that ends right behind what was asked for, and that moves each time.
+// A memory that ends right after the requested bytes, and that moves each time.
 static uint8_t *grow_by_copy(void *context, uint8_t *bytes, size_t length, size_t capacity) {
     ++*(size_t *)context;
     uint8_t *grown = NULL;
@@ -117,7 +117,7 @@ static size_t spell_again(archcaraway_reply reply) {
 
 // Compares the status with the codec's, and a reply with what the codec writes of it.
 static int compare_reply(const uint8_t *bytes, size_t length) {
-    // A copy with nothing behind it, so that a sanitizer sees a byte too many.
+    // A copy with nothing after it, so that a sanitizer sees a byte too many.
     Bytes exact = copy_bytes(bytes, length);
     archcaraway_reply reply;
     size_t out_length = 0;

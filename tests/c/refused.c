@@ -107,7 +107,7 @@ static size_t refuse_core(const Chain *chain) {
     return number;
 }
 
-// Resolves the batches of the chain by a set, and puts the replies one behind the other.
+// Resolves the batches of the chain by a set, and puts the replies one after another.
 static int run_set(const Chain *chain, Text *replies) {
     static uint8_t reply[100000];
     archcaraway_set set = ARCHCARAWAY_NONE;
@@ -157,7 +157,7 @@ static void append(archcaraway_batch *batch, archcaraway_batch *other) {
 }
 
 // Judges the batches of the chain without frames, each appended to another, and puts the verdicts
-// one behind the other. The first batch has each of its transactions many times.
+// one after another. The first batch has each of its transactions many times.
 static int run_batches(const Chain *chain, Text *said) {
     static uint8_t verdicts[ARCHCARAWAY_MAX_TRANSACTIONS];
     archcaraway_set set = ARCHCARAWAY_NONE;

@@ -1,5 +1,5 @@
 // Sets and cores that start at a version: what they know of the history before it, and what they
-// tell of themselves.
+// report about themselves.
 #include <stdlib.h>
 
 #include "chains.h"

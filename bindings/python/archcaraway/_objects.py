@@ -23,7 +23,7 @@ _Self = TypeVar("_Self", bound="_Owner")
 
 @dataclass(frozen=True)
 class Stats:
-    """What a set or a core tells of itself. A set holds no batches and owes no answers."""
+    """What a set or a core reports about itself. A set holds no batches and owes no answers."""
 
     boundaries: int
     limit: int

@@ -29,7 +29,7 @@ txn_given snapshot marked keys reads writes = record {
   writes = map (range_given keys) writes;
 }
 
--- both keys lie within so many bytes, and neither is too long
+-- both keys are within this number of bytes, and neither is too long
 pub record IsWithin (bytes : ℕ) (span : KeySpan) : Type 0 where
   pub begin : span.begin + span.begin_length ≤ bytes
   pub end : span.end + span.end_length ≤ bytes
@@ -40,7 +40,7 @@ pub record IsWithin (bytes : ℕ) (span : KeySpan) : Type 0 where
 abbrev pub IsRangeOf : List ℕ → KeySpan → Type 0
 IsRangeOf keys span = IsWithin (length keys) span × RangeHolds (range_given keys span)
 
--- the span in a buffer that has so many bytes before these
+-- the span in a buffer, after this number of other bytes
 abbrev pub span_after : ℕ → KeySpan → Span
 span_after before span = record {
   begin = before + span.begin;

@@ -1,4 +1,4 @@
--- What a core behind a handle is seen as, and what it answers. This project's own.
+-- The value of a core that C holds by a handle, and its answers. This project's own.
 use Rattle.std.specs.Prelude.{◌≡◌, ◌≤◌, ◌<◌, ◌<ℤ◌, ◌↔◌, ◌⊎◌, ℕ, ℤ, ◌+◌, pos, List, [], ◌∷◌, ◌++◌, length, Option, Some, None, option_to_list, slice_get, slice_index_or}
 use Rattle.std.specs.List.{sum_by}
 use Rattle.keyspace.specs.declared.batch.Batch.{Batch}

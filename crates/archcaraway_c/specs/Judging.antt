@@ -33,7 +33,7 @@ verdict_number Committed = 2
 abbrev pub verdict_numbers : List Entry → List ℕ
 verdict_numbers entries = map (λ entry. verdict_number entry.verdict) entries
 
--- The verdicts are those of the right reply to the batch, whatever writes the set covers, and the set goes on behind it.
+-- The verdicts are those of the right reply to the batch, whatever writes the set covers, and the set continues after it.
 pub record JudgesBatch (old new : SetState) (batch : Batch) (verdicts : List ℕ) : Type 0 where
   pub reply : Reply
   pub answered : verdicts ≡ verdict_numbers reply.entries
@@ -63,8 +63,8 @@ pub record JudgeStops (when_full : WhenFull) (old new : SetState) (version : ℤ
   pub stop_is : stop ≡ stop_at_set met
   pub at_batch : StopsAt when_full old new batch met
 
--- Why a set doesn't judge transactions at a version, given room for so many verdicts, and what it is then: as before, unless it
--- meets a stop now. A set that refuses what doesn't fit its limit is as before then, too.
+-- Why a set doesn't judge transactions at a version, given room for this number of verdicts. The set is as before, unless it
+-- meets a stop now. It is also as before if it refuses a batch that doesn't fit its limit.
 abbrev pub JudgeRefuses : WhenFull → SetState → SetState → ℤ → List TxnFields → ℕ → Refusal → Type 0
 JudgeRefuses when_full old new version txns room (Stop stop) =
     ((met : SetStop) × (old.stop ≡ Some met) × (stop ≡ stop_at_set met) × (new ≡ old))

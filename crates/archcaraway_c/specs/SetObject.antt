@@ -1,4 +1,4 @@
--- What a conflict set behind a handle answers. This project's own.
+-- The answers of a conflict set that C holds by a handle. This project's own.
 use Rattle.std.specs.Prelude.{◌≡◌, ◌<◌, ◌≤◌, ◌≤ℤ◌, ◌<ℤ◌, ◌⊎◌, ℕ, ℤ, List, ◌++◌, Option, Some, None}
 use Rattle.keyspace.specs.declared.batch.Batch.{Batch}
 use Rattle.keyspace.specs.declared.reply.Reply.{Reply}
@@ -18,8 +18,8 @@ use Rattle.archcaraway_c.specs.declared.refusal.Refusal.TheVariants.{Stop, Wire,
 use Rattle.archcaraway_c.specs.BatchFrame.{IsFrame, IsNoFrame}
 use Rattle.archcaraway_c.specs.Bound.{most_reply_length}
 
--- What holds of the parts of a set behind a handle: it knows the version resolved last, continues as long as there is no stop, and
--- remembers some list of writes.
+-- The parts of a set that C holds: it knows the version resolved last, continues as long as there is no stop, and remembers some
+-- list of writes.
 pub record AreSetParts (set : SetState) (last : ℤ) (stop : Option SetStop) : Type 0 where
   pub resolved : stop ≡ None → set.resolved ≡ last
   pub continues : stop ≡ None → set.stop ≡ None
@@ -60,9 +60,9 @@ MetNow when.Stop old new met = new.stop ≡ Some met
 MetNow when.Refuse old new Memory = new.stop ≡ Some Memory
 MetNow when.Refuse old new ArenaFull = new ≡ old
 
--- The set meets this stop at the batch, or refuses the batch for it. It is `ArenaFull` only if what the batch commits can't be
--- written within the limit: the live writes, these included, have too many boundaries, and a whole round of the sweep makes too
--- little room. It is `Memory` before such a round, or if there is room.
+-- The set meets this stop at the batch, or refuses the batch for it. The stop is `ArenaFull` only if the committed ranges can't
+-- be written within the limit. Then the live writes, these included, have too many boundaries, and a complete round of the sweep
+-- makes too little room. The stop is `Memory` before such a round, or if there is room.
 pub record StopsAt (when_full : WhenFull) (old new : SetState) (batch : Batch) (met : SetStop) : Type 0 where
   pub met_now : MetNow when_full old new met
   pub window : new.window ≡ old.window
@@ -78,8 +78,8 @@ pub record StopsAt (when_full : WhenFull) (old new : SetState) (batch : Batch) (
       (new.map.boundaries ≡ old.map.boundaries)
       ⊎ HasRoomToWrite (with_edge (edge old.window batch) old.map) (committed_ranges batch.txns reply.entries)
 
--- The set meets this stop, or refuses for it, at the batch of the frame, which is above that resolved last and whose reply would
--- have fitted.
+-- The set meets this stop at the batch of the frame, or refuses the batch for it. The batch is above the one resolved last, and
+-- its reply would have fitted.
 pub record StopsNow (when_full : WhenFull) (old new : SetState) (frame : List ℕ) (capacity : ℕ) (stop : StopValue) : Type 0 where
   pub batch : Batch
   pub asked : IsFrame frame batch
@@ -89,8 +89,8 @@ pub record StopsNow (when_full : WhenFull) (old new : SetState) (frame : List �
   pub stop_is : stop ≡ stop_at_set met
   pub at_batch : StopsAt when_full old new batch met
 
--- Why a set refuses a frame, given so many bytes for the reply, and what it is then: as before, unless it meets a stop now. A set
--- that refuses what doesn't fit its limit is as before then, too.
+-- Why a set refuses a frame, given this number of bytes for the reply. The set is as before, unless it meets a stop now. It is
+-- also as before if it refuses a batch that doesn't fit its limit.
 abbrev pub SetRefuses : WhenFull → SetState → SetState → List ℕ → ℕ → Refusal → Type 0
 SetRefuses when_full old new frame capacity (Stop stop) =
     ((met : SetStop) × (old.stop ≡ Some met) × (stop ≡ stop_at_set met) × (new ≡ old))

@@ -54,8 +54,8 @@ abbrev pub IsClippedFrame : List (List ℕ) → ℕ → List ℕ → List ℕ �
 IsClippedFrame points number frame out =
     (clip : Batch) × IsClipTo points number frame clip × SpellsBatch Two out clip
 
--- Why a frame isn't clipped, given so many bytes for the clip. A clip may be too long for a frame, since split points may be longer
--- than the keys of the batch.
+-- Why a frame isn't clipped, given this number of bytes for the clip. A clip may be too long for a frame, since split points may
+-- be longer than the keys of the batch.
 abbrev pub ClipRefuses : List (List ℕ) → ℕ → List ℕ → ℕ → Refusal → Type 0
 ClipRefuses points number frame capacity refused.Argument = length (shards points) ≤ number
 ClipRefuses points number frame capacity (refused.Wire fault) =
@@ -102,7 +102,7 @@ FrontRefuses number bytes (Frame refusal) = ⊥
 FrontRefuses number bytes Behind = ⊥
 FrontRefuses number bytes (Misfit shard cause) = ⊥
 
--- Why the bytes aren't the frames of so many replies: one is none, bytes follow the last, or memory is refused.
+-- Why the bytes aren't the frames of this number of replies: one is none, bytes follow the last, or an allocation failed.
 abbrev pub RepliesRefuse : ℕ → List ℕ → CombineRefusal → Type 0
 RepliesRefuse count bytes (Frame refusal) = refusal ≡ refused.Wire wire.Memory
 RepliesRefuse count bytes (Reply shard fault) =
@@ -120,8 +120,8 @@ EachRefuses b each (Misfit shard cause) = IsFirstMisfit b each shard cause
 EachRefuses b each (Reply shard fault) = ⊥
 EachRefuses b each Behind = ⊥
 
--- Why replies aren't combined, given so many bytes for the frame: the frame of the batch is none, the replies are no frames, one of
--- them isn't a reply to the batch, or the buffer is too small. Memory may be refused instead.
+-- Why replies aren't combined, given this number of bytes for the frame: the frame of the batch is none, the replies are no
+-- frames, one of them isn't a reply to the batch, or the buffer is too small. An allocation may fail instead.
 abbrev pub CombineRefuses : List (List ℕ) → List ℕ → List ℕ → ℕ → CombineRefusal → Type 0
 CombineRefuses points frame bytes capacity (Frame refusal) =
     IsNoFrame frame refusal

@@ -27,7 +27,7 @@ SetStartRefuses window limit version refusal =
     × ((IsTooSmall limit version × (refusal ≡ Stop stop.ArenaFull))
     ⊎ ((¬ IsTooSmall limit version) × (refusal ≡ Stop stop.Memory))))
 
--- likewise no core
+-- the same of a core
 abbrev pub CoreStartRefuses : ℕ → ℤ → ℕ → ℤ → Refusal → Type 0
 CoreStartRefuses proxies window limit version refusal =
     ((¬ AreCoreNumbersAt proxies window limit version) × (refusal ≡ Argument))

@@ -1,4 +1,4 @@
-//! Where the ranges and transactions of tables lie behind others.
+//! The positions of ranges and transactions that are appended to tables.
 
 ghost use Rattle.std.specs.Prelude.{◌≡◌, ◌+◌, ◌<◌, ◌≤◌, ◌^◌, ◌++◌, ℕ, length, map, take, All, OnOk};
 ghost use Rattle.keyspace.specs.storage.Tables.{LiesWithin, AreRows};
@@ -7,8 +7,8 @@ ghost use Rattle.archcaraway_c.specs.Moving.{span_moved, row_moved};
 use keyspace::{Row, Span};
 use std::alloc::AllocError;
 
-/// Appends where spans lie in a buffer that has so many bytes before their own. If memory is
-/// refused, some of them may be there.
+/// Appends the positions of spans in a buffer that has `before` bytes before their own. If an
+/// allocation fails, some of them may be there.
 pub fn push_spans(
     before: usize,
     bytes: usize,
@@ -40,8 +40,8 @@ fn move_span(before: usize, bytes: usize, span: &Span) -> Span
     }
 }
 
-/// Appends rows to tables that have so many spans before theirs. If memory is refused, some of them
-/// may be there.
+/// Appends rows to tables that have `before` spans before theirs. If an allocation fails, some of
+/// them may be there.
 pub fn push_rows(
     before: usize,
     count: usize,

@@ -1,5 +1,5 @@
-//! The exports over a batch. Each writes back the pointer of the handle that it takes. What lies
-//! behind that pointer then, no clause can say; that is said of [`BatchObject`].
+//! The exports over a batch. Each writes back the pointer of the handle that it takes. No clause
+//! can say what is at that pointer then. The calls of [`BatchObject`] say it of their object.
 
 ghost use Rattle.std.specs.Prelude.{◌≡◌, ◌≢◌, ◌⊎◌, ◌+◌, pos, length};
 ghost use Rattle.keyspace.specs.declared.batch.TheConstants.{MAX_TXNS};

@@ -16,8 +16,8 @@ use std::alloc::{AllocError, Global};
 use std::marker::Model;
 use wire::WireError;
 
-/// A batch behind a handle, without versions. Contracts see it as what its transactions say, in
-/// order.
+/// A batch without versions that C holds by a handle. Contracts see the list of the fields of its
+/// transactions.
 #[derive(Drop)]
 pub struct BatchObject {
     alloc: Global,
@@ -49,7 +49,7 @@ impl BatchObject {
         Ok(BatchObject { alloc, tables })
     }
 
-    /// Adds a transaction behind the others. Its read ranges and its write ranges lie among the
+    /// Adds a transaction after the others. Its read ranges and its write ranges lie among the
     /// bytes of its keys.
     ///
     /// The first of these that holds decides. The snapshot is negative: `Wire` of `Version`. There

@@ -34,7 +34,7 @@ impl CombineRefusal {
         }
     }
 
-    /// Returns how many bytes the buffer needs where it is too small, else 0.
+    /// Returns how many bytes the buffer needs if it is too small, else 0.
     pub fn needed(&self) -> usize
         ensures needed { result ≡ combine_needed self.now }
     {

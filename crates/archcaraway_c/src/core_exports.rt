@@ -1,5 +1,5 @@
-//! The exports over a core. Each writes back the pointer of the handle that it takes. What lies
-//! behind that pointer then, no clause can say; that is said of [`CoreObject`].
+//! The exports over a core. Each writes back the pointer of the handle that it takes. No clause can
+//! say what is at that pointer then. The calls of [`CoreObject`] say it of their object.
 
 ghost use Rattle.std.specs.Prelude.{◌≡◌, ◌≢◌, ◌⊎◌, ◌↔◌, ◌<◌, pos, negsuc, length, IfSome};
 ghost use Rattle.keyspace.specs.declared.batch.Batch.{Batch};

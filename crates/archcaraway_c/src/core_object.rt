@@ -28,8 +28,8 @@ use resolver::Core;
 use std::alloc::Global;
 use std::marker::Model;
 
-/// A core behind a handle. An answer that was taken from the core waits here until it fits the
-/// buffer that C gives.
+/// A core that C holds by a handle. An answer that was taken from the core waits here until it fits
+/// the buffer that C gives.
 #[derive(Drop)]
 pub struct CoreObject {
     alloc: Global,

@@ -7,9 +7,9 @@ use crate::points_refusal::PointsRefusal;
 use keys::{Key, MAX_KEY_LENGTH};
 use std::alloc::Global;
 
-/// Copies keys of these lengths, which lie one by one among the bytes. Returns `KeyLength` with the
-/// index of the first key that is too long, `Argument` if the bytes end before the keys do, or
-/// `Memory` if memory is refused, for the first key of which one holds.
+/// Copies keys of these lengths, which are one by one among the bytes. Refuses the first key that
+/// it can't copy, with its index: with `KeyLength` if it is too long, `Argument` if the bytes end
+/// before it does, or `Memory` if an allocation fails.
 pub fn copy_keys(alloc: Global, bytes: &[u8], lengths: &[usize]) -> Result<Vec<Key>, PointsRefusal>
     ensures keys { IfOk result (λ keys. keys.items ≡ keys_given bytes.now lengths.now) }
     ensures refused { IfErr result (λ refusal. KeysRefuse bytes.now lengths.now refusal) }

@@ -11,9 +11,9 @@ use crate::refusal::Refusal;
 use keyspace::{MAX_KEY_LENGTH, Span};
 use wire::WireError;
 
-/// Refuses the first of the ranges that isn't one: with `KeyLength` if a key is too long, else with
-/// `Argument` if a key doesn't lie among the bytes, else with `Inverted` if its end comes before
-/// its begin.
+/// Refuses the first of the ranges that isn't one. If a key is too long, the refusal is
+/// `KeyLength`; else, if a key isn't among the bytes, `Argument`; else, if the end comes before the
+/// begin, `Inverted`.
 pub fn check_ranges(keys: &[u8], given: &[KeySpan]) -> Result<(), Refusal>
     ensures ranges { OnOk result (All (IsRangeOf keys.now) given.now) }
     ensures refused { IfErr result (λ refusal. (span : KeySpanValue) × Contains given.now span
@@ -44,7 +44,7 @@ fn check_range(keys: &[u8], span: &KeySpan) -> Result<(), Refusal>
     Ok(())
 }
 
-// Returns so many of the bytes, from an index on, if there are so many.
+// Returns `count` of the bytes, from an index on, if there are that many.
 fn key_at(keys: &[u8], from: usize, count: usize) -> Option<&[u8]>
     ensures key { IfSome result (λ key. key.now ≡ slice_range keys.now from (from + count)) }
     ensures within { IfSome result (λ _. from + count ≤ length keys.now) }
@@ -56,7 +56,7 @@ fn key_at(keys: &[u8], from: usize, count: usize) -> Option<&[u8]>
     Some(&keys[from..from + count])
 }
 
-/// Returns where the range lies in a buffer that has so many bytes before these.
+/// Returns the position of the range in a buffer that has `before` bytes before these.
 pub fn place_after(before: usize, bytes: usize, span: &KeySpan) -> Span
     requires fits { before + bytes < 2 ^ 32 }
     requires within { IsWithin bytes span.now }

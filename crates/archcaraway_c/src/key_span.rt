@@ -1,6 +1,6 @@
-//! Where the keys of a range lie among the bytes that C gives.
+//! The positions of the keys of a range among the bytes that C gives.
 
-/// Where the keys of a range lie among bytes. The two may share bytes. `archcaraway_span` of
+/// The positions of the keys of a range among bytes. The two may share bytes. `archcaraway_span` of
 /// `library/archcaraway.c`.
 #[repr(C)]
 #[derive(Clone, Copy, Debug, PartialEq, Eq)]

@@ -1,8 +1,8 @@
 //! The conflict set and the resolver over values for C.
 //!
 //! C holds an object of this crate by a handle of one pointer, [`SetHandle`], [`CoreHandle`],
-//! [`BatchHandle`] or [`PointsHandle`]. An export takes the handle by value, works on the object
-//! behind it, and writes its pointer back. `library/archcaraway.c` hides that and tests for null;
+//! [`BatchHandle`] or [`PointsHandle`]. An export takes the handle by value, works on its
+//! object, and writes its pointer back. `library/archcaraway.c` hides that and tests for null;
 //! `include/archcaraway.h` says what C has to promise.
 //!
 //! The objects are plain values: [`SetObject`] is a conflict set that takes a batch as a frame and

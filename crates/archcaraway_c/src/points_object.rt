@@ -17,7 +17,7 @@ use shards::{MAX_SPLIT_POINTS, SplitPoints};
 use std::alloc::Global;
 use std::marker::Model;
 
-/// Split points behind a handle. Contracts see the list of the keys.
+/// Split points that C holds by a handle. Contracts see the list of the keys.
 #[derive(Drop)]
 pub struct PointsObject {
     alloc: Global,

@@ -42,7 +42,7 @@ impl Refusal {
         }
     }
 
-    /// Returns how many bytes the buffer needs where it is too small, else 0.
+    /// Returns how many bytes the buffer needs if it is too small, else 0.
     pub fn needed(&self) -> usize
         ensures needed { result ≡ bytes_needed self.now }
     {

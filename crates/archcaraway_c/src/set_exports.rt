@@ -1,5 +1,5 @@
-//! The exports over a conflict set. Each writes back the pointer of the handle that it takes. What
-//! lies behind that pointer then, no clause can say; that is said of [`SetObject`].
+//! The exports over a conflict set. Each writes back the pointer of the handle that it takes. No
+//! clause can say what is at that pointer then. The calls of [`SetObject`] say it of their object.
 
 ghost use Rattle.std.specs.Prelude.{◌≡◌, ◌≢◌, ◌⊎◌, ◌↔◌, pos, length, take, IfSome};
 ghost use Rattle.conflict.specs.ConflictSet.{SetState};

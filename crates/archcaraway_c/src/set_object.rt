@@ -27,7 +27,7 @@ use std::alloc::Global;
 use std::marker::Model;
 use wire::encode_reply;
 
-/// A conflict set behind a handle. Contracts see it as the state of that set.
+/// A conflict set that C holds by a handle. Contracts see it as the state of that set.
 #[derive(Drop)]
 pub struct SetObject {
     alloc: Global,

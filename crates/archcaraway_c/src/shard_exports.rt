@@ -1,5 +1,6 @@
-//! The exports over split points. Each writes back the pointer of the handle that it takes. What
-//! lies behind that pointer then, no clause can say; that is said of [`PointsObject`].
+//! The exports over split points. Each writes back the pointer of the handle that it takes. No
+//! clause can say what is at that pointer then. The calls of [`PointsObject`] say it of their
+//! object.
 
 ghost use Rattle.std.specs.Prelude.{◌≡◌, ◌≢◌, pos, length, take};
 ghost use Rattle.serial.specs.Shards.{shards};
@@ -65,7 +66,7 @@ pub extern "C" fn archcaraway_export_split_points_shards(
     count
 }
 
-/// Clips the batch of a frame to a shard, and writes the frame of the clip and the length of that.
+/// Clips the batch of a frame to a shard, and writes the frame of the clip and its length.
 #[unsafe(no_mangle)]
 pub extern "C" fn archcaraway_export_clip(
     points: PointsHandle,
@@ -96,8 +97,8 @@ pub extern "C" fn archcaraway_export_clip(
     }
 }
 
-/// Combines the replies of all shards to the batch of a frame, and writes the frame of the combined
-/// reply and the length of that, and the shard whose reply is refused or the number of shards.
+/// Combines the replies of all shards to the batch of a frame. Writes the frame of the combined
+/// reply and its length, and the shard whose reply is refused or the number of shards.
 // Two words come before the slices, as in `archcaraway_export_batch_add`.
 #[unsafe(no_mangle)]
 pub extern "C" fn archcaraway_export_combine(

@@ -1,5 +1,5 @@
-//! The exports that create an object which starts at a version. What lies behind the pointer that
-//! they write, no clause can say; that is said of [`SetObject`] and [`CoreObject`].
+//! The exports that create an object which starts at a version. No clause can say what is at the
+//! pointer that they write. The calls of [`SetObject`] and [`CoreObject`] say it of their object.
 
 ghost use Rattle.std.specs.Prelude.{◌≡◌, ◌⊎◌, ◌↔◌, pos};
 ghost use Rattle.archcaraway_c.specs.Starts.{AreSetNumbersAt, AreCoreNumbersAt, IsTooSmall};

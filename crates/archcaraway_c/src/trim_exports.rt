@@ -1,5 +1,5 @@
 //! The export that frees memory. It writes back the pointer of the handle that it takes. No clause
-//! can say that the set behind that pointer is as before; `SetObject::trim` says it.
+//! can say that the set at that pointer is as before; `SetObject::trim` says it.
 
 ghost use Rattle.std.specs.Prelude.{◌≡◌, ◌⊎◌, pos};
 

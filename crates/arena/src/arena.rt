@@ -85,8 +85,7 @@ impl<H: Copy, A: Allocator + Copy> Arena<H, A> {
             → spare_of self.old size < wanted_of lengths.now size
             → spare_of self.new size < wanted_of lengths.now size + slots_of size }
 
-        // It is refused `TooLong` before any memory is taken, and `Memory` only where some is
-        // wanted.
+        // It is refused `TooLong` before any memory is taken, and `Memory` only if some is wanted.
         ensures too_long { (result ≡ Err ArenaError.TooLong)
             ↔ Any (λ n. MAX_LENGTH < n) lengths.now }
         ensures unchanged { result ≡ Err ArenaError.TooLong → self.new ≡ self.old }
@@ -115,15 +114,15 @@ impl<H: Copy, A: Allocator + Copy> Arena<H, A> {
         ensures most { spare_of self.old (size_of length) < count
             → spare_of self.new (size_of length) < count + slots_of (size_of length) }
 
-        // It is refused `Memory` alone, and only where some is wanted.
+        // It is refused `Memory` alone, and only if some is wanted.
         ensures enough { count ≤ spare_of self.old (size_of length) → IsOk result }
         ensures memory { IsOkUnless result ArenaError.Memory }
     {
         self.fill_up(size_of(length), count)
     }
 
-    /// Adds a record, in a slot that was not live. It takes no memory where a slot of the key's
-    /// size is spare.
+    /// Adds a record, in a slot that was not live. It takes no memory if a slot of the key's size
+    /// is spare.
     pub fn place(&mut self, header: H, key: &[u8]) -> Result<Slot, ArenaError>
         ensures was_free { IfOk result (λ slot. record_at self.old slot ≡ None) }
         ensures placed { IfOk result (λ slot. self.new.records
@@ -133,15 +132,15 @@ impl<H: Copy, A: Allocator + Copy> Arena<H, A> {
         ensures others { IfOk result (λ slot. (other : ℕ) → other ≢ slot
             → record_at self.new other ≡ record_at self.old other) }
 
-        // It uses one spare slot, of a new chunk where none was spare.
+        // It uses one spare slot, of a new chunk if none was spare.
         ensures spare { OnOk result (let size = size_of (length key.now) in spare_of self.new size
             + 1
             ≡ (if spare_of self.old size == 0 then slots_of size else spare_of self.old size)) }
         ensures other_sizes { OnOk result ((size : ℕ) → size ≢ size_of (length key.now)
             → spare_of self.new size ≡ spare_of self.old size) }
 
-        // It is refused `TooLong` for a longer key alone, and `Memory` only where no slot of the
-        // size is spare.
+        // It is refused `TooLong` for a longer key alone, and `Memory` only if no slot of the size
+        // is spare.
         ensures enough { length key.now ≤ MAX_LENGTH
             → 0 < spare_of self.old (size_of (length key.now))
             → IsOk result }
@@ -269,7 +268,7 @@ impl<H: Copy, A: Allocator + Copy> Arena<H, A> {
         Ok(())
     }
 
-    // Adds a chunk where no slot of the size is spare.
+    // Adds a chunk if no slot of the size is spare.
     fn spare_one(&mut self, size: usize) -> Result<(), ArenaError>
         requires size { size < SIZES }
         ensures some { OnOk result (0 < spare_of self.new size) }

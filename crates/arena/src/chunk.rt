@@ -64,7 +64,7 @@ fn write_at(bytes: &mut [u8], from: usize, key: &[u8])
     bytes[from..from + key.len()].copy_from_slice(key);
 }
 
-/// Fills the bytes with zeros where there are none.
+/// Fills the bytes with zeros if there are none.
 fn make_bytes<A: Allocator>(bytes: &mut Vec<u8, A>)
     requires room { CHUNK_BYTES ≤ vec_capacity bytes.old }
     ensures bytes { bytes.new.items ≡ made_bytes bytes.old.items }
@@ -75,8 +75,8 @@ fn make_bytes<A: Allocator>(bytes: &mut Vec<u8, A>)
     }
 }
 
-/// Writes the key over the bytes from an index on, and makes the bytes before where there are none.
-/// An empty key writes and makes nothing.
+/// Writes the key over the bytes from an index on, and makes the bytes before if there are none. An
+/// empty key writes and makes nothing.
 fn write_key<A: Allocator>(bytes: &mut Vec<u8, A>, from: usize, key: &[u8])
     requires room { CHUNK_BYTES ≤ vec_capacity bytes.old }
     requires within { from + length key.now ≤ length (made_bytes bytes.old.items) }

@@ -59,7 +59,7 @@ pub(crate) fn size_of(length: usize) -> usize
     WIDTHS.iter().filter(|width| **width < length).count()
 }
 
-/// Returns how many of the lengths are of each size, or `TooLong` where one is above `MAX_LENGTH`.
+/// Returns how many of the lengths are of each size, or `TooLong` if one is above `MAX_LENGTH`.
 pub(crate) fn count_sizes(lengths: &[usize]) -> Result<[usize; SIZES], ArenaError>
     ensures counts { IfOk result (λ counts. (size : ℕ) → size < SIZES
         → slice_index counts size ≡ wanted_of lengths.now size) }

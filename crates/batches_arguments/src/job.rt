@@ -18,7 +18,7 @@ pub enum Job<'a> {
         files: Vec<&'a str>,
         json: bool,
     },
-    /// Split points that spread the batches of files evenly over so many resolvers.
+    /// Split points that spread the batches of files evenly over this number of resolvers.
     SplitPoints {
         files: Vec<&'a str>,
         resolvers: usize,

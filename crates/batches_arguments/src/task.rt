@@ -7,6 +7,6 @@ pub enum JobTask {
     Encode,
     /// Frames become lines.
     Decode,
-    /// Frames become a table, with wide keys whole or cut.
+    /// Frames become a table, with wide keys in full or shortened.
     Show { full: bool },
 }

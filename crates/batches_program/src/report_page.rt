@@ -45,7 +45,7 @@ pub fn write_report<R: Files<File = File> + Input + AllocGlobal, O: Sink, E: Sin
     }
 }
 
-// Writes the text to a file, or tells why it can't.
+// Writes the text to a file, or prints why it can't.
 fn save<R: Files<File = File> + AllocGlobal, E: Sink>(
     rt: &R,
     name: &str,

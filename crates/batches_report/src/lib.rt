@@ -1,4 +1,4 @@
-//! Adds up batches and the replies to them, and makes a page that shows the sums: verdicts over
+//! Adds up batches and the replies to them, and makes a page of the sums. It shows verdicts over
 //! versions, snapshots that were too old, sizes of batches, and read ranges that conflict most.
 //!
 //! [`Tally`] takes replies, and then batches. The other calls count what it has, and [`page_of`]

@@ -1,9 +1,9 @@
--- What is told on standard error.
+-- The text on standard error.
 use Rattle.std.specs.Prelude.{◌≡◌, ◌⊎◌, ℕ, ◌<◌, List, [], ◌∷◌, ◌++◌, Option}
 use Rattle.std.specs.Io.KnownBytes.{Appends}
 use Rattle.batches_tasks.specs.declared.progress.FileProgress.{FileProgress}
 
--- the length of the file whose progress is told
+-- the length of the file whose progress is shown
 abbrev pub progress_length : FileProgress → Option ℕ
 progress_length progress = progress.length
 

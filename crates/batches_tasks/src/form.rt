@@ -1,10 +1,10 @@
-//! How what a frame says is printed.
+//! The printed form of a frame.
 
-/// How what a frame says is printed.
+/// The printed form of a frame.
 #[derive(Clone, Copy, Debug, PartialEq, Eq)]
 pub enum OutputForm {
     /// A line of JSON.
     Line,
-    /// A table, with wide keys whole or cut.
+    /// A table, with wide keys in full or shortened.
     Table { full: bool },
 }

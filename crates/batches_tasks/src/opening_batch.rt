@@ -15,9 +15,9 @@ use std::alloc::{AllocError, Global};
 use wire::{Sink, encode_batch, write_and_flush};
 
 /// Writes the frame of the batch that starts a chain at this version, and flushes the output. The
-/// batch has no batch before it, and its one transaction writes every key: so a later read
-/// conflicts exactly if its range isn't empty and its snapshot is below the version, or by a later
-/// write.
+/// batch has no batch before it, and its one transaction writes every key. So a later read
+/// conflicts exactly if it does by a later write, or if its range isn't empty and its snapshot is
+/// below the version.
 pub fn write_opening<W: Sink>(alloc: Global, version: i64, out: &mut W) -> Result<(), Failure>
     requires natural { pos 0 ≤ℤ version }
     ensures frame { OnOk result

@@ -32,7 +32,7 @@ impl FileProgress {
         }
     }
 
-    /// Counts so many bytes more. A failed write changes nothing.
+    /// Counts that many bytes more. A failed write changes nothing.
     pub fn advance<E: Sink>(&mut self, error: &mut E, bytes: usize)
         ensures length { progress_length self.new ≡ progress_length self.old }
         ensures reported { ReportsText (E.given error.old) (E.given error.new)

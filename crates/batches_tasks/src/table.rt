@@ -68,7 +68,7 @@ fn put_range(
     }
 }
 
-// Returns the printed form of a key, cut where it is wide and not wanted in full.
+// Returns the printed form of a key, shortened if it is wide and not wanted in full.
 fn shown(alloc: Global, key: &[u8], full: bool) -> Result<String, AllocError> {
     let mut form = Vec::new(alloc);
     put_key_form(&mut form, key)?;

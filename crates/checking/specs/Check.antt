@@ -1,4 +1,4 @@
--- What a check of all proxies tells. This project's own.
+-- The text of a check of all proxies. This project's own.
 use Rattle.std.specs.Prelude.{◌≡◌, ℕ, ◌+◌, ◌≤◌, ◌⊎◌, List, [], ◌∷◌, ◌++◌, codes, length, slice_index_or}
 use Rattle.std.specs.Fmt.{decimal}
 use Rattle.keyspace.specs.declared.reply.Reply.{Reply}
@@ -25,8 +25,8 @@ last_line batches found =
 abbrev pub count_at : {X : Type 0} → List (List X) → ℕ → ℕ
 count_at lists place = length (slice_index_or lists place [])
 
--- Memory is taken for the proxy of this number: a reply to it is expected or recorded, or it is the last one, behind which the last
--- line is printed.
+-- Memory is taken for the proxy of this number: a reply to it is expected or recorded, or it is the last one, after which the last line is
+-- printed.
 abbrev pub TakesMemory : List (List Reply) → List (List Reply) → ℕ → Type 0
 TakesMemory expected recorded proxy =
     (1 ≤ count_at expected proxy) ⊎ ((1 ≤ count_at recorded proxy) ⊎ (proxy + 1 ≡ length expected))

@@ -24,8 +24,8 @@ pub struct Checked {
 /// Compares the replies that are expected with those that were recorded, each of the two by proxy,
 /// and reports on n batches.
 ///
-/// An error, which says that memory was refused, is the number of the proxy whose differences could
-/// not be reported, or that of the last proxy where it is the last line.
+/// An error says that an allocation failed. It is the number of the proxy whose differences could
+/// not be reported, or that of the last proxy if it failed for the last line.
 pub fn check_all(
     alloc: Global,
     batches: usize,

@@ -16,7 +16,7 @@ use std::alloc::{AllocError, Global};
 /// Returns the differences between the replies that are expected and those that were recorded, in
 /// order of versions, what is unexpected last. Each of the two is sorted by version.
 ///
-/// Takes time of the order of a sort, and no memory where there are no replies.
+/// Takes time of the order of a sort, and no memory if there are no replies.
 pub fn compare(
     alloc: Global,
     expected: &mut [Reply],

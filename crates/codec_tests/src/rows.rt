@@ -20,8 +20,8 @@ pub(crate) enum Way {
     BatchBothWays(WireVersion),
     /// `decode_reply` reads it, and the reply is encoded again.
     ReplyBothWays,
-    /// `Frames` reads it, at most n bytes per call, and its reader fails at the end where that is
-    /// said.
+    /// `Frames` reads it, at most n bytes per call, and its reader fails at the end if the row says
+    /// so.
     Frames(usize, bool),
 }
 

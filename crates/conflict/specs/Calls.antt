@@ -33,8 +33,8 @@ commits_of batch reply = committed_ranges batch.txns reply.entries
 abbrev pub raised_for : ℤ → Batch → Steps → Steps
 raised_for window batch m = with_edge (oldest window batch) m
 
--- The reply is the right one after all writes that the step map covers, and then it also covers what
--- the reply commits. What is committed fits within the limit.
+-- The reply is the right one after all writes that the step map covers. Then the map also covers the
+-- writes that the reply commits, which fit within the limit.
 pub record Detects (window : ℤ) (old new : Steps) (batch : Batch) (reply : Reply) : Type 0 where
   pub judged : (ws : List Write) → MapCovers old ws → Judged window ws batch reply
   pub covers : (ws : List Write) → MapCovers old ws → MapCovers new (ws ++ writes_of batch reply)
@@ -48,7 +48,7 @@ pub record Detects (window : ℤ) (old new : Steps) (batch : Batch) (reply : Rep
   pub edge : new.edge ≡ oldest window batch
   pub limit : new.limit ≡ old.limit
 
--- What the right reply to the batch commits doesn't fit within the limit.
+-- The ranges that the right reply to the batch commits don't fit within the limit.
 pub record IsFull (window : ℤ) (old : Steps) (ws : List Write) (batch : Batch) (reply : Reply)
     : Type 0 where
   pub over : IsOverLimit old.limit (oldest window batch) (ws ++ writes_of batch reply)
@@ -56,9 +56,9 @@ pub record IsFull (window : ℤ) (old : Steps) (ws : List Write) (batch : Batch)
       IsOverLimitUnited old.limit (oldest window batch) ws (commits_of batch reply)
   pub no_room : HasNoRoomToWrite (raised_for window batch old) (commits_of batch reply)
 
--- The batch isn't resolved, for this reason. The step map covers what it covered before. A refused
--- batch leaves it is. A stop for memory comes before a complete round is swept, or what is
--- committed fits then.
+-- The batch isn't resolved, for this reason. The step map covers the same writes as before. A
+-- refused batch leaves it unchanged. If the stop is for memory, the boundaries are unchanged, or the
+-- committed ranges would have fitted.
 pub record Fails (when_full : WhenFull) (window : ℤ) (old new : Steps) (batch : Batch)
     (stop : SetStop) : Type 0 where
   pub covers : (ws : List Write) → MapCovers old ws → MapCovers new ws

@@ -17,8 +17,8 @@ after_writes (range ∷ ranges) version m = after_writes ranges version (after_w
 abbrev pub with_written : List Range → ℤ → Steps → Steps
 with_written ranges version m = after_writes ranges version (after_prepare (map lengths ranges) m)
 
--- The edge was raised to this one. Then ranges that unite what was committed were written, and the sweep looked at three
--- boundaries for each of them and at ten more, and at no others.
+-- The edge was raised to this one, and ranges that unite the committed ones were written. Then the sweep looked at
+-- three boundaries per such range and at ten more, and at no others.
 abbrev pub IsPaced : ℤ → ℤ → Steps → Steps → List Range → Type 0
 IsPaced edge version before now ranges =
     (united : List Range) × Unites united ranges

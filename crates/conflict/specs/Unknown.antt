@@ -61,8 +61,8 @@ unknown_until (negsuc n) = []
 abbrev pub AreUntil : ℤ → List Write → Type 0
 AreUntil version ws = All (λ w. w.version ≤ℤ version) ws
 
--- Whatever was written up to the version: a read range that is hit after it, and after later writes, is also hit after the
--- history that isn't known and the same later writes.
+-- Let any writes come up to the version. A read range that is hit after these and later writes is also hit after the
+-- unknown history and the same later writes.
 abbrev pub HitsCovered : Type 0
 HitsCovered =
     (version : ℤ) (ws later : List Write) (t : Txn) (i : ℕ) → AreUntil version ws →

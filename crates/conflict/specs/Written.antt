@@ -20,8 +20,8 @@ pub record AreRunsOf (keys : List (List ℕ)) (runs : List (ℕ × ℕ)) (ranges
   pub have_begins : All (HaveBegin keys) ranges
   pub are_runs : runs ≡ runs_of keys ranges
 
--- among the keys that have their begins, a range overlaps one of a list exactly if the run of one of these has a gap of
--- its run
+-- Among keys that include the begins of the ranges, a range overlaps one of a list exactly if their runs have a gap in
+-- common.
 abbrev pub RunsDetermineOverlap : Type 0
 RunsDetermineOverlap =
     (keys : List (List ℕ)) (a : Range) (ranges : List Range) → HaveBegin keys a →

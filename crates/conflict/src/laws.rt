@@ -4,8 +4,8 @@ ghost use Rattle.conflict.specs.Written.{RunsDetermineOverlap};
 ghost use Rattle.conflict.specs.InBatch.{HistoryFirst};
 ghost use Rattle.conflict.specs.Unknown.{HitsCovered, CommitsCovered, HitsBelow, HitsFromOn};
 
-/// A range overlaps one of a list exactly if the run of one of these has a gap of its run, where
-/// the keys have the begins of those ranges that aren't empty.
+/// A range overlaps one of a list exactly if its run and the run of one of these have a gap in
+/// common. The gaps are between keys that include the begins of all ranges that aren't empty.
 pub fn runs()
     ensures overlap { RunsDetermineOverlap }
 {

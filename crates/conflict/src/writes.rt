@@ -168,7 +168,7 @@ pub fn write_spans(steps: &mut StepMap, txns: &Txns, spans: &[UnitedSpan], versi
     }
 }
 
-// Returns the united range at an index, or none where there is none.
+// Returns the united range at an index, or none if there is none.
 fn range_at<'a>(txns: &'a Txns, spans: &[UnitedSpan], index: usize) -> Option<HashedRange<'a>>
     requires spanned { (united : List Range) × AreSpanned (ranges_in txns.now) spans.now united }
     ensures range { MatchOption result (length spans.now ≤ index)
@@ -181,7 +181,7 @@ fn range_at<'a>(txns: &'a Txns, spans: &[UnitedSpan], index: usize) -> Option<Ha
     }
 }
 
-// Returns the united range of the span with its hash, which is known where it is one of the batch's
+// Returns the united range of the span with its hash, which is known if it is one of the batch's
 // ranges.
 fn hashed_of<'a>(txns: &'a Txns, span: UnitedSpan) -> HashedRange<'a>
     requires spans { (range : Range) × Spans (ranges_in txns.now) span range }

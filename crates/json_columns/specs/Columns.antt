@@ -1,4 +1,4 @@
--- Where in a line of JSON a fault can be.
+-- The columns of a line of JSON at which a fault can be.
 use Rattle.std.specs.Prelude.{ℕ, ◌+◌, ◌<◌, ◌≤◌, List, length}
 
 -- from 1, for the first byte, to one past the last one

@@ -218,9 +218,9 @@ fn object_of(place: LinePlace) -> LinePlace {
     }
 }
 
-// A refusal shows an unknown name as keys are printed, and cut. The first unknown member of an
-// object is the one that is reported: if its name is that of a member of another object, it is
-// shown as it is, and otherwise it is the first name that no member has.
+// A refusal shows an unknown name as keys are printed, and shortened. It names the first unknown
+// member of an object. If the name is that of a member of another object, it is shown unchanged.
+// Otherwise it is the first name that no member has.
 fn is_sought(name: &str, sought: Sought<'_>) -> bool {
     match sought {
         Sought::Named(other) => name == other,

@@ -1,4 +1,4 @@
-//! Where a text stops being JSON.
+//! The position at which a text stops being JSON.
 
 use crate::json_tokens::{JsonToken, next_token};
 use json::{MAX_DEPTH, Scratch, Value};

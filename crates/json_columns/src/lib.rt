@@ -1,4 +1,4 @@
-//! Where in a line of JSON a fault begins.
+//! The column of a line of JSON at which a fault begins.
 //!
 //! [`column_of`] finds the column of a refusal by `json_lines`, in the tokens of the line. If the
 //! line isn't JSON, it is that of the first token that can't be there.

@@ -31,7 +31,7 @@ quoted_key key = codes "\"" ++ key_form key ++ codes "\""
 abbrev pub after_byte : ℕ → Option (List ℕ) → Option (List ℕ)
 after_byte byte rest = option_map (λ key. byte ∷ key) rest
 
--- where in the form of a byte a text begins
+-- the position in the form of a byte at which a text begins
 pub data Within : Type 0 where
   plain : Within
   after_backslash : Within

@@ -78,8 +78,8 @@ fn put_pair(
     Ok(())
 }
 
-/// Writes a key, as a string of its printed form. That is put together in `form`, whose memory is
-/// used again.
+/// Writes a key as a string: its printed form, which is put together in `form`. The memory of
+/// `form` is reused.
 pub fn put_key(writer: &mut Writer, form: &mut Vec<u8>, key: &[u8]) -> Result<(), AllocError>
     ensures tokens { OnOk result (writer.new.tokens
         ≡ writer.old.tokens ++ (json_tokens (key_json key.now))) }

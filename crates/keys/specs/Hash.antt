@@ -10,11 +10,11 @@ use Rattle.keys.specs.declared.range.Range.{Range}
 abbrev pub mixed_hash : ℕ → ℕ → ℕ
 mixed_hash hash word = ((hash * FACTOR) % 2 ^ 64 + word) % 2 ^ 64
 
--- where the last eight bytes of a key begin; at its begin where it has fewer
+-- the index at which the last eight bytes of a key begin, or 0 if it has fewer
 abbrev pub last_eight : List ℕ → ℕ
 last_eight key = length key - 8
 
--- where the words begin that are mixed in: first, last and middle, and halfway between these
+-- the indices of the words that are mixed in: first, last and middle, and halfway between these
 abbrev pub places_of : List ℕ → List ℕ
 places_of key =
     let last = last_eight key in

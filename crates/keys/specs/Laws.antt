@@ -12,7 +12,7 @@ pub record KeyHeadsDetermine (a b : List ℕ) : Type 0 where
   -- the key with the lesser head comes first
   pub less : head_of a < head_of b → IsBefore a b
   pub at_most : IsAtMost a b → head_of a ≤ head_of b
-  -- where the heads are the same, so are the first eight bytes, with zeros for those that are missing
+  -- if the heads are the same, so are the first eight bytes, with zeros for missing ones
   pub same : head_of a ≡ head_of b → first_eight a ≡ first_eight b
   pub same_long : head_of a ≡ head_of b → 8 ≤ length a → 8 ≤ length b → take 8 a ≡ take 8 b
 

@@ -58,7 +58,7 @@ IsEndHead prefix end head =
     ((take (length prefix) end ≡ prefix) × (head ≡ head_of (drop (length prefix) end)))
     ⊎ ((take (length prefix) end ≢ prefix) × (head ≡ 2 ^ 64 - 1))
 
--- the head of the range, if it isn't the number, tells whether the range begins below the end
+-- the head of the range, if it isn't the number, determines whether the range begins below the end
 pub record HeadsDetermine (ranges : List Range) (end : List ℕ) (head : ℕ) (headed : HeadedIndex) : Type 0 where
   pub less : headed.head < head → IsBefore (begin_at ranges headed.index) end
   pub greater : head < headed.head → IsAtMost end (begin_at ranges headed.index)

@@ -26,8 +26,9 @@ MeetsNone others range = All (λ other. ¬ Meets range other) others
 abbrev pub IsRankedAs : List Range → Range → Range → Type 0
 IsRankedAs written range other = (other ≡ range) ⊎ (IsEmpty other × MeetsNone written range)
 
--- The ranks tell which of the ranges meet the written ones. Each range has the run of what it is ranked as, among keys that have
--- the begins of all these: a written one is ranked as itself, and an empty range has a run that holds no gap.
+-- The ranks determine which of the ranges meet the written ones. Each range is ranked as itself or, if it meets no
+-- written range, as an empty one, whose run holds no gap. A written range is ranked as itself. The runs are among keys
+-- that have the begins of all these.
 pub record AreRankedFor (written ranges : List Range) (ranks : GapRunsView) : Type 0 where
   pub ranked_as : Range → Range
   pub keys : List (List ℕ)

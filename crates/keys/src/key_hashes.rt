@@ -19,8 +19,8 @@ const _: () = prove!(FACTOR == 0xBF58_476D_1CE4_E5B9);
 const HALF: u64 = 0x1_0000_0000;
 
 /// Returns a number of 32 bits made of the length of the key and of five times eight of its bytes,
-/// which begin at its first, last and middle ones and halfway between these. Up to 38 bytes all of
-/// a key tells. It takes no loop.
+/// which begin at its first, last and middle ones and halfway between these. Of a key of up to 38
+/// bytes, all bytes count. It takes no loop.
 pub fn key_hash(key: &[u8]) -> u32
     ensures hash { result ≡ hash_of key.now }
 {

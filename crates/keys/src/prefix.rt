@@ -48,8 +48,8 @@ fn short_head(bytes: &[u8]) -> u64
 
 /// Returns how many bytes both begin with.
 ///
-/// Behind these the next bytes differ, or one of the keys ends. So they tell which key comes first,
-/// as [`crate::laws::common_prefixes`] states.
+/// After these the next bytes differ, or one of the keys ends. So they determine which key comes
+/// first, as [`crate::laws::common_prefixes`] states.
 pub fn common_prefix_len(a: &[u8], b: &[u8]) -> usize
     ensures within { (result ≤ length a.now) × (result ≤ length b.now) }
     ensures same { take result a.now ≡ take result b.now }

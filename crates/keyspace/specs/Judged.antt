@@ -69,14 +69,14 @@ IsReported t verdict = IsTrue t.marked × (verdict ≡ Conflict)
 abbrev pub IsFirstToMeet : List Range → Txn → ℕ → Type 0
 IsFirstToMeet written t i = MeetsEarlier written t i × ((k : ℕ) → k < i → ¬ MeetsEarlier written t k)
 
--- the places that an entry tells
+-- the places of an entry
 pub record HasReport (ws : List Write) (written : List Range) (t : Txn) (e : Entry) : Type 0 where
   -- none unless it must report them
   pub silent : ¬ IsReported t e.verdict → e.places ≡ []
   -- all hits, in increasing order
   pub hits : IsReported t e.verdict → (i : ℕ) → IsHit ws t i
       → IsStrictlyIncreasing e.places × ((k : ℕ) → Contains e.places k ↔ IsHit ws t k)
-  -- where there is no hit, the first range that meets the batch
+  -- if there is no hit, the first range that meets the batch
   pub first : IsReported t e.verdict → ((i : ℕ) → ¬ IsHit ws t i)
       → (i : ℕ) × (e.places ≡ i ∷ []) × IsFirstToMeet written t i
 

@@ -1,4 +1,4 @@
--- In the order in which one reads them aloud.
+-- The reference, in reading order.
 pub mod Places
 pub mod Processed
 pub mod Writes
@@ -12,5 +12,5 @@ pub mod Run
 pub mod Laws
 pub mod Rows
 pub mod Versions
--- Not of the reference.
+-- Not part of the reference.
 pub mod storage

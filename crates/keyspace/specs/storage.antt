@@ -1,5 +1,4 @@
--- How the transactions of a batch are kept and their ranges numbered, in the order in which one reads them aloud, and order by version.
--- This project's own.
+-- How a batch keeps its transactions and numbers their ranges, in reading order, and then order by version. This project's own.
 pub mod BatchRanges
 pub mod Fields
 pub mod Tables

@@ -58,10 +58,10 @@ impl Batch {
     }
 
     /// Puts transactions together in this order, and creates a batch of them, or returns an error
-    /// if it is outside its limits. The versions are looked at first: [`LimitError::Version`] if
-    /// one of them is outside its limits, else [`LimitError::Count`] if there are more than
-    /// [`MAX_TXNS`] transactions, else [`LimitError::Memory`] if memory is refused or the keys have
-    /// more than 4 GiB.
+    /// if it is outside its limits. The error is [`LimitError::Version`] if a version is outside
+    /// its limits, else [`LimitError::Count`] if there are more than [`MAX_TXNS`] transactions.
+    /// Otherwise it is [`LimitError::Memory`]: an allocation failed, or the keys have more than 4
+    /// GiB.
     pub fn checked(
         alloc: Global,
         previous: i64,

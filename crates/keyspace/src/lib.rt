@@ -6,16 +6,16 @@
 //! are kept, and what order by version is. The contracts of the crates above cite them. A crate
 //! above may use the contracts of the types here and the laws of [`laws`].
 //!
-//! [`Txn::checked`] and [`Batch::checked`] take what comes from outside, and return a
-//! [`LimitError`] where it is beyond a limit. Callers that know it to be within the limits have
-//! [`Txn::new`] and [`Batch::new`].
+//! [`Txn::checked`] and [`Batch::checked`] take values from outside, and return a [`LimitError`] if
+//! one is beyond a limit. Callers that know their values to be within the limits have [`Txn::new`]
+//! and [`Batch::new`].
 //!
-//! A batch keeps its transactions as [`Txns`]: one buffer with the bytes of all keys, a [`Span`] a
-//! range, and a [`Row`] a transaction. It lends them as [`TxnRef`], [`RangesRef`] and [`RangeRef`],
-//! so no key is copied once it is read. Their ranges are ranked ([`GapRuns`]) when a batch is read,
-//! and not when batches are resolved in sequence.
+//! A batch keeps its transactions as [`Txns`]: one buffer with the bytes of all keys, a [`Span`]
+//! per range, and a [`Row`] per transaction. It lends them as [`TxnRef`], [`RangesRef`] and
+//! [`RangeRef`], so no key is copied once it is read. Their ranges are ranked ([`GapRuns`]) when a
+//! batch is read, and not when batches are resolved in sequence.
 //!
-//! [`sort_by_version`] sorts what is [`Versioned`], such as replies.
+//! [`sort_by_version`] sorts [`Versioned`] items, such as replies.
 #![tactic(auto)]
 
 mod answer;

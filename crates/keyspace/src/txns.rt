@@ -28,10 +28,11 @@ use std::marker::Model;
 /// The transactions of a batch, in the order in which they are judged. Contracts see the list of
 /// these.
 ///
-/// They lie in one buffer with the bytes of all keys, a table of spans that says where each range
-/// lies in it, and a table with a row for each transaction. What doesn't depend on other batches is
-/// computed once, where the transactions are put together: the order of the write ranges by begins,
-/// which of the gaps between begins each range covers, and the hashes of single keys.
+/// They are in one buffer with the bytes of all keys, a table of spans with the position of each
+/// range in it, and a table with one row per transaction. Some values don't depend on other
+/// batches, and are computed once, when the transactions are put together. These are the order of
+/// the write ranges by begins, the gaps between begins that each range covers, and the hashes of
+/// single keys.
 #[derive(Debug, Drop)]
 pub struct Txns {
     buffer: Vec<u8>,

@@ -6,7 +6,7 @@ ghost use Rattle.keyspace.specs.storage.InOrder.{Rise, in_order_by};
 use crate::reply::Reply;
 use std::alloc::{AllocError, Global};
 
-/// What has a version.
+/// An item with a version.
 pub trait Versioned {
     // The version of this item.
     ghost item_version: { Self → ℤ };
@@ -24,9 +24,8 @@ impl Versioned for Reply {
     }
 }
 
-/// Sorts items by version, those of one version in the order in which they stand. Takes no memory
-/// for up to 20 items. After an error, which says that memory was refused, their order is
-/// unspecified.
+/// Sorts items by version, stably. Takes no memory for up to 20 items. An error says that an
+/// allocation failed. Then their order is unspecified.
 pub fn sort_by_version<T: Versioned>(alloc: Global, items: &mut [T]) -> Result<(), AllocError>
     ensures sorted { OnOk result (items.new ≡ in_order_by T.item_version items.old) }
     ensures rises { OnOk result (Rise T.item_version items.new) }

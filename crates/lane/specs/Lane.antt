@@ -71,7 +71,7 @@ module _ {T : Type 0} where
     pub seen_close : intake.seen_close ≡ true → port.closed ≡ true
     -- an item is seen before it is taken
     pub taken_seen : length intake.taken ≤ intake.seen_sent
-    -- where the close is seen, so is all that was sent
+    -- if the close is seen, so are all sent items
     pub all_seen : intake.seen_close ≡ true → intake.seen_sent ≡ length port.sent
     -- what both did is one log
     pub one_log :

@@ -39,8 +39,8 @@ module _ {T : Type 0} where
     pub head : slice_index words 0 ≡ length intake.taken
     pub tail : slice_index words 16 ≡ tail_word (length port.sent) port.closed
     pub agree : Agree port intake (length homes)
-    -- the slot of each item from the next one to be taken on, once round, has that item if it was sent, except the
-    -- two that an end may hold
+    -- The slot of each item, from the next one to be taken on and once round, has that item if it was sent, except the
+    -- two that an end may hold.
     pub slots : (k : ℕ) → length intake.taken ≤ k → k < length intake.taken + length homes
         → (k ≡ length intake.taken → intake.next ≡ None) → (k ≡ length port.sent → port.holds ≡ false)
         → get_elem? homes (k % length homes) ≡ some (some (slice_get port.sent k))

@@ -15,8 +15,7 @@ use crossbeam_utils::CachePadded;
 use std::alloc::Global;
 use std::sync::Arc;
 
-/// Makes a lane that holds at most `capacity` items, and returns its two ends. Each may go to a
-/// thread of its own.
+/// Makes a lane that holds at most `capacity` items, and returns its two ends, for two threads.
 pub fn lane<T: Drop>(alloc: Global, capacity: usize) -> Result<(Port<T>, Intake<T>), LaneError>
     requires some { 0 < capacity }
     requires limit { capacity ≤ MAX_CAPACITY }

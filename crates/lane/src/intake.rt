@@ -81,7 +81,7 @@ impl<T> Intake<T> {
     }
 
     /// Takes the next item, together with the port of the same lane: the answer is `Empty` or `End`
-    /// only if all that was sent is taken. Where it looks, it sees what is.
+    /// only if all sent items are taken. If it looks, it sees the actual state.
     pub fn take_beside(&mut self, port: &mut Port<T>) -> Taken<T>
         requires same_lane { SameLane port.old self.old }
         ensures meets { Meets port.old self.old port.new self.new }

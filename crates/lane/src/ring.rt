@@ -22,9 +22,10 @@ pub(crate) const WORDS: usize = 17;
 
 pub(crate) const CLOSING_BIT: u64 = 1 << 63;
 
-/// What the port's token knows: what was sent, and whether the lane is closed; how many items its
-/// last look found taken, and how many looks there were; the moves up to its last look or send;
-/// whether it holds the slot of the next item. No value of it is made.
+/// The knowledge of the port's token. It has the items sent, and whether the lane is closed. Of its
+/// looks it has their number and how many items the last one found taken. It also has the moves up
+/// to its last look or send, and whether it holds the slot of the next item. No value of it is
+/// made.
 pub(crate) struct PortKnows<T> {
     pub(crate) sent: LinkedList<T>,
     pub(crate) closed: bool,
@@ -34,9 +35,9 @@ pub(crate) struct PortKnows<T> {
     pub(crate) holds: bool,
 }
 
-/// What the intake's token knows: what was taken; how many items its last look found sent, whether
-/// it found the close, and how many looks there were; the moves up to its last look or take; the
-/// item whose slot it holds. No value of it is made.
+/// The knowledge of the intake's token. It has the items taken. Of its looks it has their number,
+/// how many items the last one found sent, and whether it found the close. It also has the moves up
+/// to its last look or take, and the item whose slot it holds. No value of it is made.
 pub(crate) struct IntakeKnows<T> {
     pub(crate) taken: LinkedList<T>,
     pub(crate) seen_sent: u64,
@@ -46,8 +47,8 @@ pub(crate) struct IntakeKnows<T> {
     pub(crate) next: Option<T>,
 }
 
-/// What a token knows: which of the two it is, or both, and the number of the other tokens, which
-/// only the one that takes knows. No value of it is made.
+/// The knowledge of a token: which of the two it is, or both, and the number of the other tokens,
+/// which only the one that takes knows. No value of it is made.
 pub(crate) struct Known<T> {
     pub(crate) sends: bool,
     pub(crate) takes: bool,

@@ -1,8 +1,8 @@
-//! The limits that a resolver is made with, and the stop that names the one that was met.
+//! The greatest settings of a resolver, and the reasons why it stops.
 //!
-//! The crates that keep to a limit export it too, so their callers need no other: a resolver its
-//! proxies and its [`Stop`], a lane its capacity, a conflict set its window, a step map its limit.
-//! A crate that reads settings or prints a stop, and resolves nothing, uses this one alone.
+//! The crates that keep to a limit export it too. `resolver` has the number of proxies and
+//! [`Stop`], `lane` the capacity, `conflict` the window, and `stepmap` the limit of boundaries.
+//! Crates that only read settings or print a stop use this crate instead.
 #![tactic(auto)]
 
 mod settings;

@@ -5,7 +5,7 @@ pub const MAX_PROXIES: usize = 64;
 
 const _: () = prove!(MAX_PROXIES == 64);
 
-/// The largest capacity of a lane.
+/// The greatest capacity of a lane, in items.
 pub const MAX_CAPACITY: usize = 1_024;
 
 const _: () = prove!(MAX_CAPACITY == 1_024);

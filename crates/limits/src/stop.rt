@@ -8,11 +8,11 @@ use thiserror::Error;
 /// Why a resolver takes no more batches.
 #[derive(Clone, Copy, Debug, PartialEq, Eq, Hash, Error)]
 pub enum Stop {
-    /// Memory was refused, or a count came to its end: 8,388,608 chunks of an arena, or 2^64 - 65
-    /// answers owed.
+    /// An allocation failed, or a count reached its limit: 8,388,608 chunks of an arena, or
+    /// 2^64 - 65 answers owed.
     #[error("1 Memory")]
     Memory = 1,
-    /// A batch had to be held, and `chain::MAX_HELD` were held already.
+    /// A batch had to be held, and `chain::MAX_HELD` batches were held already.
     #[error("2 GateFull")]
     GateFull = 2,
     /// The boundaries of the writes within the window exceed the limit.

@@ -54,8 +54,8 @@ IsOneOf first second entry =
 
 -- Of both, for one log. Proxy 0 sent the first batch, proxy 1 the second.
 pub record AreServed (window : ℤ) (log : List Step) (first second : Batch) (served : Served) : Type 0 where
-  -- The transactions that were reported to the proxies as committed can be run one at a time, in the order of commit, and each reads what
-  -- it has read.
+  -- The transactions reported to the proxies as committed can be run one at a time, in commit order, and each reads the
+  -- same values as it did.
   pub serializable : IsSerializable (run window log).processed
   pub proxy_0 : ServedFor window log served.account.complete 0 (first ∷ []) served.first.items
   pub proxy_1 : ServedFor window log served.account.complete 1 (second ∷ []) served.second.items

@@ -1,9 +1,10 @@
 //! How the crates are called: one short function for each, whose contract shows the clauses of the
 //! crate used.
 //!
-//! [`keep_two`] places records in an arena, [`there_and_back`] encodes a batch and decodes it
-//! again, [`through`] sends an item along a lane, [`judge_two`] resolves two batches with a
-//! conflict set, and [`serve_two`] has a resolver serve two proxies. Nothing depends on this crate.
+//! [`keep_two`] places records in an arena. [`there_and_back`] encodes a batch and decodes it
+//! again. [`through`] sends an item along a lane. [`judge_two`] resolves two batches with a
+//! conflict set, and [`serve_two`] serves two proxies with a resolver. Nothing depends on this
+//! crate.
 #![tactic(auto)]
 
 mod arena_use;

@@ -30,9 +30,9 @@ pub struct Served {
 /// window.
 ///
 /// Proxy 0 sends the first batch and proxy 1 the second, and each closes its lane. Then the
-/// resolver takes `turns` turns. After each of them each proxy takes an answer, if one has come. A
-/// turn that answers a stop doesn't end this, since later turns still hand out. The only refusal is
-/// that of memory.
+/// resolver takes `turns` turns. After each turn each proxy takes an answer, if one has come. A
+/// turn that returns a stop doesn't end this, since later turns still deliver answers. The only
+/// error is a failed allocation.
 pub fn serve_two(
     alloc: Global,
     first: Batch,

@@ -32,7 +32,7 @@ abbrev pub is_read_if_any : List (List ℕ) → List (List ℕ) → Option (List
 is_read_if_any files replies points None = false
 is_read_if_any files replies points (Some name) = is_read files replies points name
 
--- whether a file of batches or of replies, or that of split points, is also the file for the output or for the summary, or one for records
+-- whether the output, the summary or a record is written to a file of batches, a file of replies or the file of split points
 abbrev pub writes_input : List (List ℕ) → List (List ℕ) → Option (List ℕ) → Option (List ℕ) → Option (List ℕ) → List (List ℕ) → Bool
 writes_input files replies points output summary records =
     is_read_if_any files replies points output

@@ -3,6 +3,7 @@
 ghost use Rattle.std.specs.Prelude.{◌≡◌, ◌≢◌, ◌<◌, ◌≤◌, Some, length, take, IfErr, IfOk, IsTrue};
 ghost use Rattle.std.specs.Prelude.{not};
 ghost use Rattle.keyspace.specs.declared.reply.Reply.{Reply as ReplyValue};
+ghost use Rattle.wire.specs.FrameLength.{frame_length};
 ghost use Rattle.wire.specs.Reading.{batch_fault, reply_fault};
 ghost use Rattle.wire.specs.Spelling.{SpellsReply};
 ghost use Rattle.replay_diagnosis.specs.Content.{BeginsAsJson, IsFindingAt, IsNoJson, IsUnreadable};

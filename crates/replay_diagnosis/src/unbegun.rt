@@ -18,8 +18,9 @@ const SOMEWHERE: Position = Position {
 /// Reads frames of batches from the beginning of a file to its end, as long as none of them begins
 /// a chain. Returns which versions the batches follow.
 ///
-/// Returns `None` as soon as it reads a batch that follows version -1 or anything other than a
-/// frame of a batch, if an allocation fails, and if the file has `most` frames or more.
+/// Returns `None` as soon as it reads a batch that follows version -1, or anything other than a
+/// frame of a batch. It also returns `None` if an allocation fails, or if the file has `most`
+/// frames or more.
 pub fn examine_unbegun<R: Source>(alloc: Global, reader: &mut R, most: usize) -> Option<FileBatches>
     ensures batches { IfSome result (ContainsBatches (R.remaining reader.old)) }
 {

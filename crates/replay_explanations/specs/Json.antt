@@ -36,8 +36,8 @@ write_json w = codes ",\"write\":{\"range\":" ++ range_json w.range ++ source_js
 abbrev pub origin_json : ℤ → Written → List ℕ
 origin_json version w = if int_eq w.version version then codes ",\"same_batch\":true}" else codes ",\"same_batch\":false}"
 
--- the object of read range i of the transaction at index j of the batch of this version, given the newest write that explains it and the
--- number of other writes
+-- The object of read range i of the transaction at index j of the batch of this version. The newest write that explains it is given, and
+-- the number of other writes.
 abbrev pub conflict_json : ℤ → ℕ → ℕ → Range → Option Written → ℕ → List ℕ
 conflict_json version j i range None others = []
 conflict_json version j i range (Some w) others =

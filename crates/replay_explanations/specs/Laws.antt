@@ -17,7 +17,7 @@ EachConflictHasALine = (form : ExplanationForm) (window : ℤ) (ps : List Proces
     → e.verdict ≡ Conflict → conflict_lines form (ps ++ p ∷ []) p.batch j t ≢ []
 
 -- A read range has a line exactly if the reference resolver finds it in conflict: with a write of an earlier batch above the snapshot, or
--- of an earlier transaction of its own batch. `conflict_lines` has the lines of all read ranges of its transaction.
+-- of an earlier transaction of the same batch. `conflict_lines` has the lines of all read ranges of its transaction.
 abbrev pub LineIfInConflict : Type 0
 LineIfInConflict = (form : ExplanationForm) (window : ℤ) (ps : List Processed) (p : Processed) → IsChain window (ps ++ p ∷ [])
     → (j i : ℕ) (t : Txn) → slice_get p.batch.txns j ≡ Some t

@@ -61,7 +61,7 @@ indices_from first (suc n) = first ∷ indices_from (first + 1) n
 abbrev pub line_at : ExplanationForm → List Processed → Batch → ℕ → Txn → ℕ → List ℕ
 line_at form ps b j t i = read_line form b.version j i (slice_get t.reads i) (explaining_writes ps b j i)
 
--- the lines of the conflicting transaction at index j of that batch, in the order of its read ranges, whether or not it has a report
+-- the lines of the conflicting transaction at index j of that batch, in the order of its read ranges, also without a report
 abbrev pub conflict_lines : ExplanationForm → List Processed → Batch → ℕ → Txn → List ℕ
 conflict_lines form ps b j t = flat_map (λ i. line_at form ps b j t i) (indices_from 0 (length t.reads))
 

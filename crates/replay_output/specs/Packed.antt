@@ -5,7 +5,7 @@ use Rattle.replay_output.specs.declared.line.packed.word.TheConstants.{FIRST_WOR
 use Rattle.replay_output.specs.declared.line.packed.word.Word.{Word}
 use Rattle.replay_output.specs.declared.line.packed.word.Word.TheVariants.{Committed, TooOld, Conflict, CommittedJson, TooOldJson, ConflictJson, PlacesJson}
 
--- the text of a word, behind what parts it from the entry before
+-- the text of a word, after its separator from the entry before
 abbrev pub word_text : Word → List ℕ
 word_text Committed = codes " committed"
 word_text TooOld = codes " tooold"

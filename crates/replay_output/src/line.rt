@@ -24,7 +24,7 @@ mod packed;
 
 pub use packed::PackedText;
 
-/// The line of an answer to a proxy, ready to be printed, or the reply where it is kept.
+/// The line of an answer to a proxy, ready to be printed, or the reply if that is kept.
 #[derive(Drop)]
 pub struct Line {
     /// The answer of the line. It has no bytes.
@@ -40,7 +40,7 @@ pub struct Line {
 impl Line {
     /// Makes the line of an answer to this proxy, in this style.
     ///
-    /// Returns none where memory is refused, or where the frame exceeds
+    /// Returns none if an allocation fails, or if the frame exceeds
     /// [`MAX_BODY_LENGTH`](wire::MAX_BODY_LENGTH). The right reply to a batch that was read doesn't
     /// exceed it.
     pub fn new(alloc: Global, style: Style, proxy: usize, answer: Answer) -> Option<Self>

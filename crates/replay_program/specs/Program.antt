@@ -1,4 +1,4 @@
--- How the program ends, beside the words of its command line and the bytes of its files. This project's own.
+-- How the program ends, by its command line and the bytes of its files. This project's own.
 use Rattle.std.specs.Prelude.{◌≡◌, ◌≢◌, ◌⊎◌, ℕ, ◌≤◌, Bool, true, false, List, codes, length, map, Option, None, Some, IsSomeAnd, option_map, slice_get}
 use Rattle.std.specs.Borrow.{Bor}
 use Rattle.std.specs.Io.KnownBytes.{Keeps}
@@ -31,12 +31,13 @@ use Rattle.replay_program.specs.Verbose.{IsExplained, SaysHeld}
 use Rattle.replay_stream.specs.declared.recorder.Recorder.{Recorder}
 use Rattle.replay_stream.specs.Sinks.{SinkState}
 
--- What files report, by name. A file that is read: its bytes, and whether it was opened or can't be opened. A file that is written: the
--- bytes that its new writer was given, and whether it was created or can't be created.
+-- What files report, by name.
 pub record NamedFiles : Type 1 where
+  -- of a file that is read: its bytes, and whether it was opened or can't be
   pub contents : List ℕ → Option (List ℕ)
   pub has_opened : List ℕ → Type 0
   pub cannot_open : List ℕ → Type 0
+  -- of a file that is written: the bytes that its new writer was given, and whether it was created or can't be
   pub begun : List ℕ → Option (List ℕ)
   pub has_created : List ℕ → Type 0
   pub cannot_create : List ℕ → Type 0
@@ -72,14 +73,14 @@ pub record DidNotOpen (has_opened cannot_open : List ℕ → Type 0) (names : Li
   pub nothing_printed : out.after ≡ out.before
   pub reported : ReportsLine error (opening_line (opening.CannotOpen proxy))
 
--- the file of this name can't be created: nothing was printed, and that was reported
+-- the file of this name can't be created: nothing was printed, and the failure was reported
 pub record DidNotCreateFile (cannot_create : List ℕ → Type 0) (name : List ℕ) (file : WrittenFile) (out error : Written) :
     Type 0 where
   pub refused : cannot_create name
   pub nothing_printed : out.after ≡ out.before
   pub reported : ReportsLine error (written_line file file_error.CannotOpen)
 
--- `to` is what was written to a file: its new writer, which was given `begun`, has become `writer`
+-- A file was written by its new writer: that writer was first given `begun`, and has become `writer`. `to` says what it was given in between.
 pub record IsGiven {W : Type 0} (state_of : W → SinkState) (begun : Option (List ℕ)) (writer : Option W) (to : Written) :
     Type 0 where
   pub opened : W
@@ -89,7 +90,7 @@ pub record IsGiven {W : Type 0} (state_of : W → SinkState) (begun : Option (Li
   pub to_is :
       to ≡ written (state_of opened).given (state_of last).given (state_of opened).failures (state_of last).failures
 
--- Where the output goes: to standard output, unless a file is named for it. Then standard output stays as it was.
+-- The output goes to standard output, or to the file that is named for it. Then standard output is unchanged.
 abbrev pub GoesTo : {W : Type 0} → (W → SinkState) → (List ℕ → Option (List ℕ)) → Option (Bor (List ℕ)) → Option W → Written
     → Written → Type 0
 GoesTo state_of begun None writer standard out = (writer ≡ None) × (out ≡ standard)
@@ -127,7 +128,7 @@ pub record DidNotReadReplies (has_opened cannot_open : List ℕ → Type 0) (con
 abbrev pub AreRecorded : (List ℕ → Option (List ℕ)) → List (List ℕ) → List (List Reply) → Type 0
 AreRecorded contents names recorded = AllZip IsReplyFile (contents_each contents names) recorded
 
--- the answers to these files were compared with the replies in the files of these names, and the number of differences is as said
+-- The answers to these files were compared with the replies in the named files. `HasCount` holds of the number of differences.
 pub record ChecksFiles (HasCount : ℕ → Type 0) (contents : List ℕ → Option (List ℕ)) (options : Options)
     (bytes : List (Option (List ℕ))) (replies : List (List ℕ)) (before after : Option (List ℕ)) : Type 0 where
   pub recorded : List (List Reply)
@@ -141,14 +142,14 @@ pub record FailsBeside (contents : List ℕ → Option (List ℕ)) (options : Op
   pub read : AreRecorded contents replies recorded
   pub failed : FailsToPrint (check_lines recorded) (TakesToCompare recorded) options bytes out error
 
--- the answers to these files were not compared with the replies in the files of these names, or something failed
+-- the answers to these files were not compared with the replies in the named files, or something failed
 abbrev pub FailsToCheck : NamedFiles → Options → List (Option (List ℕ)) → List (List ℕ) → Written → Written → Type 0
 FailsToCheck files options bytes replies out error =
     DidNotReadReplies files.has_opened files.cannot_open files.contents replies out error
     ⊎ (DidNotStart out error ⊎ FailsBeside files.contents options bytes replies out error)
 
--- Each of these files for records has its writer, at the number of its proxy, and no other proxy has one. A writer is seen as the bytes
--- that it was given.
+-- Each of these files for records has a writer, at the number of its proxy, and no other proxy has one. Writers are seen as the bytes that
+-- they were given.
 pub record HaveWriters (begun : List ℕ → Option (List ℕ)) (names : List (List ℕ)) (writers : List (Option (Option (List ℕ))))
     : Type 0 where
   pub each : (proxy : ℕ) (name : List ℕ) → slice_get names proxy ≡ Some name → slice_get writers proxy ≡ Some (Some (begun name))
@@ -195,7 +196,7 @@ FailsToStreamFiles state_of files options bytes records recorders out error =
     DidNotCreate files.has_created files.cannot_create records out error
     ⊎ (DidNotStart out error ⊎ StreamsAndFails state_of files.begun options bytes records recorders out error)
 
--- The task of a command line is done on files of batches with these bytes. No line is shown beside a summary that is printed.
+-- The task of a command line is done on files of batches with these bytes. If a summary is printed, no line is shown.
 abbrev pub IsTaskDone : {W : Type 0} → (W → SinkState) → NamedFiles → List (Option (List ℕ)) → CommandLine → Task → RunReport W
     → Written → Type 0
 IsTaskDone state_of files bytes line task.Print report out =
@@ -228,14 +229,14 @@ TaskFails state_of files bytes line (task.Stream records) report out error =
 TaskFails state_of files bytes line (task.Check replies) report out error =
     FailsToCheck files line.options bytes (texts replies.items) out error
 
--- The output of a command line went where it says, and this holds of what became of the writer there.
+-- The output of a command line went where it says, and `Holds` is true of what was written there.
 pub record OfOutput {W : Type 0} (state_of : W → SinkState) (files : NamedFiles) (line : CommandLine) (report : RunReport W)
     (standard : Written) (Holds : Written → Type 0) : Type 0 where
   pub out : Written
   pub goes_to : GoesTo state_of files.begun line.output report.output standard out
   pub holds : Holds out
 
--- what a command line asks for is done
+-- the task of a command line is done
 abbrev pub IsLineDone : {W : Type 0} → (W → SinkState) → NamedFiles → CommandLine → RunReport W → Written → Type 0
 IsLineDone state_of files line report standard =
     OfOutput state_of files line report standard (IsTaskDone state_of files (bytes_of files line) line line.task report)
@@ -251,8 +252,8 @@ DidNotCreateOutput files line standard error =
     All files.has_opened (texts line.files.items)
     × IsSomeAnd line.output (λ name. DidNotCreateFile files.cannot_create name.now Output standard error)
 
--- The command line failed in one of four ways: a file of batches was not opened, the file for the output was not created, the run did not
--- start, or its task failed.
+-- The command line failed: a file of batches was not opened, the file for the output was not created, the run did not start, or its task
+-- failed.
 abbrev pub LineFails : {W : Type 0} → (W → SinkState) → NamedFiles → CommandLine → RunReport W → Written → Written → Type 0
 LineFails state_of files line report standard error =
     DidNotOpen files.has_opened files.cannot_open (texts line.files.items) standard error
@@ -261,26 +262,26 @@ LineFails state_of files line report standard error =
     ⊎ OfOutput state_of files line report standard
     (λ out. TaskFails state_of files (bytes_of files line) line line.task report out error)))
 
--- What more was said after the fixed lines of a failure: nothing without `--verbose`, and at most one line with it.
+-- The lines after the fixed lines of a failure: none without `--verbose`, and at most one with it.
 abbrev pub SaysFurther : Bool → (List ℕ → Option (List ℕ)) → (List ℕ → Type 0) → CommandLine → Met → Written → Type 0
 SaysFurther false contents cannot_open line met error =
     (error.after ≡ error.before) × (error.failures_after ≡ error.failures_before)
 SaysFurther true contents cannot_open line met error =
     IsExplained contents cannot_open (texts line.files.items) line.options.limit met error
 
--- What more was said of a command line that didn't fail: nothing without `--verbose`, and with it at most that all batches are held.
+-- The lines about a command line that didn't fail: none without `--verbose`, and with it at most the line that all batches are held.
 abbrev pub SaysIfHeld : Bool → (List ℕ → Option (List ℕ)) → List (List ℕ) → Written → Type 0
 SaysIfHeld false contents names error = (error.after ≡ error.before) × (error.failures_after ≡ error.failures_before)
 SaysIfHeld true contents names error = SaysHeld contents names error
 
--- A command line that didn't fail left standard error as it was. Then at most that all batches are held was said.
+-- A command line that didn't fail left standard error unchanged, or added the line that all batches are held.
 pub record EndsQuietly (contents : List ℕ → Option (List ℕ)) (line : CommandLine) (error : Written) : Type 0 where
   pub given : Option (List ℕ)
   pub failures : ℕ
   pub kept : Keeps error.before given
   pub further : SaysIfHeld line.verbose contents (texts line.files.items) (written given error.after failures error.failures_after)
 
--- What a command line asks for has failed, and that was reported: first by the fixed lines, which left standard error in this state.
+-- A command line has failed, and the failure was reported. `given` and `failures` are the state of standard error after the fixed lines.
 pub record LineFailsAndSays {W : Type 0} (state_of : W → SinkState) (files : NamedFiles) (line : CommandLine) (report : RunReport W)
     (standard error : Written) : Type 0 where
   pub given : Option (List ℕ)
@@ -300,6 +301,6 @@ pub record LineFailsAndSays {W : Type 0} (state_of : W → SinkState) (files : N
 abbrev pub not_text : List ℕ
 not_text = codes "error: invalid UTF-8 was detected in one or more arguments\n\nUsage: replay [OPTIONS] <FILE>...\n\nFor more information, try '--help'.\n"
 
--- the arguments could not be read as text: nothing was printed, and that was reported
+-- the arguments could not be read as text: nothing was printed, and the failure was reported
 abbrev pub HasReadNoText : Written → Written → Type 0
 HasReadNoText out error = (out.after ≡ out.before) × ReportsLine error not_text

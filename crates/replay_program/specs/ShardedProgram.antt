@@ -1,4 +1,4 @@
--- How the program ends with several resolvers, beside its command line and the bytes of its files. This project's own.
+-- How the program ends with several resolvers, by its command line and the bytes of its files. This project's own.
 use Rattle.std.specs.Prelude.{◌≡◌, ◌≢◌, ◌⊎◌, ◌+◌, ℕ, List, ◌++◌, codes, length, map, Option, None, Some, IfSome, true, ⊤}
 use Rattle.std.specs.Borrow.{Bor}
 use Rattle.std.specs.Fmt.{decimal}
@@ -57,8 +57,8 @@ pub record RegularFiles : Type 1 where
 abbrev pub regular_files : (List ℕ → Type 0) → (List ℕ → Type 0) → RegularFiles
 regular_files is_regular is_irregular = record { is_regular = is_regular; is_irregular = is_irregular }
 
--- The split points: those that the file of this name spells, one fewer than there are resolvers. Without a file, those that spread the first
--- batches of all files evenly over at most that many shards.
+-- The split points are those that the named file spells, one fewer than the resolvers. Without a file, they spread the first batches of all
+-- files evenly over at most that many shards.
 abbrev pub ArePointsBy : (List ℕ → Option (List ℕ)) → List (List ℕ) → ℕ → Option (Bor (List ℕ)) → List (List ℕ) → Type 0
 ArePointsBy contents names resolvers (Some name) points =
     IfSome (contents name.now) (λ bytes. ArePointLines bytes points) × (length points + 1 ≡ resolvers)
@@ -66,7 +66,7 @@ ArePointsBy contents names resolvers None points =
     (samples : List (List Batch)) × AllZip AreFirstOf (contents_each contents names) samples
     × IsBalanced resolvers (begins_of (flat_map (λ own. own) samples)) points
 
--- those of a command line
+-- the split points of a command line
 abbrev pub ArePointsOf : (List ℕ → Option (List ℕ)) → CommandLine → List (List ℕ) → Type 0
 ArePointsOf contents line points =
     ArePointsBy contents (texts line.files.items) line.sharding.resolvers line.sharding.split_points points
@@ -77,7 +77,7 @@ ArePointsOf contents line points =
 abbrev pub irregular_line : ℕ → List ℕ
 irregular_line proxy = codes "replay: proxy " ++ (decimal proxy ++ codes ": not a regular file\n")
 
--- the first file that isn't a regular one, or that can't be opened; nothing is said about split points and memory
+-- The cause names the first file that isn't a regular one, or that can't be opened. Faults of split points and memory are not specified.
 abbrev pub IsWhyNotSharded : (List ℕ → Type 0) → (List ℕ → Type 0) → (List ℕ → Type 0) → (List ℕ → Type 0) → List (List ℕ)
     → ShardingError → Type 0
 IsWhyNotSharded is_regular is_irregular has_opened cannot_open names (why.Irregular proxy) =
@@ -88,7 +88,7 @@ IsWhyNotSharded is_regular is_irregular has_opened cannot_open names (why.Openin
 IsWhyNotSharded is_regular is_irregular has_opened cannot_open names (why.Points cause) = ⊤
 IsWhyNotSharded is_regular is_irregular has_opened cannot_open names why.Memory = ⊤
 
--- the line of standard error; that of a fault of split points is tested only
+-- the line on standard error; the one about a fault of split points is tested only
 abbrev pub ReportsCause : ShardingError → (List ℕ → Type 0) → Type 0
 ReportsCause (why.Irregular proxy) IsReported = IsReported (irregular_line proxy)
 ReportsCause (why.Opening cause) IsReported = IsReported (opening_line cause)
@@ -125,7 +125,7 @@ AreNotPrintedByShards state_of files points bytes options (Some file) writer out
     ⊎ ((to : Written) × IsGiven state_of (files.begun file.name.now) writer to
     × FailsToReplayAndSummarizeByShards file.form points options bytes out to error))
 
--- the combined answers were compared with the replies in the files of these names, and the number of differences is as said
+-- The combined answers were compared with the replies in the named files. `HasCount` holds of the number of differences.
 pub record ChecksFilesByShards (HasCount : ℕ → Type 0) (contents : List ℕ → Option (List ℕ)) (points : List (List ℕ)) (options : Options)
     (bytes : List (Option (List ℕ))) (replies : List (List ℕ)) (before after : Option (List ℕ)) : Type 0 where
   pub recorded : List (List Reply)
@@ -139,7 +139,7 @@ pub record FailsBesideByShards (contents : List ℕ → Option (List ℕ)) (poin
   pub read : AreRecorded contents replies recorded
   pub failed : FailsToCheckByShards recorded points options bytes out error
 
--- the combined answers were not compared with the replies in the files of these names, or something failed
+-- the combined answers were not compared with the replies in the named files, or something failed
 abbrev pub FailsToCheckFilesByShards : NamedFiles → List (List ℕ) → Options → List (Option (List ℕ)) → List (List ℕ) → Written → Written
     → Type 0
 FailsToCheckFilesByShards files points options bytes replies out error =
@@ -177,14 +177,14 @@ TaskFailsByShards state_of files points bytes line _ report out error = ⊥
 
 -- Command lines.
 
--- with the split points of the command line, this holds of what became of the output where it went
+-- the output of a command line went where it says, and `Holds` is true of its split points and of what was written there
 abbrev pub OfPoints : {W : Type 0} → (W → SinkState) → NamedFiles → CommandLine → RunReport W → Written
     → (List (List ℕ) → Written → Type 0) → Type 0
 OfPoints state_of files line report standard Holds =
     (points : List (List ℕ)) × ArePointsOf files.contents line points
     × OfOutput state_of files line report standard (Holds points)
 
--- what a command line asks for is done
+-- the task of a command line is done
 abbrev pub IsLineDoneByShards : {W : Type 0} → (W → SinkState) → NamedFiles → CommandLine → RunReport W → Written → Type 0
 IsLineDoneByShards state_of files line report standard =
     OfPoints state_of files line report standard
@@ -196,8 +196,8 @@ LineFindsDifferencesByShards state_of files line report standard =
     OfPoints state_of files line report standard
     (λ points. FindsDifferencesByShards files points (bytes_of files line) line line.task)
 
--- The command line failed in one of four ways: the files were not opened, the file for the output was not created, the runs did not start,
--- or its task failed.
+-- The command line failed: the files were not opened, the file for the output was not created, or its task failed. A task also fails if its
+-- runs did not start.
 abbrev pub LineFailsByShards : {W : Type 0} → (W → SinkState) → RegularFiles → NamedFiles → CommandLine → RunReport W → Written → Written
     → Type 0
 LineFailsByShards state_of regular files line report standard error =
@@ -206,13 +206,13 @@ LineFailsByShards state_of regular files line report standard error =
     ⊎ OfPoints state_of files line report standard
     (λ points out. TaskFailsByShards state_of files points (bytes_of files line) line line.task report out error))
 
--- What a command line asks for has failed, and that was reported: first by the fixed lines, which left standard error in this state.
+-- A command line has failed, and the failure was reported. `given` and `failures` are the state of standard error after the fixed lines.
 pub record LineFailsAndSaysByShards {W : Type 0} (state_of : W → SinkState) (regular : RegularFiles) (files : NamedFiles)
     (line : CommandLine) (report : RunReport W) (standard error : Written) : Type 0 where
   pub given : Option (List ℕ)
   pub failures : ℕ
   pub failed : LineFailsByShards state_of regular files line report standard (written error.before given error.failures_before failures)
-  -- The runs of all shards met the stop, if there is one, and the last of the fixed lines name it. If the output failed, its writer failed.
+  -- The runs of all shards met the stop, if there is one, and the last fixed lines name it. If the output failed, its writer failed.
   pub met :
       IfSome report.met.stop
       (λ stop. (points : List (List ℕ)) × ArePointsOf files.contents line points

@@ -32,8 +32,7 @@ RecordsAll answers recorded =
     (proxy : ℕ) (own : List Answer) (r : Recorded) → slice_get answers proxy ≡ Some own
     → slice_get recorded proxy ≡ Some (Some r) → Takes r.before r.after (answer_records own)
 
--- All was read and resolved. What was printed are the lines of all answers that are shown, and what was recorded are the records of
--- all.
+-- All was read and resolved. The lines of all answers that are shown were printed, and the records of all answers were written.
 abbrev pub PrintsAndRecords : Options → List (Option (List ℕ)) → List (Option Recorded) → Option (List ℕ) → Option (List ℕ) → Type 0
 PrintsAndRecords options files recorded before after =
     IsReplayedBy (λ answers. ((text : List ℕ) × PrintsAll options.style answers text × Appends before after text)

@@ -30,8 +30,8 @@ use line::run_line;
 use several_resolvers::run_line_sharded;
 
 /// Runs the program on the words of its command line, of which the first is the program's name.
-/// Help is printed to `out`, and why words are refused to `error`. Else the files of batches are
-/// opened, that for the output is created, if one is named, and what the words ask for is done.
+/// Help is printed to `out`, and the reason of a refusal to `error`. Else the files of batches are
+/// opened, the file for the output is created, if one is named, and the task is done.
 pub fn run<R: Threads + Wait + Copy + Send + 'static, F: Files, O: Sink, E: Sink>(
     rt: &R,
     alloc: Global,

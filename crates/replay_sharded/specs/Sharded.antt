@@ -71,8 +71,8 @@ answers_by_shard window logs proxy = map (λ log. answers window log proxy) logs
 abbrev pub notes_kept : ℕ → ShardLog → List Note
 notes_kept proxy own = get_or own.notes proxy []
 
--- The transactions that these answers report as committed, of each proxy at its number, are those of a list of batches that were sent, and
--- can be run one at a time, in the order of commit, so that each reads what it has read.
+-- The transactions that these answers report as committed are those of a list of batches that were sent. They can be run one at a time, in
+-- commit order, and each reads the same values as it did. `together` has the answers to each proxy, at its number.
 pub record CommitsSerializably (sent : List (List Batch)) (together : List (List Answer)) : Type 0 where
   pub processed : List Processed
   -- each of these batches is one that its proxy has sent
@@ -105,8 +105,8 @@ pub record IsResolvedByShards (points : List (List ℕ)) (window : ℤ) (files :
       → AreMerged (answers_by_shard window (map log_of logs) proxy) (map (notes_kept proxy) logs) answers
   -- if the bytes of all files are known, all shards have read the same batches
   pub known : All IsKnown files → (sent : List (List Batch)) × HaveAllRead window points files logs sent
-  -- If all shards have read the same batches of each file, every batch has its answer, as often as it was sent. If besides no proxy sends two
-  -- different batches of one version, what was committed is serializable.
+  -- If all shards have read the same batches of each file, every batch has its answer, as often as it was sent. If, besides, no proxy sends
+  -- two different batches of one version, the committed transactions are serializable.
   pub all_answered :
       (sent : List (List Batch)) → HaveAllRead window points files logs sent → (proxy : ℕ) (own : List Batch) (answers : List Answer)
       → slice_get sent proxy ≡ Some own → slice_get together proxy ≡ Some answers → length answers ≡ length own

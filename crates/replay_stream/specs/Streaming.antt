@@ -114,13 +114,13 @@ pub record IsStreamed (options : Options) (files : List (Option (List ℕ))) (ha
       (proxy : ℕ) (bytes : Option (List ℕ)) (failure : ProxyFailure) (r : Option Recorded) →
       slice_get files proxy ≡ Some bytes → slice_get failures proxy ≡ Some failure → slice_get recorded proxy ≡ Some r →
       IsStreamedFor options.reports options.window log complete failed stop bytes proxy (printed_for proxy printed) failure r
-  -- standard output was given the lines of the answers that were printed, each if it is shown, or a prefix of them if it has failed
+  -- standard output was given the lines of the printed answers, as far as they are shown, or a prefix of these lines if it has failed
   pub text : TookText failed before after (stream_text options.style printed)
   -- what was processed follows the chain of versions
   pub chain : IsChain options.window (run options.window log).processed
   -- so what was committed can be run one transaction at a time, in the order of commit, and each reads what it has read
   pub serializable : IsSerializable (run options.window log).processed
-  -- where no stop was met, no batch is left unanswered
+  -- if no stop was met, no batch is left unanswered
   pub finish : stop ≡ None → FinishesLast log
   -- if all is complete, no stop was met; if neither is so, a batch that was read was not sent
   pub no_stop : complete ≡ true → stop ≡ None

@@ -29,7 +29,7 @@ pub struct Printer {
 pub enum Passed {
     /// It has taken an answer.
     Took,
-    /// No answer has come, or its recorder is behind.
+    /// No answer has come, or its recorder is lagging.
     Waits,
     /// It has passed all answers on.
     Ended,
@@ -91,7 +91,7 @@ impl Printer {
 }
 
 impl Outlet {
-    /// Takes an answer, if one has come and the recorder isn't behind, prints it and passes it on.
+    /// Takes an answer, if one has come and the recorder isn't lagging, prints it and passes it on.
     pub fn pass<O: Sink, G: Gatekeeper>(
         &mut self,
         printer: &mut Printer,

@@ -127,8 +127,8 @@ impl Sender {
         unreachable!()
     }
 
-    // Sends a batch as soon as the gatekeeper and the lane let it. Hands the batch back if it was
-    // told to send no more, or if the lane takes no more.
+    // Sends a batch as soon as the gatekeeper and the lane admit it. Returns the batch if it may
+    // send no more, or if the lane takes no more.
     fn send<G: Gatekeeper + ShareKeeper, R: Wait>(
         &mut self,
         rt: &R,

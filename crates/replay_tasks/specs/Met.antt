@@ -42,7 +42,7 @@ pub record MetStop (options : Options) (files : List (Option (List ℕ))) (stop 
 abbrev pub ReportsStop : Stop → Written → Type 0
 ReportsStop stop error = HasFailed error ⊎ ((others : List ℕ) × Took error (others ++ ending_line (Stopped stop)))
 
--- The stop, if there is one, was met in a replay of these files, the version is the one that it had reached, and standard error says so.
+-- If there is a stop, a replay of these files met it, at this version, and standard error says so.
 abbrev pub HasMet : Options → List (Option (List ℕ)) → Met → Written → Type 0
 HasMet options files met error =
     IfSome met.stop (λ stop. MetStop options files stop met.version × ReportsStop stop error)

@@ -58,14 +58,13 @@ pub record LineSaysCommitted (form : Form) (answers : List (List Answer)) (proxy
   pub at_version : reply.version ≡ version
   pub at_index : IsSomeAnd (slice_get reply.entries index) (SaysCommitted form)
 
--- All was read and resolved, and the text of the answers was printed. There is one log of the reference resolver that
--- holds the batches of each file once, in order, and no others. What was printed is of that log and its answers: all of them that are
--- shown.
+-- All was read and resolved, and the text of the answers was printed. There is one log of the reference resolver that holds the batches of
+-- each file once, in order, and no others. The text is of that log and its answers, as far as they are shown.
 pub record IsReplayedOver (Printed : List Step → List (List Answer) → Type 0) (options : Options)
     (files : List (Option (List ℕ))) : Type 0 where
   pub log : List Step
-  -- The transactions whose words say that they were committed can be run one at a time, in the order of commit, and each reads what it
-  -- has read. The words say so of every committed transaction. They are those of all answers, whether or not their lines are shown.
+  -- The transactions whose words say that they were committed can be run one at a time, in commit order, and each reads the same values as
+  -- it did. The words say so of every committed transaction. They are those of all answers, whether or not their lines are shown.
   pub serializable : IsSerializable (run options.window log).processed
   pub each_word :
       (proxy : ℕ) (version : ℤ) (index : ℕ)
@@ -91,7 +90,7 @@ pub record IsReplayedOver (Printed : List Step → List (List Answer) → Type 0
   pub finish : FinishesLast log
   pub printed : Printed log (answers_each options.window log (length files))
 
--- the same where what was printed is of the answers alone
+-- the same, if the text printed is of the answers alone
 abbrev pub IsReplayedBy : (List (List Answer) → Type 0) → Options → List (Option (List ℕ)) → Type 0
 IsReplayedBy Printed options files = IsReplayedOver (λ log answers. Printed answers) options files
 
@@ -155,9 +154,9 @@ IsWithLoss proxies Takes failures reported =
 abbrev pub OfRun : Type 1
 OfRun = List (List Line) → List ProxyFailure → Bool → Option Stop → Type 0
 
--- The files of n proxies were replayed, and something failed. `Ran` says what became of the files. `reported` is what failed, with the loss
--- of a proxy whose lines could not be sorted or explained, whose replies could not be compared, or that is the last to be summarized;
--- then nothing was printed. `text` is what is to be printed of answers, and `Takes` says of which proxies' lines memory is taken for it.
+-- The files of n proxies were replayed, and something failed. `Ran` says what became of the files. `text` is the text of the answers, and
+-- `Takes` says for which proxies' lines it takes memory. `reported` has the failures, with the loss of a proxy whose lines could not be
+-- sorted or explained, whose replies could not be compared, or that is the last to be summarized. With such a loss nothing was printed.
 pub record RanAndFailed (Ran : OfRun) (text : List (List Answer) → List ℕ) (Takes : List (List Line) → ℕ → Type 0) (proxies : ℕ)
     (out error : Written) : Type 0 where
   pub received : List (List Line)

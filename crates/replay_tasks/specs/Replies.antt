@@ -31,7 +31,7 @@ pub record HasReplyFault (bytes : Option (List ℕ)) (e : WireError) : Type 0 wh
   pub taken : TakesReplies bytes left replies
   pub first_fault : e ≢ wire.Memory → e ≢ wire.Read → IfSome left (IsReplyFaultOf e)
 
--- a fault is that of the file of its proxy; that one can't be opened isn't told here
+-- a fault is that of the file of its proxy; a file that can't be opened is not covered here
 abbrev pub IsFaultIn : List (Option (List ℕ)) → RepliesError → Type 0
 IsFaultIn files (CannotOpen proxy) = ⊥
 IsFaultIn files (Fault proxy e) = (bytes : Option (List ℕ)) × (slice_get files proxy ≡ Some bytes) × HasReplyFault bytes e

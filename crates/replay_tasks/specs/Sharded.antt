@@ -107,7 +107,7 @@ pub record NamesShard (stop : Option ShardStop) (so_far error : Written) : Type 
   pub failures_before : so_far.failures_before ≡ error.failures_before
   pub line : (so_far.failures_after < error.failures_after) ⊎ Appends so_far.after error.after (shard_lines stop)
 
--- what is said of the combined runs is said of their lines, their failures, whether they are complete, and the first stop
+-- `OfRun` for the combined runs: their lines, their failures, whether they are complete, and the first stop
 abbrev pub AreAsCombined : Combined → OfRun
 AreAsCombined combined received failures complete stop =
     (received ≡ map vec_items combined.lines.items) × (failures ≡ combined.failures.items) × (complete ≡ combined.complete)

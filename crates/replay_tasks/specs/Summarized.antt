@@ -116,7 +116,7 @@ FailsToSummarize form (Some most) options files out error =
 
 -- A summary beside the answers.
 
--- All was read and resolved. The text printed is the lines of the answers that are shown, and another writer was given the summary of all
+-- All was read and resolved. The text printed is the lines of the answers that are shown. Another writer was given the summary of all
 -- answers, and how full the resolver was over the same log.
 abbrev pub IsReplayedAndSummarized : SummaryForm → Options → List (Option (List ℕ)) → Option (List ℕ) → Option (List ℕ)
     → Option (List ℕ) → Option (List ℕ) → Type 0

@@ -82,8 +82,8 @@ impl TestRow<'_> {
         self.begins(ended, proxy) && ended.count(proxy) == ended.counts.taken(proxy)
     }
 
-    // Whether a line of the first proxy is missing, and none of the other. Where it is the sort
-    // that is refused, all are missing.
+    // Whether a line of the first proxy is missing, and none of the other. If the sort is refused,
+    // all are missing.
     fn has_loss(&self, ended: &EndedRun, proxy: usize, other: usize) -> bool {
         if ended.out.is_empty() {
             return true;

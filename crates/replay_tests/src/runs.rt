@@ -48,8 +48,8 @@ pub fn opened(alloc: Global, batches: &[&str], rest: &[u8]) -> Result<Vec<u8>, U
     Ok(file)
 }
 
-/// Puts how a run has ended into words, behind what it wrote to standard output and before what it
-/// wrote to standard error.
+/// Returns the end of a run as text: its standard output, its status in words, and its standard
+/// error.
 pub fn ended(status: Status, out: Vec<u8>, error: &[u8]) -> Result<String, Unmade> {
     let mut text = out;
     text.extend_from_slice(match status {

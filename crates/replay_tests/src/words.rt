@@ -1,4 +1,4 @@
-//! The words of a command line: those that are read, and how the program ends where they aren't.
+//! The words of a command line: those that are accepted, and how the program ends with others.
 
 use crate::runs::ended;
 use replay_program::{Options, read_words};

@@ -1,12 +1,11 @@
--- Whose batch goes first when all proxies wait for each other. This project's own.
+-- The proxy whose batch goes first if all proxies wait for each other. This project's own.
 use Rattle.std.specs.Prelude.{◌≡◌, ◌≢◌, ℕ, ◌<◌, ◌<ℤ◌, ◌≤ℤ◌, List, Option, None, Some, slice_get}
 use Rattle.replay_workers.specs.declared.shares.next.Candidate.{Candidate}
 use Rattle.replay_workers.specs.declared.shares.reported_state.Stand.{Stand}
 use Rattle.replay_workers.specs.declared.shares.reported_state.ReportedState.{ReportedState}
 use Rattle.replay_workers.specs.declared.shares.reported_state.ReportedState.TheVariants.{Goes, Stands, Closed}
 
--- The proxy, to which `sent` answers were sent, waits for others: it stands and has received them all, or it sends no
--- more.
+-- The proxy waits for others: it stands and has received the `sent` answers that were sent to it, or it sends no more.
 abbrev pub WaitsForOthers : ReportedState → ℕ → Type 0
 WaitsForOthers Goes sent = ⊥
 WaitsForOthers (Stands stand) sent = stand.answered ≡ sent
@@ -22,7 +21,7 @@ AllWait reported sent =
 abbrev pub NoneStands : List ReportedState → Type 0
 NoneStands reported = (proxy : ℕ) (stand : Stand) → slice_get reported proxy ≢ Some (Stands stand)
 
--- This proxy stands with a batch whose previous version is the least, and of those with that version it is the first.
+-- This proxy stands with a batch of the least previous version. Of those with that version it is the first.
 pub record IsNext (reported : List ReportedState) (proxy : ℕ) : Type 0 where
   pub stand : Stand
   pub stands : slice_get reported proxy ≡ Some (Stands stand)

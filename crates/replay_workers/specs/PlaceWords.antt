@@ -1,4 +1,4 @@
--- Which place of the waiting room three words carry. This project's own.
+-- The place of the waiting room that three words carry. This project's own.
 use Rattle.std.specs.Prelude.{◌≡◌}
 use Rattle.replay_workers.specs.declared.shares.place.Place.{Place}
 use Rattle.replay_workers.specs.declared.shares.place.Place.TheVariants.{Goes, Stands, Admitted, Closed}

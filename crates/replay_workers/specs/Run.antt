@@ -104,7 +104,7 @@ module _ {X : Type 0} (Gives : X → X → Batch → Type 0) (IsEnd : X → Type
     pub chain : IsChain options.window (run options.window log).processed
     -- so what was committed can be run one transaction at a time, in the order of commit, and each reads what it has read
     pub serializable : IsSerializable (run options.window log).processed
-    -- where no stop was met, no batch is left unanswered
+    -- if no stop was met, no batch is left unanswered
     pub finish : stop ≡ None → FinishesLast log
     -- If all is complete, no stop was met. If neither is so, a lane has taken as many batches as a lane takes.
     pub no_stop : complete ≡ true → stop ≡ None
@@ -125,7 +125,7 @@ module _ {X : Type 0} (Gives : X → X → Batch → Type 0) (IsEnd : X → Type
     pub observed : IsObservedRunOver Kept Seen options streams received failures complete stop
     pub occupied : IsOccupancyOf stop options.limit options.window observed.run.log occupancy
 
--- The same of files, whose readers told these bytes, and of the batches that are resolved for those of their frames.
+-- The same of files whose readers reported these bytes, and of the batches that are resolved for those of their frames.
 
 abbrev pub IsServed : Reports → ℤ → Style → List Step → Bool → Option Stop → Option (List ℕ) → ℕ → List Line → ProxyFailure → Type 0
 IsServed reports = IsServedOver (TakesResolved reports) IsAtEnd IsFaultAt (λ _. Unit {0})

@@ -3,7 +3,7 @@ use Rattle.std.specs.Prelude.{◌≡◌, ℕ, ◌<◌, List, length, slice_index
 use Rattle.replay_workers.specs.declared.shares.reported_state.ReportedState.{ReportedState}
 use Rattle.resolver.specs.Lanes.{Lanes, sent_to}
 
--- of each proxy, at its number, what it has told, and how many answers were sent to it
+-- of each proxy, at its number: the reported state, and how many answers were sent to it
 pub record Look : Type 0 where
   pub reported : List ReportedState
   pub sent : List ℕ

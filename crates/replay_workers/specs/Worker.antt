@@ -81,9 +81,9 @@ LeavesLane was requests (Some batch) =
     (requests.closed ≡ was) ⊎ ((requests.closed ≡ true) × (MAX_SENT ≤ length requests.sent))
 
 module _ {X : Type 0} (Gives : X → X → Batch → Type 0) (IsEnd : X → Type 0) (IsFault : X → WireError → Type 0) where
-  -- What a worker has done that was given this proxy's client, and a stream in this state: it sent the batches that it was given, its
-  -- lines are those of the answers that it took, and it has closed its lane and taken answers to their end. `Kept` is true of the state
-  -- that is left.
+  -- What a worker has done that was given this proxy's client, and a stream in this state. It sent the batches that it was given, and its
+  -- lines are those of the answers that it took. It has closed its lane and taken answers to their end. `Kept` is true of the state that is
+  -- left.
   pub record HasWorkedOver (Kept : X → Type 0) (style : Style) (proxy : ℕ) (first : X) (given : Client) (finished : Finished) : Type 0
     where
       pub client : ClientContinues given finished.client

@@ -30,7 +30,7 @@ pub trait ShareKeeper {
     /// Tells that the proxy sends no more: it has closed its lane, or its answers have ended.
     fn closed(&self, proxy: usize);
 
-    /// Returns what the proxy has told.
+    /// Returns the reported state of the proxy.
     fn reported_state(&self, proxy: usize) -> ReportedState;
 
     /// Lets the batch through with which the proxy stands.

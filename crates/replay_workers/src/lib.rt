@@ -6,7 +6,7 @@
 //! the batches of a file, whose transactions all ask for their reports. [`work`] is what one worker
 //! does: it reads the batches of its file, sends them and takes the answers; [`work_over`] takes a
 //! stream. [`open_resolver`] opens the resolver. A [`Gatekeeper`] says when workers may send, and a
-//! [`ShareKeeper`] whose batch goes first where all have used up their share. The program's keeper
+//! [`ShareKeeper`] whose batch goes first if all have used up their share. The program's keeper
 //! of shares is a [`WaitingRoom`].
 //!
 //! In reading order: `workers_run`, `opening`, `threads`, `worker`, `reporting_batches`, `inbox`,

@@ -9,7 +9,7 @@ use resolver::{Client, OpenError, Resolver, open};
 use std::alloc::Global;
 
 /// Opens a resolver with these options for this number of proxies, and a client for each, at its
-/// number. Returns `Memory` if memory is refused.
+/// number. Returns `Memory` if an allocation fails.
 pub fn open_resolver(
     alloc: Global,
     proxies: usize,

@@ -1,9 +1,9 @@
-//! Shares: how many batches of a proxy may be unanswered, and which batch goes first when all
-//! proxies have used up their share.
+//! Shares: how many batches of a proxy may be unanswered, and which batch goes first if all proxies
+//! have used up their share.
 //!
 //! A proxy sends freely while [`is_below_share`]. If it has a batch to send and its share is used
-//! up, it *stands*: it says so in a [`WaitingRoom`], which it shares with the thread that turns the
-//! resolver. If all proxies wait for each other, [`next_admitted`] says whose batch is admitted
+//! up, it *stands*: it reports so in a [`WaitingRoom`], which it shares with the thread that turns
+//! the resolver. If all proxies wait for each other, [`next_admitted`] says whose batch is admitted
 //! nevertheless. The rules of the room are those of a [`Place`], which two threads load and store
 //! in a [`PlaceCell`].
 //!

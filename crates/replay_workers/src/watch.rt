@@ -11,8 +11,8 @@ use resolver::Resolver;
 use std::alloc::{AllocError, Global};
 use std::marker::Model;
 
-/// Keeps what the last look found, of each proxy at its number: what it has told, and how many
-/// answers were sent to it.
+/// The last look at all proxies, each at its number: its reported state, and how many answers were
+/// sent to it.
 #[derive(Drop)]
 pub struct Watch {
     reported: Vec<ReportedState>,

@@ -222,9 +222,9 @@ fn turn_and_note<O: Observer>(
     turn
 }
 
-/// Lets the batch of the proxy through that is next, after a turn that took nothing. What all
-/// proxies have told twice, with such a turn between, is so at once: none of them has gone on
-/// meanwhile, and all that they have sent was taken.
+/// Admits the batch of the proxy that is next, after a turn that took nothing. If all proxies have
+/// reported the same twice, with such a turn in between, all of it is true at one moment. None of
+/// them has continued in between, and everything that they sent was taken.
 pub fn admit<G: ShareKeeper>(resolver: &Resolver, gatekeeper: &G, watch: &mut Watch)
     ensures proxies { length watch.new.reported ≡ length watch.old.reported }
 {
@@ -237,7 +237,7 @@ pub fn admit<G: ShareKeeper>(resolver: &Resolver, gatekeeper: &G, watch: &mut Wa
     }
 }
 
-// Lets the batch of a proxy through, which by the last look is next where all wait for each other.
+// Admits the batch of the proxy that is next by the last look, if all wait for each other.
 fn admit_next<G: ShareKeeper>(gatekeeper: &G, watch: &Watch, proxy: usize)
     requires waits { AllWait watch.now.reported watch.now.sent }
     requires next { IsNext watch.now.reported proxy }

@@ -43,8 +43,8 @@ Given = ℕ → List Answer
 abbrev pub made_to : ℕ → Given → CoreState → List Answer
 made_to proxy given core = given proxy ++ owed_to proxy core.owed
 
--- The core is in this state of the reference resolver: it has the same version and holds the same batches, it keeps the
--- replies that a repeat finds, it remembers what was committed, and the same answers were made.
+-- The core is in this state of the reference resolver. It has the same version and the same held batches, keeps the
+-- replies that a repeat finds, remembers the committed writes, and has made the same answers.
 pub record IsIn (state : State) (given : Given) (core : CoreState) : Type 0 where
   pub version : core.version ≡ version_of state.processed
   pub held : core.held ≡ state.held
@@ -66,7 +66,7 @@ kept_also proxy received reply before p v =
 
 -- what holds of every core
 pub record IsCore (c : CoreState) : Type 0 where
-  -- where it takes more, its conflict set does
+  -- if it takes more, so does its conflict set
   pub takes_more : c.stop ≡ None → c.set.stop ≡ None
   -- the conflict set is no further than the version
   pub resolved : c.set.stop ≡ None → c.set.resolved ≤ℤ c.version

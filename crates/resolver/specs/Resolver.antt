@@ -16,9 +16,9 @@ use Rattle.resolver.specs.Lanes.{Lanes, taken_from, sent_to, all_ended, TakesOne
 pub record ResolverState : Type 0 where
   -- what it has processed, holds, keeps and owes
   pub core : CoreState
-  -- its ends of the lanes of each proxy, at its number
+  -- its ends of the lanes, by the number of the proxy
   pub lanes : List Lanes
-  -- the next turn looks for a batch from this lane on, and then at those before it
+  -- the next turn looks at the lanes from this one on, and then at those before it
   pub next : ℕ
 
 -- each step takes a batch
@@ -42,19 +42,20 @@ TakesOnlyFrom proxies [] = Unit {0}
 TakesOnlyFrom proxies (Take proxy batch ∷ log) = (proxy < proxies) × TakesOnlyFrom proxies log
 TakesOnlyFrom proxies (Finish ∷ log) = TakesOnlyFrom proxies log
 
--- The resolver, which started at the version, represents the log of its steps. Its core represents the log from that
--- version on, if each proxy was given the answers sent to it; the log takes from each proxy what was taken from its request
--- lane, and nothing from a proxy that has none; and without a stop it finishes, last and once, exactly if all request lanes
--- have ended, and only then are reply lanes closed.
+-- The resolver, which started at the version, represents the log of its steps.
 pub record StandsOverFrom (version : ℤ) (r : ResolverState) (log : List Step) : Type 0 where
+  -- its core represents the log from that version on, if each proxy was given the answers sent to it
   pub core : Stands r.core (log_from version (length r.lanes) log) (sent_to r.lanes)
+  -- the log takes from each proxy the batches taken from its request lane, and none from a proxy without a lane
   pub parts : (proxy : ℕ) → part log proxy ≡ taken_from r.lanes proxy
+  -- without a stop, the log finishes exactly if all request lanes have ended, and then in its last step alone
   pub finish : r.core.stop ≡ None → FinishesBy (all_ended r.lanes) log
+  -- without a stop, reply lanes are closed only once all request lanes have ended
   pub closed :
       r.core.stop ≡ None → (proxy : ℕ) (l : Lanes) → slice_get r.lanes proxy ≡ Some l → l.replies.closed ≡ true →
       all_ended r.lanes ≡ true
 
--- The same of a resolver that started at -1, so that its core represents the log of its steps.
+-- The same of a resolver that started at -1: its core represents the log of its steps.
 abbrev pub StandsOver : ResolverState → List Step → Type 0
 StandsOver r log = StandsOverFrom (negsuc 0) r log
 
@@ -66,7 +67,7 @@ pub record IsResolvingFrom (version : ℤ) (r : ResolverState) : Type 0 where
 abbrev pub IsResolving : ResolverState → Type 0
 IsResolving r = IsResolvingFrom (negsuc 0) r
 
--- for every log that the one represents, from whichever version on, the other represents it with these steps added
+-- If the old resolver represents a log, from any version on, the new one represents it with these steps added.
 abbrev pub Adds : List Step → ResolverState → ResolverState → Type 0
 Adds steps old new =
     (version : ℤ) (log : List Step) → StandsOverFrom version old log → StandsOverFrom version new (log ++ steps)
@@ -117,14 +118,14 @@ pub record AreClients (lanes : List Lanes) (clients : List Client) : Type 0 wher
       (proxy : ℕ) (l : Lanes) (c : Client) → slice_get lanes proxy ≡ Some l → slice_get clients proxy ≡ Some c →
       SameLane l.replies c.replies
 
--- answers were handed out, and nothing else was done
+-- answers were delivered, and nothing else was done
 pub record SameExcept (old new : ResolverState) : Type 0 where
   pub stop : new.core.stop ≡ old.core.stop
   pub core : new.core ≡ record old.core { owed = new.core.owed }
   pub proxies : length new.core.owed ≡ length old.core.owed
   pub next : new.next ≡ old.next
 
--- the clients later: as many, each with the same ends and lists
+-- the client later: its lanes have the same lists, and its ends of them have only looked
 pub record SameClient (old new : Client) : Type 0 where
   pub sent : new.requests.sent ≡ old.requests.sent
   pub closed : new.requests.closed ≡ old.requests.closed

@@ -31,8 +31,8 @@ pub record ReceivesAnswers (window : ℤ) (opening log : List Step) (sent : List
   -- It has received the first answers that were sent to it, and all that were sent if its answers have ended.
   pub received_of_sent : IsPrefix client.replies.taken sent
   pub all_sent : HasEnded client.replies → client.replies.taken ≡ sent
-  -- If its answers have ended, it has received all answers of the log unless a stop was met, and in any case those of the log without
-  -- its last step.
+  -- If its answers have ended, it has received all answers of the log without its last step. Without a stop, it has
+  -- received all answers of the log.
   pub all_unless_stopped :
       HasEnded client.replies → account.stop ≡ None → client.replies.taken ≡ answers window (opening ++ log) proxy
   pub all_before_last :
@@ -71,8 +71,8 @@ pub record SettledFor (window : ℤ) (opening log : List Step) (ended : Bool) (s
 -- lanes.
 pub record SettledFrom (version window : ℤ) (log : List Step) (lanes : List Lanes) (clients : List Client) (account : Account)
     : Type 0 where
-  -- The transactions that were reported to these clients as committed can be run one at a time, in the order of commit, and each reads
-  -- what it has read.
+  -- The transactions reported to these clients as committed can be run one at a time, in commit order, and each reads
+  -- the same values as it did.
   pub serializable : IsSerializable (run window (log_from version (length clients) log)).processed
   pub reported :
       (proxy : ℕ) (client : Client) → slice_get clients proxy ≡ Some client

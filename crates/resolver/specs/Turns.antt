@@ -46,7 +46,7 @@ pub record TurnSteps {T : Type 0} (taken : T → Option ℕ) (result : Result T 
   pub lanes : Each (λ _ l m. LanesContinue l m) old.lanes new.lanes
   pub continues : Continues old.core new.core
 
--- A turn: after its step, it hands out answers.
+-- A turn: after its step, it delivers answers.
 pub record Turns (result : Result Turn Stop) (old new : ResolverState) : Type 0 where
   pub steps : TurnSteps taken_by result old new
   pub stopped : IsSome old.core.stop → TakesNoStep old new

@@ -38,8 +38,8 @@ pub fn within_share()
         → ¬ HasMoreUnanswered share proxy r }
 {}
 
-/// A core that starts at a version is one whose reference resolver is at that version, knows
-/// nothing of what was written up to it, and has neither a batch nor an answer of any proxy.
+/// If a core starts at a version, its reference resolver is at that version and knows nothing of
+/// the writes up to it. It has neither a batch nor an answer of any proxy.
 pub fn openings()
     ensures start { OpeningsStart }
 {}

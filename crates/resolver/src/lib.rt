@@ -14,11 +14,11 @@
 //! [`Observer`]. The definitions are in `specs/Observed.antt`.
 //!
 //! [`share`] is the share of each proxy in what the resolver holds. While no client has more
-//! batches sent without an answer, no turn answers `GateFull`. The definitions are in
+//! batches sent without an answer, no turn returns `GateFull`. The definitions are in
 //! `specs/Share.antt`.
 //!
-//! The laws of [`laws`] say that in none of these is there a batch of a proxy without a client, and
-//! that a client which keeps its share isn't one that has more unanswered.
+//! The laws of [`laws`] say that none of these has a batch of a proxy without a client. They also
+//! say that a client which keeps to its share has no more batches unanswered than that.
 #![tactic(auto)]
 
 mod all_lanes;

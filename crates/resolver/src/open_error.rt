@@ -9,7 +9,7 @@ use thiserror::Error;
 /// Why no resolver is made.
 #[derive(Clone, Copy, Debug, PartialEq, Eq, Hash, Error)]
 pub enum OpenError {
-    /// Memory was refused.
+    /// An allocation failed.
     #[error("1 Memory")]
     Memory = 1,
 }

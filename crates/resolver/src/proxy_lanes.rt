@@ -72,7 +72,7 @@ impl ProxyLanes {
         }
     }
 
-    /// Returns whether a take has told the end of the requests.
+    /// Returns whether a take has returned the end of the requests.
     pub fn has_ended(&self) -> bool
         ensures ended { result ≡ self.now.lanes.ended }
     {

@@ -201,7 +201,7 @@ impl Resolver {
         self.core.set().boundaries()
     }
 
-    /// Returns how many answers were sent to the proxy, or 0 where there is no such proxy.
+    /// Returns how many answers were sent to the proxy, or 0 if there is no such proxy.
     pub fn sent(&self, proxy: usize) -> u64
         ensures count { result ≡ length (sent_to self.now.lanes proxy) }
     {

@@ -28,7 +28,7 @@ use std::alloc::Global;
 use std::marker::Model;
 
 /// The resolver over values: `Resolver` of FoundationDB 7.1, without its network. It takes batches
-/// one after another, and owes each proxy the answers of the reference resolver.
+/// one by one, and owes each proxy the answers of the reference resolver.
 #[derive(Debug, Drop)]
 pub struct Core {
     alloc: Global,
@@ -124,7 +124,7 @@ impl Core {
     ///
     /// An error is final: every later call of this and of [`finish`](Self::finish) returns the same
     /// one and changes nothing. The batch that met it counts as taken, and the answers made before
-    /// it are still handed out.
+    /// it are still delivered.
     pub fn admit(&mut self, proxy: usize, batch: Batch) -> Result<(), Stop>
         requires known { proxy < length self.old.owed }
         ensures admits { Admits result proxy batch self.old self.new }

@@ -25,8 +25,8 @@ pub struct Account {
 }
 
 impl Account {
-    /// Puts an account together. All is complete where no stop was met, the reply lanes are closed,
-    /// and every answer has been taken.
+    /// Puts an account together. It is complete if no stop was met, the reply lanes are closed, and
+    /// every answer has been taken.
     pub(crate) fn new(stop: Option<Stop>, closed: bool, all_taken: bool) -> Self
         ensures complete { (result.complete ≡ true)
             ↔ ((stop ≡ None) × (closed ≡ true) × (all_taken ≡ true)) }

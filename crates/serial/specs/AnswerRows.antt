@@ -1,4 +1,4 @@
--- Worked examples of what answers tell: an invariant, and a proxy that sends two batches of one version.
+-- Worked examples of what answers show: an invariant, and a proxy that sends two batches of one version.
 use Rattle.std.specs.Prelude.{◌≡◌, ℕ, Bool, false, ◌||◌, if◌then◌else◌, List, [], ◌∷◌, Option, None, is_some, pos, refl, Contains}
 use Rattle.keyspace.specs.declared.TheConstants.{WINDOW}
 use Rattle.keyspace.specs.declared.txn.Txn.{Txn}

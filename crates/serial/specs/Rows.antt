@@ -20,9 +20,10 @@ module _ (limits : Limits) where
     pub effects_keep_to_ranges :
         (ps : List Processed) (i j : ℕ) (p : Processed) (t : Txn) → IsCommitted ps i j p t
         → IsEffect t (effects_of ps i j) × (plans_of ps i j ≡ plan_of t (effects_of ps i j))
-    -- A chain with an empty batch, a blind write, a reader of the latest, a reader in conflict that requests a report, a reader of an
-    -- empty range, and, from another proxy, a reader at an old snapshot and one of what the batch before wrote. Both stores
-    -- are the same at the six keys. x stays, for its writer was in conflict; c is made of what c had at first.
+    -- A chain with an empty batch, a blind write, a reader of the latest, a reader in conflict that requests a report,
+    -- and a reader of an empty range. Another proxy has a reader at an old snapshot, and a reader of what the batch
+    -- before wrote. Both stores are the same at the six keys. x stays, since its writer was in conflict. c is made of
+    -- what c had at first.
     pub chain_of_all_kinds : shown limits (plans_of (chain limits)) (chain limits) ≡ record {
       verdicts = [] ∷ (committed_entry ∷ []) ∷ (committed_entry ∷ conflict_entry (0 ∷ []) ∷ committed_entry ∷ [])
           ∷ (committed_entry ∷ committed_entry ∷ []) ∷ [];
@@ -49,7 +50,7 @@ module _ (limits : Limits) where
     pub clauses : ClauseRows limits
     -- plans that are no functions of the read ranges
     pub plans : PlanRows limits
-    -- what answers tell
+    -- what answers show
     pub answers : AnswerRows limits
     -- several resolvers
     pub shards : ShardRows limits

@@ -133,8 +133,8 @@ module _ (limits : Limits) where
     pub shards_clip : held_in_shards (shards at_m) (xy limits ∷ cd limits ∷ bc limits ∷ ab limits ∷ [])
         ≡ held_keys (nothing limits ∷ cd limits ∷ bc limits ∷ ab limits ∷ [])
         ∷ held_keys (xy limits ∷ nothing limits ∷ nothing limits ∷ nothing limits ∷ []) ∷ []
-    -- The first has read what was overwritten from m on, so it is rejected there, but the resolver below m committed it and
-    -- remembers its write of c. So the second, which has read c before, is rejected there, and one resolver of all keys
+    -- The first has read what was overwritten from m on, so it is rejected there. But the resolver below m committed it
+    -- and remembers its write of c. So the second, which has read c before, is rejected there. One resolver of all keys
     -- commits it.
     pub shards_reject : resolved 4 ≡ record {
       one = Committed ∷ Conflict ∷ Committed ∷ [];

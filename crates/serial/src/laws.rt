@@ -25,8 +25,8 @@ pub fn isolated()
     ensures chains { (window : ℤ) (ps : List Processed) → IsChain window ps → EachIsIsolated ps }
 {}
 
-/// If the committed transactions of a chain read only what they declare, running them one at a
-/// time, in the order of commit, reads and leaves what was read and left as they were run.
+/// If the committed transactions of a chain read only what they declare, they can be run one at a
+/// time, in commit order. Each then reads the same values as it did, and leaves the same store.
 /// Functions of the read ranges are such transactions.
 pub fn serializable()
     ensures serializable { (ps : List Processed) → Current ps → Serializable ps }
@@ -48,8 +48,9 @@ pub fn snapshots_are_places()
         → SnapshotsArePlaces ps }
 {}
 
-/// A committed transaction of a chain that reads below its own batch's version comes after each
-/// transaction that was committed when it read, and reads what that one wrote or a later write.
+/// Take a committed transaction of a chain that reads below its own batch's version. It comes after
+/// each transaction that was committed when it read, and reads what that one wrote or a later
+/// write.
 pub fn real_time()
     ensures follows { (window : ℤ) (ps : List Processed) → IsChain window ps → RealTime ps }
 {}

@@ -20,11 +20,11 @@ use Rattle.keyspace.specs.declared.batch.Batch.{Batch}
 use Rattle.keyspace.specs.storage.BatchRanges.{ranges_in}
 use Rattle.serial.specs.Shards.{Shard, ends_above, shards}
 
--- where the ranges of a batch begin, read and write ranges: a key comes once per range
+-- the begins of the ranges of a batch, read and write ranges: a key comes once per range
 abbrev pub begins_in : Batch → List (List ℕ)
 begins_in b = map (λ range. range.begin) (ranges_in b.txns)
 
--- where the ranges of a sample begin
+-- the begins of the ranges of a sample
 abbrev pub begins_of : List Batch → List (List ℕ)
 begins_of sample = flat_map begins_in sample
 

@@ -30,7 +30,7 @@ use Rattle.shards.specs.declared.shard_tables.KeyAt.{KeyAt}
 use Rattle.shards.specs.declared.shard_tables.Bounds.{Bounds}
 use Rattle.shards.specs.declared.shard_tables.ShardTables.{ShardTables}
 
--- where a shard ends, or the empty key
+-- the end of a shard, or the empty key
 abbrev pub end_or_empty : Option (List ℕ) → List ℕ
 end_or_empty None = []
 end_or_empty (Some to) = to

@@ -5,8 +5,8 @@ pub mod Clips
 pub mod Numbered
 pub mod Combined
 pub mod Laws
--- Not of the meaning: how the code keeps the indices of read ranges, to which shards it takes a range to go, how it cuts one to a shard,
--- and how it picks split points.
+-- Not part of the meaning: how the code keeps the indices of read ranges, finds the shards of a range, clips it to one,
+-- and picks split points.
 pub mod ReadIndices
 pub mod Reach
 pub mod Cut

@@ -14,9 +14,9 @@ use crate::shard_reply::ShardReply;
 use keyspace::{Batch, Entry, Places, Reply, Sequence, Verdict};
 use std::alloc::{AllocError, Global};
 
-/// Combines the replies of all shards to a batch: the least verdict on each transaction, in the
-/// order conflict, too old, committed, and each read range that some shard reports, numbered as in
-/// the batch. Expects one reply per shard; the order doesn't matter.
+/// Combines the replies of all shards to a batch. Each transaction gets the least verdict, in the
+/// order conflict, too old, committed. The report has each read range that some shard reports,
+/// numbered as in the batch. Expects one reply per shard; the order doesn't matter.
 ///
 /// Returns [`CombineError::NoReply`] if there is none, else [`CombineError::Misfit`] with the
 /// number of the first shard whose reply isn't one to the batch, else [`CombineError::Memory`] if

@@ -59,8 +59,8 @@ fn number_by(
     Ok(ReadIndices::new(indices, ends))
 }
 
-// Appends the indices of the read ranges of a transaction, and where they end. The reaches are
-// those of its read ranges, and then of its write ranges.
+// Appends the indices of the read ranges of a transaction, and the position at which they end. The
+// reaches are those of its read ranges, and then of its write ranges.
 fn put_numbers(
     indices: &mut Vec<u16>,
     ends: &mut Vec<usize>,

@@ -8,15 +8,23 @@ use std::test::Fail;
 use std::thread;
 use std::thread::Threads;
 
+// How many calls a thread makes before it leaves its processor to others. The thread at the other
+// end of the lane mostly runs at the same time, and needs less time for an item than a change of
+// threads takes.
+const ATTEMPTS: usize = 256;
+
 /// Sends the item once the lane takes it. Another refusal is left to the intake to find.
 fn send_at_last<R: Wait>(rt: &R, port: &mut Port<u32>, item: u32)
     ensures same_lane { (port.new.lane ≡ port.old.lane) × (port.new.capacity ≡ port.old.capacity) }
 {
     for _ in rt.forever() {
-        match port.send(item) {
-            Err(Refused::Full(_)) => thread::yield_now(),
-            _ => return,
+        for _attempt in 0..ATTEMPTS {
+            match port.send(item) {
+                Err(Refused::Full(_)) => {}
+                _ => return,
+            }
         }
+        thread::yield_now();
     }
 }
 
@@ -26,11 +34,14 @@ fn next<R: Wait>(rt: &R, intake: &mut Intake<u32>) -> Option<u32>
         × (intake.new.capacity ≡ intake.old.capacity) }
 {
     for _ in rt.forever() {
-        match intake.take() {
-            Taken::Item(item) => return Some(item),
-            Taken::Empty => thread::yield_now(),
-            Taken::End => return None,
+        for _attempt in 0..ATTEMPTS {
+            match intake.take() {
+                Taken::Item(item) => return Some(item),
+                Taken::Empty => {}
+                Taken::End => return None,
+            }
         }
+        thread::yield_now();
     }
     unreachable!()
 }

@@ -1,4 +1,4 @@
--- Streams of batches, as the frames of a file. This project's own.
+-- Streams of batches, such as the frames of a file. This project's own.
 use Rattle.std.specs.Prelude.{◌≡◌, ◌⊎◌, ℕ, List, [], ◌∷◌, Option, IfSome}
 use Rattle.keyspace.specs.declared.batch.Batch.{Batch}
 use Rattle.wire.specs.declared.error.WireError.{WireError}

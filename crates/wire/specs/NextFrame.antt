@@ -8,7 +8,7 @@ use Rattle.wire.specs.FrameLength.{frame_length}
 use Rattle.wire.specs.Spelling.{SpellsBatch}
 use Rattle.wire.specs.Reading.{batch_fault, version_at_front}
 
--- the bytes are the frame of the batch, in the wire version that its kind tells
+-- the bytes are the frame of the batch, in the wire version of its kind
 abbrev pub IsFrameOf : List ℕ → Batch → Type 0
 IsFrameOf bytes batch = SpellsBatch (version_at_front bytes) bytes batch
 

@@ -120,7 +120,7 @@ kind_at kind bytes = do
 abbrev pub version_of_kind : ℕ → Result WireVersion WireError
 version_of_kind kind = if kind == 1 then Ok One else if kind == 3 then Ok Two else Err Kind
 
--- the kind of a batch, as the wire version that it tells
+-- the wire version of a batch's kind
 unfoldable pub batch_kind_at : List ℕ → Result (WireVersion × List ℕ) WireError
 batch_kind_at bytes = do
   n ← number_at 1 bytes
@@ -169,7 +169,7 @@ most_places Conflict = MAX_RANGES
 most_places TooOld = 0
 most_places Committed = 0
 
--- a place that isn't below the least that may stand here
+-- a place that isn't below the least one that may be here
 unfoldable pub place_at : ℕ → List ℕ → Result (ℕ × List ℕ) WireError
 place_at least bytes = do
   n ← number_at 2 bytes
@@ -234,6 +234,6 @@ batch_fault bytes = refusal (read_batch bytes)
 abbrev pub reply_fault : List ℕ → Option WireError
 reply_fault bytes = refusal (read_reply bytes)
 
--- the wire version that the kind of the frame at the front tells
+-- the wire version of the kind of the first frame
 abbrev pub version_at_front : List ℕ → WireVersion
 version_at_front bytes = if slice_index bytes 4 == 3 then Two else One

@@ -19,7 +19,7 @@ use crate::version::WireVersion;
 use keyspace::{Batch, MAX_TXNS, UnorderedBatch};
 use std::alloc::{AllocError, Global};
 
-// Reads the kind of a batch and returns the wire version that it tells.
+// Reads the kind of a batch and returns its wire version.
 #[tactic(auto, unfolding(crate::specs::Reading::batch_kind_at))]
 fn version_of(bytes: &[u8]) -> Result<(WireVersion, &[u8]), WireError>
     ensures reads { Gives (λ x. (x.0, x.1.now)) result (batch_kind_at bytes.now) }

@@ -16,7 +16,7 @@ use crate::source::Source;
 use keyspace::Batch;
 use std::alloc::{AllocError, Global};
 
-/// A stream of batches, as the frames of a file.
+/// A stream of batches, such as the frames of a file.
 pub trait Batches {
     // Between these states one batch was given.
     ghost gives: { Self → Self → BatchValue → Type 0 };
@@ -27,10 +27,10 @@ pub trait Batches {
     // No batch is left.
     ghost is_at_end: { Self → Type 0 };
 
-    // What is left begins with this fault, which isn't one of memory or of reading.
+    // The remaining input begins with this fault, which isn't one of memory or of reading.
     ghost is_at_fault: { Self → Fault → Type 0 };
 
-    // The refusal that ended the batches.
+    // The refusal that ended the stream.
     ghost refusal: { Self → Option Fault };
 
     // How often reading has failed.

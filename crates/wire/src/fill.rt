@@ -97,8 +97,8 @@ fn fill<R: Source>(reader: &mut R, buffer: &mut Vec<u8>, target: usize) -> Resul
     Ok(())
 }
 
-/// Returns how many bytes of the frame at the front settle what it says: all of them, or the four
-/// of its length if a body is never so long.
+/// Returns how many bytes of the first frame determine its content: all of them, or only the four
+/// of its length if no body may be that long.
 #[tactic(auto, unfolding(crate::specs::FrameLength::frame_length))]
 pub fn frame_length(front: &[u8]) -> usize
     ensures exact { result ≡ frame_length front.now }
@@ -113,7 +113,7 @@ pub fn frame_length(front: &[u8]) -> usize
     4 + length
 }
 
-/// Reads the bytes of the next frame into the buffer: as many as settle what it says, or all that
+/// Reads the bytes of the next frame into the buffer: as many as determine its content, or all that
 /// are left. The buffer is empty at the end of the input. Memory is filled once per chunk of 256
 /// KiB, however few bytes each read gives.
 pub fn fill_frame<R: Source>(reader: &mut R, buffer: &mut Vec<u8>) -> Result<(), WireError>

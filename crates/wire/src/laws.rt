@@ -35,8 +35,9 @@ pub fn one_spelling()
         → SpellsBatch v x a → SpellsReply y r → x ++ s ≢ y ++ t }
 {}
 
-/// The right reply to a batch that fits a frame of either wire version fits one too: it has no more
-/// entries than the batch has transactions and, for each, no more places than read ranges.
+/// If a batch fits a frame of either wire version, the right reply to it fits one too. It has at
+/// most as many entries as the batch has transactions and, for each, at most as many places as read
+/// ranges.
 pub fn reply_fits()
     ensures fits { (v : WireVersionValue) (window : ℤ) (ws : List Write) (b : BatchValue)
         (r : ReplyValue)

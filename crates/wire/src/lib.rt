@@ -1,22 +1,25 @@
 //! Batches and replies as frames of bytes, and back.
 //!
-//! `specs/` holds what has to be believed, to be read in this order: `Fields` (what a frame says),
-//! `Spelling` (how each value is spelled, and what must hold of it), `Reading` (the fault that
-//! reading meets first) and, for a stream of frames, `Source`, `NextFrame`, `Frames`, `Batches`,
-//! `Sink` and `Upgrade`. Beside these, `Rows` and `Lying` say what a frame is while it is read: the
-//! tables of a batch, whose keys lie in the frame. The form has two versions, which differ in the
-//! kind of a batch and in the text of a range.
+//! A reader must believe the definitions of `specs/`. Read them in this order: `Fields` (the
+//! content of a frame), `Spelling` (how each value is spelled, and its limits), `Reading` (the
+//! fault that comes first). Those of a stream of frames are `Source`, `NextFrame`, `Frames`,
+//! `Batches`, `Sink` and `Upgrade`. `Rows` and `Lying` define the state of a frame while it is
+//! read: the tables of a batch, whose keys are in the frame. The form has two versions, which
+//! differ in the kind of a batch and in the text of a range.
 //!
-//! No key is copied: a batch keeps the frame that it was read from. If a range is spelled by a
-//! single key, the byte after that key is set to zero once the complete frame is read, so that the
-//! end of the range is in the frame too.
+//! No key is copied: a batch keeps the frame that it was read from. A range may be spelled by a
+//! single key. Then the byte after that key is set to zero once the complete frame is read, so that
+//! the end of the range is in the frame too.
 //!
-//! The layers above use [`decode_batch`] and [`decode_reply`], which decode exactly the frames that
-//! spell a value and name the first fault of any other; [`encode_batch`], [`encode_batch_1`] and
-//! [`encode_reply`], which encode them; [`Frames`], which iterates over the batches of a reader,
-//! however it cuts its bytes, and is a stream of [`Batches`]; [`read_reply`], which reads the next
-//! reply of a reader; [`upgrade`], which writes batches of either version anew in version 2; and
-//! [`write_all`], which gives a [`Sink`] a complete slice.
+//! The layers above use these calls:
+//!
+//! - [`decode_batch`] and [`decode_reply`] decode exactly the frames that spell a value, and name
+//!   the first fault of any other. [`encode_batch`], [`encode_batch_1`] and [`encode_reply`] encode
+//!   values.
+//! - [`Frames`] iterates over the batches of a reader, however it divides its bytes, and is a
+//!   stream of [`Batches`]. [`read_reply`] reads the next reply of a reader.
+//! - [`upgrade`] writes batches of either version anew in version 2.
+//! - [`write_all`] gives a [`Sink`] a complete slice.
 #![tactic(auto)]
 
 mod batch;

@@ -17,7 +17,7 @@ pub trait Sink {
     ghost failures: { Self → ℕ };
 
     /// Writes a prefix of the bytes and returns how many it took. Takes none of a non-empty slice
-    /// only where it fails.
+    /// only if it fails.
     fn write(&mut self, bytes: &[u8]) -> Result<usize, Failed>
         ensures bound { IfOk result (λ n. n ≤ length bytes.now) }
         ensures some { IfOk result (λ n. 0 < length bytes.now → 0 < n) }

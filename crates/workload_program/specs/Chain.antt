@@ -30,8 +30,7 @@ AreFrames shape count (suc number) bytes =
     (front last : List ℕ) × (batch : Batch) × (bytes ≡ front ++ last) × AreFrames shape count number front
     × IsBatchOf shape count number batch × SpellsBatch One last batch
 
--- If the sink still reports its bytes, they grew by a prefix of the frames of all batches below some number, which is at most this
--- one.
+-- If the sink still reports its bytes, they grew by a prefix of the frames of some first batches, at most this number of batches.
 abbrev pub BreaksOff : Shape → ℕ → ℕ → Option (List ℕ) → Option (List ℕ) → Type 0
 BreaksOff shape count batches before after =
     IfSome after (λ _. (number : ℕ) × (number ≤ batches) × (bytes rest : List ℕ)

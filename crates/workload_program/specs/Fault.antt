@@ -1,4 +1,4 @@
--- The lines of standard error, and the faults that they tell.
+-- The lines on standard error, and the faults that they name.
 use Rattle.std.specs.Prelude.{◌⊎◌, ℕ, ◌<◌, List, Option, codes}
 use Rattle.std.specs.Io.KnownBytes.{Appends}
 use Rattle.keyspace.specs.declared.error.LimitError.{LimitError}
@@ -19,12 +19,12 @@ abbrev pub IsReported : List ℕ → Option (List ℕ) → Option (List ℕ) →
 IsReported line given_before given_after failures_before failures_after =
     (failures_before < failures_after) ⊎ Appends given_before given_after line
 
--- the line that tells which words are expected
+-- the line that says which words are expected
 abbrev pub expected_line : List ℕ
 expected_line =
     codes "workload: SHAPE (skiplisttest or points), BATCHES (1 to 65536) and TRANSACTIONS (1 to 2500) are expected\n"
 
--- the fault where a batch is refused
+-- the fault if a batch is refused
 abbrev pub of_limit : LimitError → Fault
 of_limit refused.Memory = Memory
 of_limit refused.Version = Limit

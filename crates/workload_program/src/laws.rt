@@ -4,9 +4,8 @@ ghost use Rattle.std.specs.Prelude.{◌≡◌, [], ◌∷◌, codes};
 ghost use Rattle.clap.specs.declared.error.kind.ErrorKind.TheVariants.{DisplayHelp, DisplayVersion};
 ghost use Rattle.workload_program.specs.Command.{faults_of};
 
-/// What `clap` finds at fault in these words, computed on the definitions. Words ask for help or
-/// the version alone, also where words of a plan stand around it, and nothing is at fault where
-/// there is neither.
+/// Four examples of the faults that `clap` finds in words, computed on the definitions: help, the
+/// version, help among words of a plan, and a plan, which has no fault.
 pub fn worked_words()
     ensures help { faults_of (codes "workload" ∷ codes "--help" ∷ []) ≡ DisplayHelp ∷ [] }
     ensures version { faults_of (codes "workload" ∷ codes "--version" ∷ []) ≡ DisplayVersion ∷ [] }

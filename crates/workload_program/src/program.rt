@@ -24,8 +24,8 @@ fn show<W: Sink>(out: &mut W, text: &str) -> Result<(), Failed>
     write_and_flush(out, text.as_bytes())
 }
 
-// Writes what the words ask for, or how the program is used where there are none but its name.
-// Returns `false`, and writes nothing, where the words aren't as expected.
+// Writes the frames that the words ask for, or the usage if there is only the program's name.
+// Returns `false`, and writes nothing, if the words aren't as expected.
 fn write_asked<W: Sink>(alloc: Global, words: &[String], out: &mut W) -> Result<bool, Fault>
     ensures written { IfOk result (λ done. done ≡ true → 2 ≤ length words.entry.now
         → (bytes : List ℕ)
@@ -90,9 +90,9 @@ fn answer<O: Sink, E: Sink>(alloc: Global, words: &[String], out: &mut O, error:
     }
 }
 
-/// Does what the words ask for, of which the first is the program's name, and returns the exit
-/// code: frames are written, or how the program is used where the words have nothing else. Words
-/// that ask for no frames may ask for help or the version.
+/// Runs the program on its words, of which the first is its name, and returns the exit code. It
+/// writes frames, or the usage if there are no other words. Words that ask for no frames may ask
+/// for help or the version.
 pub fn run<O: Sink, E: Sink>(alloc: Global, words: &[String], out: &mut O, error: &mut E) -> u8
     ensures written { result ≡ 0 → 2 ≤ length words.entry.now → ((bytes : List ℕ)
         × AreAskedFor (map string_bytes words.entry.now) bytes

@@ -14,7 +14,7 @@ use clap::error::ErrorKind;
 use std::alloc::Global;
 use wire::{Sink, write_all};
 
-/// What is printed where no words are given.
+/// The text that is printed if no words are given.
 pub const USAGE: &str = "usage: workload SHAPE BATCHES TRANSACTIONS
 Writes the frames of one chain of batches to standard output. The same words give the same bytes.
   SHAPE         skiplisttest or points
@@ -27,7 +27,7 @@ const EXPECTED: &str =
     "workload: SHAPE (skiplisttest or points), BATCHES (1 to 65536) and TRANSACTIONS (1 to 2500) \
      are expected\n";
 
-/// Reads the words, of which the first is the program's name. Returns `None` where they aren't as
+/// Reads the words, of which the first is the program's name. Returns `None` if they aren't as
 /// expected.
 pub fn read_words(words: &[String]) -> Option<Plan>
     ensures plan { IfSome result (λ plan. AskFor plan (map string_bytes words.entry.now)) }

@@ -15,7 +15,7 @@ use wire::WireError;
 
 impl CoreObject {
     /// Takes the transactions of a batch from a proxy, as the batch of these versions. It is held,
-    /// or it and what it frees are answered.
+    /// or it and the batches that it frees are answered.
     ///
     /// The first of these that holds decides. There is no such proxy: `Argument`. The resolver has
     /// stopped: that stop. No batch may have these versions: `Argument`. Memory is refused before

@@ -18,9 +18,9 @@ use std::alloc::Global;
 
 impl CoreObject {
     /// Creates a resolver for that many proxies that starts at a version, from -1 on: the first
-    /// batch that it processes follows that version, and what was written up to it isn't known.
-    /// Returns `Argument` if a number is outside its range, the stop `ArenaFull` if the limit is
-    /// below 3 and the version isn't -1, and the stop `Memory` if memory is refused.
+    /// batch that it processes follows that version, and earlier writes aren't known. Returns
+    /// `Argument` if a number is outside its range. Returns the stop `ArenaFull` if the limit is
+    /// below 3 and the version isn't -1, and the stop `Memory` if an allocation fails.
     pub fn new_at(
         alloc: Global,
         proxies: u32,

@@ -21,7 +21,7 @@ impl SetObject {
     /// the front of the buffer.
     ///
     /// The first of these that holds decides. The set has stopped: that stop. The version is
-    /// negative, or not above that resolved last: `Version`. There is no room for so many verdicts:
+    /// negative, or not above that resolved last: `Version`. There is no room for the verdicts:
     /// `Buffer`. Memory is refused before the batch is judged: `Wire` of `Memory`. Then the batch
     /// is judged, or the set stops for good; if `when_full` is `Refuse`, it doesn't stop for a
     /// batch that doesn't fit the limit. After any refusal but a stop that is met now, the set is

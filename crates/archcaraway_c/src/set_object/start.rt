@@ -60,7 +60,7 @@ impl SetObject {
         self.set.version()
     }
 
-    /// Returns the edge: what was written below this version is forgotten, or will be.
+    /// Returns the edge: writes below this version are forgotten, or will be.
     pub fn edge(&self) -> i64
         ensures edge { result ≡ self.now.map.edge }
     {

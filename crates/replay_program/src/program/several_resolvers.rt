@@ -34,8 +34,9 @@ mod printed_answers;
 mod task;
 
 /// Opens the files of batches once per shard, creates the file for the output, if one is named, and
-/// does the task. If one of the files isn't a regular one, can't be opened or created, or the file
-/// of split points has a fault, nothing is printed to `out`, and that is reported to `error`.
+/// does the task. It fails if one of the files isn't a regular one, or can't be opened or created,
+/// or if the file of split points has a fault. Then nothing is printed to `out`, and the cause is
+/// reported to `error`.
 ///
 /// With `--verbose`, a failure is explained by one more line on `error`, unless there is nothing to
 /// say, or memory is refused. If a file isn't a regular one, nothing more is said. Without a

@@ -34,8 +34,8 @@ pub struct CheckReport {
 /// failed to `error`, as [`print_failures`] does. All four hold what is of each proxy at its
 /// number.
 ///
-/// If memory is refused while the replies of a proxy are compared, nothing is printed to `out`, and
-/// that proxy has a loss from then on. The last proxy has it where memory is refused for all of
+/// If an allocation fails while the replies of a proxy are compared, nothing is printed to `out`,
+/// and that proxy has a loss from then on. The last proxy has it if the allocation is for all of
 /// them, or for the last line.
 pub fn print_check<O: Sink, E: Sink>(
     alloc: Global,
@@ -192,8 +192,8 @@ fn count_lines(received: &[Vec<Line>]) -> Option<usize>
     Some(count)
 }
 
-// Returns the kept replies of each proxy. An error is the proxy for which memory was refused, or
-// the last one where it was for all.
+// Returns the kept replies of each proxy. An error is the proxy for which an allocation failed, or
+// the last one if it was for all.
 fn kept_each(alloc: Global, received: Vec<Vec<Line>>) -> Result<Vec<Vec<Reply>>, usize>
     requires some { 1 ≤ vec_len received }
     ensures kept { IfOk result (λ kept. map vec_items kept.items

@@ -20,7 +20,7 @@ use replay_summary::{Occupancy, SummaryForm};
 use std::alloc::Global;
 use wire::{Failed, Sink, write_and_flush};
 
-/// Where a summary is written, and in which form.
+/// The writer of a summary, and its form.
 #[derive(Drop)]
 pub struct SummaryWriter<W> {
     pub form: SummaryForm,

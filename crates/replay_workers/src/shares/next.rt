@@ -1,4 +1,4 @@
-//! Whose batch goes first when all proxies wait for each other.
+//! The proxy whose batch goes first if all proxies wait for each other.
 
 ghost use Rattle.std.specs.Prelude.{◌≡◌, ◌+◌, ◌<ℤ◌, ◌≤ℤ◌, ◌↔◌, List, length, slice_get, IfSome};
 ghost use Rattle.std.specs.Prelude.{IsTrue, None, Some};

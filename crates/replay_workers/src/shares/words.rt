@@ -19,8 +19,8 @@ pub const ADMITTED: u64 = 2;
 /// The state of a place whose proxy sends no more.
 pub const CLOSED: u64 = 3;
 
-/// The words that carry a place: its state, and of a batch with which the proxy stands how many
-/// answers the proxy has received, and the previous version.
+/// The words that carry a place: its state, how many answers the proxy has received, and the
+/// previous version of the batch with which it stands.
 #[derive(Clone, Copy)]
 pub struct Words {
     pub state: u64,

@@ -67,7 +67,7 @@ impl Resolver {
         all_lanes::deliver(&mut self.all_lanes, &mut self.core);
     }
 
-    // Closes the reply lanes where no answer is still to come.
+    // Closes the reply lanes if no answer is still to come.
     pub(super) fn close(&mut self)
         ensures stands { (version : ℤ) (log : List Step) → StandsOverFrom version self.old log
             → StandsOverFrom version self.new log }

@@ -17,7 +17,7 @@ pub const MOST_IN_A_ROW: u8 = 18;
 /// The length of the longest word.
 pub const LONGEST_WORD: usize = 14;
 
-/// A word that recurs, behind what parts it from the entry before: a blank, or in JSON a comma.
+/// A word that recurs, after its separator from the entry before: a blank, or in JSON a comma.
 #[derive(Clone, Copy, PartialEq, Eq)]
 pub enum Word {
     /// ` committed`

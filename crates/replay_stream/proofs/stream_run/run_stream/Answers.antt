@@ -1,5 +1,4 @@
-use Rattle.std.proofs.Common.{◌≡◌, ℕ, List, ap, refl, sym, subst, ◌∙◌, arith, rules, ℤ, length}
-use Rattle.std.proofs.lemmas.Grind.{common_steps}
+use Rattle.std.proofs.Common.{◌≡◌, ℕ, List, ap, refl, sym, subst, ◌∙◌, arith, ℤ, length}
 use Rattle.std.proofs.lemmas.List.{length-map}
 use Rattle.std.proofs.lemmas.Simd.{map-map}
 use Rattle.std.proofs.lemmas.List.Elements.{All-same}
@@ -26,16 +25,6 @@ use Rattle.replay_workers.proofs.callers.SameLanes.{clients_continue}
 use Rattle.replay_workers.proofs.callers.Stopping.{accounted_new}
 use Rattle.replay_stream.proofs.StreamRuns.{are_numbered, clients_ended, clients_joined, ends_each, have_recorders, is_streamed, tasks_count}
 use Rattle.replay_stream.proofs.stream_run.run_stream.Goals as goal
-
-pub open-requires-clause-settings : goal.open-requires-clause-settings
-open-requires-clause-settings g c = record {
-  least_proxies = first_of (search rules, grind (arith, common_steps));
-  most_proxies = first_of (search rules, grind (arith, common_steps));
-  least_window = first_of (search rules, grind (arith, common_steps));
-  most_window = first_of (search rules, grind (arith, common_steps));
-  least_limit = first_of (search rules, grind (arith, common_steps));
-  most_limit = first_of (search rules, grind (arith, common_steps));
-}
 
 pub turn_to_end-requires : goal.turn_to_end-requires
 turn_to_end-requires g c =

@@ -1,6 +1,5 @@
 use Rattle.std.proofs.lemmas.Bool.{false≢true}
-use Rattle.std.proofs.Common.{◌≡◌, ℕ, Global, List, [], ap, sym, subst, ◌∙◌, arith, rules, ℤ, length}
-use Rattle.std.proofs.lemmas.Grind.{common_steps}
+use Rattle.std.proofs.Common.{◌≡◌, ℕ, Global, List, [], ap, sym, subst, ◌∙◌, arith, ℤ, length}
 use Rattle.std.specs.Prelude.{negsuc, map, vec_items, true, Option, None, IfSome, slice_get, vec_len}
 use Rattle.std.specs.List.{All, AllZip}
 use Rattle.std.proofs.lemmas.List.{length-map}
@@ -25,16 +24,6 @@ use Rattle.replay_workers.proofs.callers.Stopping.{accounted_new}
 use Rattle.replay_workers.proofs.Working.{capacities, capacities_stay, clients_back, clients_ended, started_count}
 use Rattle.replay_workers.proofs.Runs.{is_run, is_run_log}
 use Rattle.replay_workers.proofs.workers_run.run_over.Goals as goal
-
-pub open-requires-clause-settings : goal.open-requires-clause-settings
-open-requires-clause-settings g c = record {
-  least_proxies = first_of (search rules, grind (arith, common_steps));
-  most_proxies = first_of (search rules, grind (arith, common_steps));
-  least_window = first_of (search rules, grind (arith, common_steps));
-  most_window = first_of (search rules, grind (arith, common_steps));
-  least_limit = first_of (search rules, grind (arith, common_steps));
-  most_limit = first_of (search rules, grind (arith, common_steps));
-}
 
 -- nothing was handed back yet
 nothing_back : (outcome : RunOutcome) → outcome.clients.items ≡ [] → outcome.lines.items ≡ [] → outcome.failures.items ≡ []
