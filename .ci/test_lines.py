@@ -11,11 +11,6 @@ SUFFIXES = (".rt", ".rs", ".py", ".c", ".h", ".cpp", ".hpp", ".go")
 NAMES = ("Makefile", "CMakeLists.txt")
 # `rattle fmt` keeps an attribute, and an import of one name, on one line.
 KEPT = re.compile(r"\s*(#\[tactic\(|ghost use )")
-# One line each, to be broken with the next change of its crate: until then, no crate above it
-# needs to be proved anew.
-LATER = {
-    "crates/tree/src/questions.rt",
-}
 
 
 def is_code(file: Path) -> bool:
@@ -43,8 +38,7 @@ class Lines(unittest.TestCase):
         names = [name for name in listed.split("\0") if name and (TOP / name).is_file()]
         found = {name: long_lines(TOP / name) for name in names if is_code(TOP / name)}
         self.assertLessEqual({".ci/run", "cargo/erase.py", "include/archcaraway.h"}, found.keys())
-        self.assertEqual({name for name, lines in found.items() if lines}, LATER)
-        self.assertEqual({len(found[name]) for name in LATER}, {1})
+        self.assertEqual({name: lines for name, lines in found.items() if lines}, {})
 
 
 if __name__ == "__main__":
