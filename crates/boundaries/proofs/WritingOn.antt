@@ -56,4 +56,4 @@ module _ {range : Range} {version : ℤ} {old now next : Stored} {new : Overwrit
 
   pub is_used : IsWrittenOver new now next → (size : ℕ)
       → spare_in old size ≤ spare_in next size + wanted_of (length range.begin ∷ length range.end ∷ []) size
-  is_used w size = rw (h.start, h.end) at (omega (arith, h.spare size, w.used size))
+  is_used w size = rw (h.start, h.end) at (omega (arith, h.spare size, w.used_slots size))

@@ -12,7 +12,6 @@ use Rattle.stepmap.specs.Rooted.{Rooted}
 use Rattle.stepmap.specs.Counting.{live_count}
 use Rattle.stepmap.proofs.Changes.{raise_keeps}
 use Rattle.stepmap.proofs.Preparing.{room_if, no_room_if, room_stays, full_bound}
-use Rattle.boundaries.proofs.callers.Unexpired.{all_shorter}
 
 module _ (ranges : ℕ) (m : Steps) where
   -- without a sweep

@@ -50,7 +50,7 @@ returns-clause-written c none =
     rw none at c.overwrite-at_end.ensures.written in
     rw (← c.self.view_is) record {
       boundaries = entire_are old mid new c.self.invariant written c.release_removed.new.self r;
-      used = entire_used old mid new c.self.invariant written c.release_removed.new.self r;
+      used_slots = entire_used old mid new c.self.invariant written c.release_removed.new.self r;
     }
 
 -- some boundaries are removed where a version is returned

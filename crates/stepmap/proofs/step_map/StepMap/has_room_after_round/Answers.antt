@@ -1,7 +1,7 @@
 use Rattle.std.proofs.Common.{◌≡◌, length, arith, tests, w64}
 use Rattle.std.proofs.lemmas.Int.{to_z-of_z}
 use Rattle.stepmap.specs.Limit.{unexpired_all}
-use Rattle.stepmap.proofs.RoomAnswered.{all_shorter}
+use Rattle.boundaries.proofs.callers.Unexpired.{all_shorter}
 use Rattle.stepmap.proofs.step_map.StepMap.has_room_after_round.Goals as goal
 use Rattle.stepmap.proofs.step_map.StepMap.has_room_after_round.Goals.{After-count_unexpired}
 
