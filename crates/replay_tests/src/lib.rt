@@ -2,9 +2,9 @@
 //! alone.
 //!
 //! `verdicts`, `reports`, `batches`, `options` and `files` are the worked rows, played over memory
-//! by `runs`: one test per table, whose failure has the row's name. `meeting_proxies` holds back two
-//! proxies that wait for each other. `words` looks at the command line, and `lines` at a writer that
-//! fails. The tests of `memory` and `sort_memory` pass whichever one growth is refused;
+//! by `runs`: one test per table, whose failure has the row's name. `meeting_proxies` holds back
+//! two proxies that wait for each other. `words` looks at the command line, and `lines` at a writer
+//! that fails. The tests of `memory` and `sort_memory` pass whichever one growth is refused;
 //! `.ci/refused-memory` refuses each in turn.
 //!
 //! The contract of `replay_over` also lets a program through that always stops with `Memory`. Each
