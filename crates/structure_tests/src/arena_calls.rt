@@ -64,12 +64,17 @@ fn reserve_and_place(arena: &mut Arena<u32>, alloc: Global) -> Result<bool, Allo
     Ok(are_placed && refuses_longer(arena, alloc)? && arena.live() == 4)
 }
 
+// Places a key in an arena that has none, without memory taken first.
+fn place_one(arena: &mut Arena<u32>, alloc: Global) -> Result<bool, AllocError> {
+    let is_empty = arena.live() == 0;
+    Ok(is_empty && is_placed(arena, alloc, 5)? && arena.live() == 1)
+}
+
 #[test]
 fn arena_reserve_and_place(rt: HostRuntime) -> Result<(), Fail> {
     let mut arena = Arena::new(rt.alloc());
     assert!(rt; reserve_and_place(&mut arena, rt.alloc())?);
     let mut arena = Arena::new(rt.alloc());
-    assert!(rt; arena.live() == 0 && is_placed(&mut arena, rt.alloc(), 5)?);
-    assert_eq!(rt; arena.live(), 1);
+    assert!(rt; place_one(&mut arena, rt.alloc())?);
     Ok(())
 }

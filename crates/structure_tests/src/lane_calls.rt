@@ -23,11 +23,22 @@ impl LaneEnds {
         Ok(LaneEnds { port, intake })
     }
 
+    fn sends(&mut self, item: u32, answer: Result<(), Refused<u32>>) -> bool {
+        self.port.send(item) == answer
+    }
+
+    fn takes(&mut self, answer: Taken<u32>) -> bool {
+        self.intake.take_beside(&mut self.port) == answer
+    }
+
     // Makes the call, and returns whether it answers so.
-    fn answers(&mut self, step: &Step) -> bool {
+    fn answers(&mut self, step: Step) -> bool {
         match step {
-            Step::Send(item, sent) => self.port.send(*item) == *sent,
-            Step::Take(taken) => self.intake.take_beside(&mut self.port) == *taken,
+            Step::Send(item) => self.sends(item, Ok(())),
+            Step::Full(item) => self.sends(item, Err(Refused::Full(item))),
+            Step::Closed(item) => self.sends(item, Err(Refused::Closed(item))),
+            Step::Take(item) => self.takes(Taken::Item(item)),
+            Step::End => self.takes(Taken::End),
             Step::Close => {
                 self.port.close();
                 true
@@ -37,28 +48,37 @@ impl LaneEnds {
 }
 
 // A call of a lane, with its answer. It takes beside the port.
+#[derive(Clone, Copy)]
 enum Step {
-    Send(u32, Result<(), Refused<u32>>),
-    Take(Taken<u32>),
+    // The item is sent.
+    Send(u32),
+    // The lane is full, and the item is returned.
+    Full(u32),
+    // The lane is closed, and the item is returned.
+    Closed(u32),
+    // The item is taken.
+    Take(u32),
+    // The lane has ended.
+    End,
     Close,
 }
 
-const LANE_OF_ONE: &[Step] = &[
-    Step::Send(7, Ok(())),
-    Step::Send(8, Err(Refused::Full(8))),
-    Step::Take(Taken::Item(7)),
-    Step::Send(8, Ok(())),
+const LANE_OF_ONE: [Step; 9] = [
+    Step::Send(7),
+    Step::Full(8),
+    Step::Take(7),
+    Step::Send(8),
     Step::Close,
-    Step::Send(9, Err(Refused::Closed(9))),
-    Step::Take(Taken::Item(8)),
-    Step::Take(Taken::End),
-    Step::Take(Taken::End),
+    Step::Closed(9),
+    Step::Take(8),
+    Step::End,
+    Step::End,
 ];
 
 // Makes these calls, and returns the index of the first that is answered otherwise.
 fn first_wrong(ends: &mut LaneEnds, steps: &[Step]) -> Option<usize> {
     for (index, step) in steps.iter().enumerate() {
-        if !ends.answers(step) {
+        if !ends.answers(*step) {
             return Some(index);
         }
     }
@@ -68,7 +88,7 @@ fn first_wrong(ends: &mut LaneEnds, steps: &[Step]) -> Option<usize> {
 #[test]
 fn lane_of_one(rt: HostRuntime) -> Result<(), Fail> {
     let mut ends = LaneEnds::new(rt.alloc(), 1)?;
-    assert_eq!(rt; first_wrong(&mut ends, LANE_OF_ONE), None);
+    assert_eq!(rt; first_wrong(&mut ends, &LANE_OF_ONE), None);
     Ok(())
 }
 
