@@ -42,9 +42,15 @@ fn seventy_keys(alloc: Global) -> Result<Batch, Unmade> {
     batch_of(alloc, -1, 100, -1, txns)
 }
 
-fn seventy_outcomes(alloc: Global) -> Result<String, Unmade> {
+// Resolves the batch by a new set.
+fn outcome_of_new_set(alloc: Global, batch: &Batch) -> Result<String, Unmade> {
     let mut set = Chained::new(alloc, WINDOW, LIMIT)?;
-    outcome(alloc, &mut set, &seventy_keys(alloc)?)
+    outcome(alloc, &mut set, batch)
+}
+
+fn seventy_outcomes(alloc: Global) -> Result<String, Unmade> {
+    let batch = seventy_keys(alloc)?;
+    outcome_of_new_set(alloc, &batch)
 }
 
 // All seventy commit, and the last meets the first of the keys that it reads.
