@@ -11,6 +11,7 @@ use shards::{balanced, clip, clip_all, clip_in_place, combine, number_all};
 use stepmap::MAX_LIMIT;
 use tests::cases::{count, run};
 use tests::drawn::{KeySpace, any_batch};
+use tests::notation::batch;
 use tests::plain::{PlainBatch, PlainEntry, PlainRange, PlainReply, PlainTxn, key};
 use tests::random::Random;
 use tests::spelling::batch_frame;
@@ -99,6 +100,48 @@ fn plain(clipped: &Clipped) -> (PlainBatch, Vec<Vec<u16>>) {
 
 fn clipped(batch: &PlainBatch, points: &SplitPoints) -> Vec<Clipped> {
     clip_all(Global, &batch.batch(), points).expect("memory is ample").into_std()
+}
+
+/// Shards end at the split points, and a transaction stays at its index, also in a shard that has
+/// none of its ranges. Each clip is the batch of a shard, and the original indices of its reads.
+#[test]
+fn clips_by_hand() {
+    let rows: [(&[&str], &str, &[(&str, &[&[u16]])]); 4] = [
+        // The shards are [,h), [h,p) and [p,..).
+        (
+            &["h", "p"],
+            "0>100 received 0: m R[a,z) W[b,i) @50",
+            &[
+                ("0>100 received 0: m R[a,h) W[b,h) @50", &[&[0]]),
+                ("0>100 received 0: m R[h,p) W[h,i) @50", &[&[0]]),
+                ("0>100 received 0: m R[p,z) @50", &[&[0]]),
+            ],
+        ),
+        (
+            &["m"],
+            "0>100: R[a,m) R[m,n) R[l,n)",
+            &[("0>100: R[a,m) R[l,m)", &[&[0, 2]]), ("0>100: R[m,n) R[m,n)", &[&[1, 2]])],
+        ),
+        (
+            &["h", "m"],
+            "0>100: R[m,m) R[h,h) R[a,a)",
+            &[("0>100: R[a,a)", &[&[2]]), ("0>100: R[h,h)", &[&[1]]), ("0>100: R[m,m)", &[&[0]])],
+        ),
+        (
+            &["m"],
+            "0>100: R[a,b) W[x,y) @7; W[c,d)",
+            &[("0>100: R[a,b) @7; W[c,d)", &[&[0], &[]]), ("0>100: W[x,y) @7; @0", &[&[], &[]])],
+        ),
+    ];
+    for (points, text, expected) in rows {
+        let points: Keys = points.iter().map(|point| point.as_bytes().to_vec()).collect();
+        let found: Vec<_> = clipped(&batch(text), &split(&points)).iter().map(plain).collect();
+        let expected: Vec<_> = expected
+            .iter()
+            .map(|(text, reads)| (batch(text), reads.iter().map(|txn| txn.to_vec()).collect()))
+            .collect();
+        assert_eq!(found, expected, "{text}");
+    }
 }
 
 #[test]
@@ -248,6 +291,10 @@ fn picked_points_by_hand() {
         picked(&[PlainBatch { txns: vec![empty; 5], ..PlainBatch::empty(0, 10) }], 2),
         Ok(keys([]))
     );
+    // Reads and writes count. Each of a, b, c and d begins one range, and k begins three.
+    let mixed = [batch("0>100: R[k,l) R[a,b) W[k,l); R[k,m) W[c,d) W[b,e) W[d,z)")];
+    assert_eq!(picked(&mixed, 2), Ok(keys(["d"])));
+    assert_eq!(picked(&mixed, 64), Ok(keys(["a", "b", "c", "d", "k"])));
     assert_eq!(picked(&sample("ab"), 0), Err(BalanceError::ShardCount));
     assert_eq!(picked(&sample("ab"), 65), Err(BalanceError::ShardCount));
     assert_eq!(BalanceError::ShardCount.to_string(), "the number of shards isn't from 1 to 64");

@@ -6,10 +6,13 @@ use crate::texts::{EMPTY_BATCH, EMPTY_BATCH_2, ONE_WRITE, ONE_WRITE_2, bytes_of,
 use std::alloc::Global;
 use std::test::Fail;
 use test_values::{Unmade, show_batch};
-use wire::{Frames, Source, StdSource, read_frames};
+use wire::{Frames, StdSource, read_frames};
+
+// A reader of bytes in pieces.
+type Reader<'a> = StdSource<Pieces<'a>>;
 
 // The next answer as text: the batch, `none`, or the number and the name of the refusal.
-fn next_shown<R: Source>(alloc: Global, frames: &mut Frames<R>) -> Result<String, Unmade> {
+fn next_shown(alloc: Global, frames: &mut Frames<Reader<'_>>) -> Result<String, Unmade> {
     match frames.next() {
         Ok(Some(batch)) => show_batch(alloc, &batch),
         Ok(None) => Ok(String::from_str(alloc, "none")?),
@@ -17,17 +20,19 @@ fn next_shown<R: Source>(alloc: Global, frames: &mut Frames<R>) -> Result<String
     }
 }
 
-// The first three answers over these bytes, given n per call, with a bar between two.
+// The first three answers, with a bar between two.
+fn three_shown(alloc: Global, frames: &mut Frames<Reader<'_>>) -> Result<String, Unmade> {
+    let first = next_shown(alloc, frames)?;
+    let second = next_shown(alloc, frames)?;
+    let third = next_shown(alloc, frames)?;
+    Ok(format!(in alloc; "{first} | {second} | {third}")?)
+}
+
+// The first three answers over these bytes, given n per call.
 fn by_step(alloc: Global, bytes: &[u8], step: usize, fails: bool) -> Result<String, Unmade> {
     let reader = StdSource::new(Pieces { bytes, step, fails });
     let mut frames = read_frames(alloc, reader);
-    let mut text = next_shown(alloc, &mut frames)?;
-    for _ in 0..2 {
-        text.push_str(" | ")?;
-        let shown = next_shown(alloc, &mut frames)?;
-        text.push_str(shown.as_str())?;
-    }
-    Ok(text)
+    three_shown(alloc, &mut frames)
 }
 
 /// The first three answers over the bytes of a text.

@@ -1,7 +1,8 @@
 //! Tests of the wire form, by the public calls of `keyspace` and `wire` alone: the vectors of
-//! `docs/WIRE.md` with the fault that each other frame is refused for, and readers and writers that
-//! give out anywhere. `ranks` has the ranks of a batch at a growth that is refused. Random and
-//! largest values, keys, ranges and printed texts are tests of the Cargo edition (`cargo/tests`).
+//! `docs/WIRE.md` with the fault that each other frame is refused for, and readers that fail or end
+//! after any number of bytes. `ranks` has the ranks of a batch at a growth that is refused. Random
+//! and largest values, keys, ranges, upgrades and printed texts are tests of the Cargo edition
+//! (`cargo/tests`).
 #![tactic(auto)]
 
 #[cfg(test)]
@@ -10,8 +11,6 @@ mod batches;
 mod frames;
 #[cfg(test)]
 mod long_batches;
-#[cfg(test)]
-mod paper;
 #[cfg(test)]
 mod ranks;
 #[cfg(test)]
@@ -22,5 +21,3 @@ mod replies;
 mod rows;
 #[cfg(test)]
 mod texts;
-#[cfg(test)]
-mod upgrades;

@@ -1,15 +1,15 @@
 //! Tests of the program `replay` after its files are open, by the public calls of `replay_program`
 //! alone.
 //!
-//! `verdicts`, `reports`, `batches`, `options`, `proxies` and `files` are the worked rows, played
-//! over memory by `runs`, each a test of its row's name. `meeting_proxies` holds back two proxies
-//! that wait for each other. `words` looks at the command line, and `lines` at a writer that fails.
-//! The tests of `memory` and `sort_memory` pass whichever one growth is refused;
+//! `verdicts`, `reports`, `batches`, `options` and `files` are the worked rows, played over memory
+//! by `runs`: one test per table, whose failure has the row's name. `meeting_proxies` holds back
+//! two proxies that wait for each other. `words` looks at the command line, and `lines` at a writer
+//! that fails. The tests of `memory` and `sort_memory` pass whichever one growth is refused;
 //! `.ci/refused-memory` refuses each in turn.
 //!
 //! The contract of `replay_over` also lets a program through that always stops with `Memory`. Each
-//! test that wants a line refuses it, `empty_batch` first; so does `gate_full_through_replay`,
-//! which wants another stop.
+//! row that wants a line refuses it, `empty_batch` first; so does `gate_full_through_replay`, which
+//! wants another stop.
 #![tactic(auto)]
 
 #[cfg(test)]
@@ -28,8 +28,6 @@ mod meeting_proxies;
 mod memory;
 #[cfg(test)]
 mod options;
-#[cfg(test)]
-mod proxies;
 #[cfg(test)]
 mod reports;
 #[cfg(test)]

@@ -3,7 +3,7 @@
 //! A program that replays its proxies one after another on one thread is refused here: neither
 //! proxy would send on before the other was answered.
 
-use crate::runs::{file_of, opened, reader, replayed_from};
+use crate::runs::{readers_of, replayed_from};
 use lane::MAX_CAPACITY;
 use replay_program::{Gatekeeper, Options, Unshared};
 use std::alloc::{AllocError, Global};
@@ -84,9 +84,7 @@ fn met<R: Threads + Wait + Copy + Send + 'static>(
     alloc: Global,
     options: Options,
 ) -> Result<(String, bool), Unmade> {
-    let first = opened(alloc, &["100>200"], b"")?;
-    let second = file_of(alloc, &["0>100"], b"")?;
-    let readers = vec![in alloc; reader(first), reader(second)].map_err(AllocError::from)?;
+    let readers = readers_of(alloc, &[(&["-1>0", "100>200"], b""), (&["0>100"], b"")])?;
     let meeting = Arc::new(alloc, Unshared(Meeting::new())).map_err(AllocError::from)?;
     let text = replayed_from(rt, alloc, readers, options, &meeting)?;
     Ok((text, meeting.0.has_met()))

@@ -5,7 +5,7 @@ use crate::rows::{
     FIRST_RUN_IN_FRAMES, HELD_OVERTAKEN, HELD_REPEAT_ANSWERED_TWICE, REPORT_HISTORY_HITS,
     SECOND_FILE_CONTINUES_CHAIN, SNAPSHOT_AT_WRITE, TestRow,
 };
-use crate::runs::{Reader, file_of, reader, replay_into};
+use crate::runs::{Reader, TestFile, readers_of, replay_into};
 use replay_program::{Options, Reports, Status, Style, Unshared};
 use std::alloc::{AllocError, Global};
 use std::process::Abort;
@@ -116,22 +116,21 @@ const ROOM: usize = 1_000;
 
 impl MemoryRun {
     // The outputs have room, so that no write is refused.
-    fn new(alloc: Global, files: &[&[&str]]) -> Result<Self, Unmade> {
-        let mut readers = Vec::new(alloc);
-        for batches in files {
-            let file = file_of(alloc, batches, b"")?;
-            readers.push(reader(file)).map_err(AllocError::from)?;
-        }
+    fn new(alloc: Global, files: &[TestFile<'_>]) -> Result<Self, Unmade> {
+        let out = StdSink::new(Vec::with_capacity(alloc, ROOM)?);
+        let error = StdSink::new(Vec::with_capacity(alloc, ROOM)?);
+        let gatekeeper = Arc::new(alloc, Unshared(Counting::new())).map_err(AllocError::from)?;
+        let readers = readers_of(alloc, files)?;
         Ok(MemoryRun {
             readers,
-            gatekeeper: Arc::new(alloc, Unshared(Counting::new())).map_err(AllocError::from)?,
-            out: StdSink::new(Vec::with_capacity(alloc, ROOM)?),
-            error: StdSink::new(Vec::with_capacity(alloc, ROOM)?),
+            gatekeeper,
+            out,
+            error,
         })
     }
 
     // In a second try where the first is refused memory.
-    fn new_at_last(alloc: Global, files: &[&[&str]]) -> Result<Self, Unmade> {
+    fn new_at_last(alloc: Global, files: &[TestFile<'_>]) -> Result<Self, Unmade> {
         match MemoryRun::new(alloc, files) {
             Err(Unmade::Memory) => MemoryRun::new(alloc, files),
             made => made,

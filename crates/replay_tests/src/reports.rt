@@ -1,36 +1,53 @@
 //! Rows of reports.
 
-use crate::runs::prints;
+use crate::runs::{FileRow, give};
 use std::test::Fail;
 
-#[test]
-fn same_batch_ignores_snapshot(rt: HostRuntime) -> Result<(), Fail> {
-    let batches = ["0>100: W[k,k\0); m R[k,k\0) @100"];
-    prints(&rt, &batches, "0 100 committed conflict:0\n")
-}
+const ROWS: &[FileRow<'static>] = &[
+    FileRow {
+        name: "same_batch_ignores_snapshot",
+        options: "",
+        files: &[(&["-1>0", "0>100: W[k,k\0); m R[k,k\0) @100"], b"")],
+        expected: "0 0 empty\n0 100 committed conflict:0\ndone: ",
+    },
+    FileRow {
+        name: "report_history_hits",
+        options: "",
+        files: &[(
+            &[
+                "-1>0",
+                "0>100: W[a,b) W[e,f)",
+                "100>200: W[c,d) @100; m R[a,b) R[c,d) R[e,f) @50",
+            ],
+            b"",
+        )],
+        expected: "0 0 empty\n0 100 committed\n0 200 committed conflict:0,2\ndone: ",
+    },
+    FileRow {
+        name: "report_batch_place",
+        options: "",
+        files: &[(
+            &[
+                "-1>0",
+                "0>100: W[a,b) W[e,f)",
+                "100>200: W[c,d) @100; m R[a,b) R[c,d) R[e,f) @100",
+            ],
+            b"",
+        )],
+        expected: "0 0 empty\n0 100 committed\n0 200 committed conflict:1\ndone: ",
+    },
+    FileRow {
+        name: "batch_place_skips_empty_range",
+        options: "",
+        files: &[(
+            &["-1>0", "0>100: W[a,c) W[e,g); m R[c,e) R[b,b) R[f,h)"],
+            b"",
+        )],
+        expected: "0 0 empty\n0 100 committed conflict:2\ndone: ",
+    },
+];
 
 #[test]
-fn report_history_hits(rt: HostRuntime) -> Result<(), Fail> {
-    let batches = [
-        "0>100: W[a,b) W[e,f)",
-        "100>200: W[c,d) @100; m R[a,b) R[c,d) R[e,f) @50",
-    ];
-    let lines = "0 100 committed\n0 200 committed conflict:0,2\n";
-    prints(&rt, &batches, lines)
-}
-
-#[test]
-fn report_batch_place(rt: HostRuntime) -> Result<(), Fail> {
-    let batches = [
-        "0>100: W[a,b) W[e,f)",
-        "100>200: W[c,d) @100; m R[a,b) R[c,d) R[e,f) @100",
-    ];
-    let lines = "0 100 committed\n0 200 committed conflict:1\n";
-    prints(&rt, &batches, lines)
-}
-
-#[test]
-fn batch_place_skips_empty_range(rt: HostRuntime) -> Result<(), Fail> {
-    let batches = ["0>100: W[a,c) W[e,g); m R[c,e) R[b,b) R[f,h)"];
-    prints(&rt, &batches, "0 100 committed conflict:2\n")
+fn rows_of_reports(rt: HostRuntime) -> Result<(), Fail> {
+    give(&rt, rt.alloc(), ROWS)
 }

@@ -1,12 +1,12 @@
 //! Rows that are also played with memory refused: their files, and their lines where a file is cut,
 //! too.
 
+use crate::runs::TestFile;
 use replay_program::Form;
 
 /// The files of a row and what they give.
 pub struct TestRow<'a> {
-    /// The batches of each file.
-    pub files: &'a [&'a [&'a str]],
+    pub files: &'a [TestFile<'a>],
     /// The form of printed answers.
     pub form: Form,
     /// The lines with ample memory.
@@ -16,7 +16,7 @@ pub struct TestRow<'a> {
 }
 
 pub const SNAPSHOT_AT_WRITE: TestRow<'static> = TestRow {
-    files: &[&["-1>0", "0>100: W[a,b)", "100>200: R[a,b) @100"]],
+    files: &[(&["-1>0", "0>100: W[a,b)", "100>200: R[a,b) @100"], b"")],
     form: Form::Words,
     lines: "0 0 empty\n0 100 committed\n0 200 committed\n",
     cut: &[&[
@@ -28,11 +28,14 @@ pub const SNAPSHOT_AT_WRITE: TestRow<'static> = TestRow {
 };
 
 pub const REPORT_HISTORY_HITS: TestRow<'static> = TestRow {
-    files: &[&[
-        "-1>0",
-        "0>100: W[a,b) W[e,f)",
-        "100>200: W[c,d) @100; m R[a,b) R[c,d) R[e,f) @50",
-    ]],
+    files: &[(
+        &[
+            "-1>0",
+            "0>100: W[a,b) W[e,f)",
+            "100>200: W[c,d) @100; m R[a,b) R[c,d) R[e,f) @50",
+        ],
+        b"",
+    )],
     form: Form::Words,
     lines: "0 0 empty\n0 100 committed\n0 200 committed conflict:0,2\n",
     cut: &[&[
@@ -44,7 +47,7 @@ pub const REPORT_HISTORY_HITS: TestRow<'static> = TestRow {
 };
 
 pub const HELD_REPEAT_ANSWERED_TWICE: TestRow<'static> = TestRow {
-    files: &[&["-1>0", "100>200", "100>200", "0>100"]],
+    files: &[(&["-1>0", "100>200", "100>200", "0>100"], b"")],
     form: Form::Words,
     lines: "0 0 empty\n0 100 empty\n0 200 empty\n0 200 empty\n",
     cut: &[&[
@@ -57,7 +60,7 @@ pub const HELD_REPEAT_ANSWERED_TWICE: TestRow<'static> = TestRow {
 };
 
 pub const HELD_OVERTAKEN: TestRow<'static> = TestRow {
-    files: &[&["-1>0", "150>300", "100>200", "0>100"]],
+    files: &[(&["-1>0", "150>300", "100>200", "0>100"], b"")],
     form: Form::Words,
     lines: "0 0 empty\n0 100 empty\n0 200 empty\n0 300 never\n",
     cut: &[&[
@@ -70,7 +73,10 @@ pub const HELD_OVERTAKEN: TestRow<'static> = TestRow {
 };
 
 pub const SECOND_FILE_CONTINUES_CHAIN: TestRow<'static> = TestRow {
-    files: &[&["-1>0", "0>100: W[a,b)"], &["100>200: R[a,b) @100"]],
+    files: &[
+        (&["-1>0", "0>100: W[a,b)"], b""),
+        (&["100>200: R[a,b) @100"], b""),
+    ],
     form: Form::Words,
     lines: "0 0 empty\n0 100 committed\n1 200 committed\n",
     cut: &[
@@ -88,7 +94,7 @@ pub const SECOND_FILE_CONTINUES_CHAIN: TestRow<'static> = TestRow {
 
 /// The frames of docs/WIRE.md.
 pub const FIRST_RUN_IN_FRAMES: TestRow<'static> = TestRow {
-    files: &[&["-1>0", "0>100: W[a,b)"]],
+    files: &[(&["-1>0", "0>100: W[a,b)"], b"")],
     form: Form::Frames,
     lines: "0 0 0000000b0200000000000000000000\n0 100 0000000e0200000000000000640001020000\n",
     cut: &[&[

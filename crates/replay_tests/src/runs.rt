@@ -1,5 +1,6 @@
-//! A run over files in memory, and what it gives.
+//! Runs over files in memory, and what they give.
 
+use crate::words::options_of;
 use replay_program::{Gatekeeper, Options, ShareKeeper, Status, replay_over};
 use replay_workers::WaitingRoom;
 use resolver::MAX_PROXIES;
@@ -10,7 +11,20 @@ use std::sync::{Arc, Wait};
 use std::test::Fail;
 use std::thread::Threads;
 use test_values::{Unmade, batch};
-use wire::{Sink, Source, StdSink, StdSource, WireError, encode_batch_1};
+use wire::{StdSink, StdSource, WireError, encode_batch_1};
+
+/// A file: the frames of these batches, and bytes after them.
+pub type TestFile<'a> = (&'a [&'a str], &'a [u8]);
+
+/// A row over files.
+pub struct FileRow<'a> {
+    pub name: &'a str,
+    /// The options of the command line.
+    pub options: &'a str,
+    pub files: &'a [TestFile<'a>],
+    /// The text of standard output, how the run ends, and the text of standard error.
+    pub expected: &'a str,
+}
 
 /// A reader of a file in memory.
 pub type Reader = StdSource<Cursor<Vec<u8>>>;
@@ -30,22 +44,24 @@ pub fn push_batch(alloc: Global, file: &mut Vec<u8>, text: &str) -> Result<(), U
     }
 }
 
-/// Makes the file of these batches, with these bytes after them.
-pub fn file_of(alloc: Global, batches: &[&str], rest: &[u8]) -> Result<Vec<u8>, Unmade> {
-    let mut file = Vec::new(alloc);
+fn bytes_of(alloc: Global, (batches, rest): TestFile<'_>) -> Result<Vec<u8>, Unmade> {
+    let mut bytes = Vec::new(alloc);
     for text in batches {
-        push_batch(alloc, &mut file, text)?;
+        push_batch(alloc, &mut bytes, text)?;
     }
-    file.extend_from_slice(rest)?;
-    Ok(file)
+    bytes.extend_from_slice(rest)?;
+    Ok(bytes)
 }
 
-/// Makes the file whose first batch is the empty one of version 0, whose line comes first.
-pub fn opened(alloc: Global, batches: &[&str], rest: &[u8]) -> Result<Vec<u8>, Unmade> {
-    let mut file = Vec::new(alloc);
-    push_batch(alloc, &mut file, "-1>0")?;
-    file.extend_from_slice(&file_of(alloc, batches, rest)?)?;
-    Ok(file)
+/// Makes readers of the files.
+pub fn readers_of(alloc: Global, files: &[TestFile<'_>]) -> Result<Vec<Reader>, Unmade> {
+    let mut readers = Vec::new(alloc);
+    for file in files {
+        readers
+            .push(reader(bytes_of(alloc, *file)?))
+            .map_err(AllocError::from)?;
+    }
+    Ok(readers)
 }
 
 /// Returns the end of a run as text: its standard output, its status in words, and its standard
@@ -65,20 +81,14 @@ pub fn ended(status: Status, out: Vec<u8>, error: &[u8]) -> Result<String, Unmad
     }
 }
 
-/// Makes the gatekeeper that the program has, for n proxies.
-pub fn waiting_room(alloc: Global, proxies: usize) -> Result<Arc<WaitingRoom, Global>, AllocError> {
-    Ok(Arc::new(alloc, WaitingRoom::new(alloc, proxies)?)?)
-}
-
 /// Replays as the program does, from these readers, and puts what comes of it into words.
 pub fn replayed_from<
-    S: Source + Send + Drop + 'static,
     G: Gatekeeper + ShareKeeper + Send + Sync + Drop + 'static,
     R: Threads + Wait + Copy + Send + 'static,
 >(
     rt: &R,
     alloc: Global,
-    readers: Vec<S>,
+    readers: Vec<Reader>,
     options: Options,
     gatekeeper: &Arc<G, Global>,
 ) -> Result<String, Unmade> {
@@ -93,17 +103,15 @@ pub fn replayed_from<
 /// Replays as the program does, from these readers to these writers. No other test calls what it
 /// calls, whose contract is long.
 pub fn replay_into<
-    S: Source + Send + Drop + 'static,
     G: Gatekeeper + ShareKeeper + Send + Sync + Drop + 'static,
     R: Threads + Wait + Copy + Send + 'static,
-    O: Sink,
 >(
     rt: &R,
     alloc: Global,
-    readers: Vec<S>,
+    readers: Vec<Reader>,
     options: Options,
     gatekeeper: &Arc<G, Global>,
-    out: &mut O,
+    out: &mut StdSink<Vec<u8>>,
     error: &mut StdSink<Vec<u8>>,
 ) -> Result<Status, Unmade> {
     if readers.is_empty() || readers.len() > MAX_PROXIES {
@@ -112,59 +120,41 @@ pub fn replay_into<
     Ok(replay_over(rt, alloc, readers, options, gatekeeper, out, error).status)
 }
 
-/// Replays these files with the options, and compares what comes of it.
-pub fn gives<R: Abort + Threads + Wait + Copy + Send + 'static>(
-    rt: &R,
-    alloc: Global,
-    options: Options,
-    files: Vec<Vec<u8>>,
-    expected: &str,
-) -> Result<(), Fail> {
-    let found = replayed(rt, alloc, options, files)?;
-    assert_eq!(rt; found.as_str(), expected);
-    Ok(())
+// Makes the gatekeeper that the program has, for n proxies.
+fn waiting_room(alloc: Global, proxies: usize) -> Result<Arc<WaitingRoom, Global>, AllocError> {
+    Ok(Arc::new(alloc, WaitingRoom::new(alloc, proxies)?)?)
 }
 
-fn replayed<R: Threads + Wait + Copy + Send + 'static>(
+/// Replays as the program does, with its gatekeeper.
+pub fn replayed<R: Threads + Wait + Copy + Send + 'static>(
     rt: &R,
     alloc: Global,
     options: Options,
-    files: Vec<Vec<u8>>,
+    readers: Vec<Reader>,
 ) -> Result<String, Unmade> {
-    let mut readers = Vec::new(alloc);
-    for file in files {
-        readers.push(reader(file)).map_err(AllocError::from)?;
-    }
     let gatekeeper = waiting_room(alloc, readers.len())?;
     replayed_from(rt, alloc, readers, options, &gatekeeper)
 }
 
-/// Replays one file with the options, and compares the output after the line of version 0.
-pub fn ends<R: Abort + Threads + Wait + Copy + Send + 'static>(
+fn found<R: Threads + Wait + Copy + Send + 'static>(
     rt: &R,
     alloc: Global,
-    options: Options,
-    file: Vec<u8>,
-    expected: &str,
-) -> Result<(), Fail> {
-    let expected = format!(in alloc; "0 0 empty\n{expected}")?;
-    let files = one_file(alloc, file)?;
-    gives(rt, alloc, options, files, expected.as_str())
+    row: &FileRow<'_>,
+) -> Result<String, Unmade> {
+    let options = options_of(alloc, row.options)?;
+    replayed(rt, alloc, options, readers_of(alloc, row.files)?)
 }
 
-fn one_file(alloc: Global, file: Vec<u8>) -> Result<Vec<Vec<u8>>, AllocError> {
-    let mut files = Vec::new(alloc);
-    files.push(file)?;
-    Ok(files)
-}
-
-/// Replays the batch of version 0 and then these, and compares the lines.
-pub fn prints<R: Abort + AllocGlobal + Threads + Wait + Copy + Send + 'static>(
+/// Replays the files of each row with its options, and compares what comes of it.
+pub fn give<R: Abort + Threads + Wait + Copy + Send + 'static>(
     rt: &R,
-    batches: &[&str],
-    lines: &str,
+    alloc: Global,
+    rows: &[FileRow<'_>],
 ) -> Result<(), Fail> {
-    let file = opened(rt.alloc(), batches, b"")?;
-    let expected = format!(in rt.alloc(); "{lines}done: ")?;
-    ends(rt, rt.alloc(), Options::default(), file, expected.as_str())
+    for row in rows {
+        let found = found(rt, alloc, row)?;
+        let name = row.name;
+        assert_eq!(rt; found.as_str(), row.expected, "{name}");
+    }
+    Ok(())
 }

@@ -22,10 +22,7 @@ fn over_a_lane(alloc: Global) -> Result<bool, Unmade> {
 }
 
 // Makes each call of a resolver of one proxy that sends nothing.
-fn over_a_resolver(alloc: Global) -> Result<bool, Unmade> {
-    let Ok(mut service) = Service::open(alloc, 1, 1)? else {
-        return Err(Unmade::Memory);
-    };
+fn over_a_service(service: &mut Service) -> Result<bool, Unmade> {
     let is_idle = service.turn() == Ok(Turn::Idle);
     service.close(0)?;
     let is_done = service.turn() == Ok(Turn::Done);
@@ -34,6 +31,13 @@ fn over_a_resolver(alloc: Global) -> Result<bool, Unmade> {
         stop: None,
     };
     Ok(is_idle && is_done && service.sent(0) == 0 && service.settle() == account)
+}
+
+fn over_a_resolver(alloc: Global) -> Result<bool, Unmade> {
+    match Service::open(alloc, 1, 1)? {
+        Ok(mut service) => over_a_service(&mut service),
+        Err(_refused) => Err(Unmade::Memory),
+    }
 }
 
 #[test]

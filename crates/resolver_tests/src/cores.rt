@@ -1,10 +1,10 @@
 //! The worked rows over a core, whatever memory is refused.
 
-use crate::gate::{give, open};
-use crate::made::{batch_at_last, text_at_last};
+use crate::gate::{gives, open};
+use crate::made::batch_at_last;
 use crate::rows::{
-    HELD_OVERTAKEN, HELD_REPEAT_ANSWERED_TWICE, LEAST_PREVIOUS_LEAVES_FIRST,
-    REPEAT_BY_ANOTHER_PROXY, ROWS, Row, count_of, numbered, parts,
+    Call, Given, HELD_OVERTAKEN, HELD_REPEAT_ANSWERED_TWICE, LEAST_PREVIOUS_LEAVES_FIRST,
+    REPEAT_BY_ANOTHER_PROXY, ROWS, Row,
 };
 use resolver::{Core, Stop};
 use std::alloc::Global;
@@ -25,17 +25,19 @@ struct CoreRun {
     made: usize,
 }
 
+// What a row has come to: the stop that was met, if any, or else the index of the step that
+// answered otherwise. An answer that no step makes has the index after the last.
+type Outcome = Result<Option<Stop>, usize>;
+
 impl CoreRun {
-    fn call(&mut self, text: &str) -> Result<Result<(), Stop>, Unmade> {
-        if text == "finish" {
+    fn call(&mut self, call: Call<'_>) -> Result<Result<(), Stop>, Unmade> {
+        let Call::Admit(proxy, text) = call else {
             return Ok(self.core.finish());
-        }
-        let (proxy, text) = numbered(text)?;
-        let batch = batch_at_last(self.alloc, text)?;
+        };
         if proxy >= self.core.proxies() {
             return Err(Unmade::Beyond("proxy"));
         }
-        Ok(self.core.admit(proxy, batch))
+        Ok(self.core.admit(proxy, batch_at_last(self.alloc, text)?))
     }
 
     // Returns whether a call that makes n answers may return this. Once a stop was met it is the
@@ -58,63 +60,40 @@ impl CoreRun {
         }
     }
 
-    // Takes an answer, and returns whether it is this one. It may be missing where its step is the
-    // one that met the stop, or a later one.
-    fn gives(&mut self, step: usize, reported: &str) -> Result<bool, Unmade> {
-        let (proxy, expected) = numbered(reported.trim_start())?;
-        match give(&mut self.core, proxy)? {
-            Some(answer) => Ok(text_at_last(self.alloc, &answer)?.as_str() == expected),
-            None => Ok(step >= self.steps),
-        }
-    }
-
-    fn gives_all(&mut self, step: usize, answers: &str) -> Result<bool, Unmade> {
-        let mut is_right = true;
-        for reported in answers.split(';') {
-            if !reported.is_empty() {
-                is_right &= self.gives(step, reported)?;
+    // Takes the answers of a step, and returns whether they are these. One may be missing where its
+    // step is the one that met the stop, or a later one.
+    fn gives_all(&mut self, step: usize, answers: &[Given<'_>]) -> Result<bool, Unmade> {
+        for answer in answers {
+            if !gives(&mut self.core, self.alloc, *answer)?.unwrap_or(step >= self.steps) {
+                return Ok(false);
             }
         }
-        Ok(is_right)
+        Ok(true)
     }
-}
 
-// What a row has come to: the stop that was met, if any, or else the step that answered otherwise.
-type Outcome<'a> = Result<Option<Stop>, &'a str>;
-
-impl CoreRun {
-    // Makes the calls of the row, and returns the first that didn't return what it may.
-    fn calls_all<'a>(&mut self, row: &[&'a str]) -> Result<Option<&'a str>, Unmade> {
-        for step in row {
-            let (call, answers) = parts(step);
-            let returned = self.call(call)?;
-            if !self.looks_right(returned, count_of(answers)) {
-                return Ok(Some(*step));
+    // Makes the calls of the row, and then takes the answers. Returns the index of the first step
+    // that answered otherwise.
+    fn first_wrong(&mut self, row: Row<'_>) -> Result<Option<usize>, Unmade> {
+        for (step, (call, answers)) in row.iter().enumerate() {
+            let returned = self.call(*call)?;
+            if !self.looks_right(returned, answers.len()) {
+                return Ok(Some(step));
+            }
+        }
+        for (step, (_call, answers)) in row.iter().enumerate() {
+            if !self.gives_all(step, answers)? {
+                return Ok(Some(step));
             }
         }
         Ok(None)
     }
 
-    // Takes the answers of the row, and returns the first step whose answers aren't those that are
-    // given.
-    fn takes_all<'a>(&mut self, row: &[&'a str]) -> Result<Option<&'a str>, Unmade> {
-        for (place, step) in row.iter().enumerate() {
-            if !self.gives_all(place, parts(step).1)? {
-                return Ok(Some(*step));
-            }
-        }
-        Ok(None)
-    }
-
-    fn play<'a>(&mut self, row: &[&'a str]) -> Result<Outcome<'a>, Unmade> {
-        if let Some(step) = self.calls_all(row)? {
-            return Ok(Err(step));
-        }
-        if let Some(step) = self.takes_all(row)? {
+    fn play(&mut self, row: Row<'_>) -> Result<Outcome, Unmade> {
+        if let Some(step) = self.first_wrong(row)? {
             return Ok(Err(step));
         }
         if self.core.owed() > 0 {
-            return Ok(Err("an answer is still owed"));
+            return Ok(Err(row.len()));
         }
         Ok(Ok(self.stop))
     }
@@ -124,7 +103,7 @@ impl CoreRun {
 //
 // The answers given are those of the row up to the stop: all of the steps before it, a prefix of
 // those of the step that met it, and no other.
-fn outcome<'a>(alloc: Global, proxies: usize, row: &[&'a str]) -> Result<Outcome<'a>, Unmade> {
+fn outcome(alloc: Global, proxies: usize, row: Row<'_>) -> Result<Outcome, Unmade> {
     match open(alloc, proxies)? {
         Ok(core) => {
             let mut run = CoreRun {
@@ -141,7 +120,7 @@ fn outcome<'a>(alloc: Global, proxies: usize, row: &[&'a str]) -> Result<Outcome
 }
 
 // Runs a row that meets no stop. A core that answers `Memory` to every call fails here, too.
-fn goes_through(rt: &impl Abort, alloc: Global, proxies: usize, row: Row) -> Result<(), Fail> {
+fn goes_through(rt: &impl Abort, alloc: Global, proxies: usize, row: Row<'_>) -> Result<(), Fail> {
     assert_eq!(rt; outcome(alloc, proxies, row)?, Ok(None));
     Ok(())
 }

@@ -1,252 +1,149 @@
-//! The worked rows over lanes, whatever memory is refused.
-//!
-//! A step of a row is a call, and after `=` its answer: `send 0 0>100`, `close 0`, `turn = took 0`,
-//! `owed = 1`, `take 0 = 100 empty`, `take 0 = end`, `settle = complete`.
+//! The worked rows over lanes.
 
-use crate::made::{batch_at_last, text_at_last};
 use crate::service::Service;
 use lane::Taken;
-use resolver::{Account, Stop, Turn};
+use resolver::{Account, Turn};
 use std::alloc::Global;
 use std::process::Abort;
 use std::test::Fail;
-use test_values::Unmade;
+use test_values::{Unmade, batch};
 
-// A service that is given the steps of a row.
-#[derive(Drop)]
-struct LanesRun {
-    alloc: Global,
-    service: Service,
-    // The stop that was met.
-    stop: Option<Stop>,
-    // Whether an answer was missing, by proxy.
-    missed: [bool; 2],
+// A call, with its answer.
+#[derive(Clone, Copy)]
+enum Step<'a> {
+    // The proxy sends a batch, which its lane accepts.
+    Send(usize, &'a str),
+    Close(usize),
+    Turn(Turn),
+    Owed(usize),
+    // The proxy takes this answer.
+    Take(usize, &'a str),
+    // The proxy takes the end of its lane.
+    End(usize),
+    // There is no stop, and all is settled or not.
+    Settle(bool),
 }
 
-fn turn_of(text: &str) -> Result<Turn, Unmade> {
-    if let Some(proxy) = text.strip_prefix("took ") {
-        return Ok(Turn::Took(proxy.parse()?));
-    }
-    if text == "idle" {
-        Ok(Turn::Idle)
-    } else if text == "done" {
-        Ok(Turn::Done)
-    } else {
-        Err(Unmade::Text("turn"))
-    }
-}
-
-impl LanesRun {
-    // Sends a batch, which its lane accepts, or not after a stop.
-    fn send(&mut self, text: &str) -> Result<bool, Unmade> {
-        let Some((proxy, text)) = text.split_once(' ') else {
-            return Err(Unmade::Text("number of a proxy"));
-        };
-        let batch = batch_at_last(self.alloc, text)?;
-        let is_sent = self.service.send(proxy.parse()?, batch)?;
-        Ok(is_sent || self.stop.is_some())
-    }
-
-    // Turns once. Once a stop was met it is the same.
-    fn turn(&mut self, expected: Turn) -> bool {
-        match (self.stop, self.service.turn()) {
-            (None, Ok(turn)) => turn == expected,
-            (None, Err(stop)) => {
-                self.stop = Some(stop);
-                true
-            }
-            (Some(stop), Err(again)) => stop == again,
-            (Some(_stop), Ok(_turn)) => false,
-        }
-    }
-
-    // Takes what is next on the reply lane of the proxy. Only after a stop may it be missing, and
-    // then nothing more comes.
-    fn take(&mut self, proxy: usize, expected: &str) -> Result<bool, Unmade> {
-        let taken = self.service.take(proxy)?;
-        let Some(missed) = self.missed.get_mut(proxy) else {
-            return Err(Unmade::Beyond("proxy"));
-        };
-        match taken {
-            Taken::Item(answer) => {
-                let text = text_at_last(self.alloc, &answer)?;
-                Ok(!*missed && text.as_str() == expected)
-            }
-            Taken::End if expected == "end" => Ok(true),
-            Taken::End | Taken::Empty => {
-                *missed = true;
-                Ok(self.stop.is_some())
-            }
-        }
-    }
-
-    // Settles. After a stop nothing is complete.
-    fn settle(&mut self, expected: &str) -> bool {
-        let account = Account {
-            complete: self.stop.is_none() && expected == "complete",
-            stop: self.stop,
-        };
-        self.service.settle() == account
-    }
-
-    // Makes a step, and returns whether it may answer so.
-    fn step(&mut self, step: &str) -> Result<bool, Unmade> {
-        let (call, expected) = step.split_once(" = ").unwrap_or((step, ""));
-        if let Some(text) = call.strip_prefix("send ") {
-            self.send(text)
-        } else if let Some(proxy) = call.strip_prefix("close ") {
-            self.service.close(proxy.parse()?)?;
+// Makes the call, and returns whether it answers so.
+fn answers(service: &mut Service, alloc: Global, step: Step<'_>) -> Result<bool, Unmade> {
+    match step {
+        Step::Send(proxy, text) => service.send(proxy, batch(alloc, text)?),
+        Step::Close(proxy) => {
+            service.close(proxy)?;
             Ok(true)
-        } else if let Some(proxy) = call.strip_prefix("take ") {
-            self.take(proxy.parse()?, expected)
-        } else if call == "turn" {
-            Ok(self.turn(turn_of(expected)?))
-        } else if call == "owed" {
-            Ok(self.service.owed() == expected.parse()?)
-        } else if call == "settle" {
-            Ok(self.settle(expected))
-        } else {
-            Err(Unmade::Text("step"))
+        }
+        Step::Turn(turn) => Ok(service.turn() == Ok(turn)),
+        Step::Owed(count) => Ok(service.owed() == count),
+        Step::Take(proxy, text) => Ok(service.takes(alloc, proxy, text)? == Taken::Item(true)),
+        Step::End(proxy) => Ok(service.takes(alloc, proxy, "")? == Taken::End),
+        Step::Settle(complete) => {
+            let stop = None;
+            Ok(service.settle() == Account { complete, stop })
         }
     }
 }
 
-// What a row has come to: the stop that was met, if any, or else the step that answered otherwise.
-type Outcome<'a> = Result<Option<Stop>, &'a str>;
-
-impl LanesRun {
-    fn play<'a>(&mut self, row: &[&'a str]) -> Result<Outcome<'a>, Unmade> {
-        for step in row {
-            if !self.step(step)? {
-                return Ok(Err(*step));
-            }
+// Returns the index of the first step that is answered otherwise.
+fn first_wrong(
+    service: &mut Service,
+    alloc: Global,
+    steps: &[Step<'_>],
+) -> Result<Option<usize>, Unmade> {
+    for (index, step) in steps.iter().enumerate() {
+        if !answers(service, alloc, *step)? {
+            return Ok(Some(index));
         }
-        Ok(Ok(self.stop))
     }
+    Ok(None)
 }
 
-// Makes the steps of a row over new lanes of this capacity.
-fn outcome<'a>(
+// Makes the steps over new lanes: so many proxies, and the capacity.
+fn outcome(
     alloc: Global,
     (proxies, capacity): (usize, usize),
-    row: &[&'a str],
-) -> Result<Outcome<'a>, Unmade> {
+    steps: &[Step<'_>],
+) -> Result<Option<usize>, Unmade> {
     match Service::open(alloc, proxies, capacity)? {
-        Ok(service) => {
-            let mut run = LanesRun {
-                alloc,
-                service,
-                stop: None,
-                missed: [false, false],
-            };
-            run.play(row)
-        }
-        Err(_refused) => Ok(Ok(Some(Stop::Memory))),
+        Ok(mut service) => first_wrong(&mut service, alloc, steps),
+        Err(_refused) => Err(Unmade::Memory),
     }
 }
 
-// Runs a row that meets no stop.
-fn goes_through(
+fn go_through(
     rt: &impl Abort,
     alloc: Global,
     lanes: (usize, usize),
-    row: &[&str],
+    steps: &[Step<'_>],
 ) -> Result<(), Fail> {
-    assert_eq!(rt; outcome(alloc, lanes, row)?, Ok(None));
+    assert_eq!(rt; outcome(alloc, lanes, steps)?, None);
     Ok(())
 }
+
+const REPLY_LANE_OF_ONE: &[Step<'static>] = &[
+    Step::Send(0, "-1>0"),
+    Step::Turn(Turn::Took(0)),
+    Step::Owed(0),
+    Step::Send(0, "0>100"),
+    Step::Turn(Turn::Took(0)),
+    Step::Owed(1),
+    Step::Close(0),
+    Step::Turn(Turn::Idle),
+    Step::Owed(1),
+    Step::Take(0, "0 empty"),
+    Step::Turn(Turn::Done),
+    Step::Owed(0),
+    Step::Take(0, "100 empty"),
+    Step::End(0),
+    Step::Settle(true),
+];
 
 #[test]
 fn reply_lane_of_one(rt: HostRuntime) -> Result<(), Fail> {
-    let row = [
-        "send 0 -1>0",
-        "turn = took 0",
-        "owed = 0",
-        "send 0 0>100",
-        "turn = took 0",
-        "owed = 1",
-        "close 0",
-        "turn = idle",
-        "owed = 1",
-        "take 0 = 0 empty",
-        "turn = done",
-        "owed = 0",
-        "take 0 = 100 empty",
-        "take 0 = end",
-        "settle = complete",
-    ];
-    goes_through(&rt, rt.alloc(), (1, 1), &row)
+    go_through(&rt, rt.alloc(), (1, 1), REPLY_LANE_OF_ONE)
 }
+
+const BEFORE_AND_AFTER_TAKING: &[Step<'static>] = &[
+    Step::Send(0, "-1>0"),
+    Step::Turn(Turn::Took(0)),
+    Step::Close(0),
+    Step::Turn(Turn::Done),
+    Step::Settle(false),
+    Step::Take(0, "0 empty"),
+    Step::Settle(true),
+];
 
 #[test]
 fn settle_before_and_after_taking(rt: HostRuntime) -> Result<(), Fail> {
-    let row = [
-        "send 0 -1>0",
-        "turn = took 0",
-        "close 0",
-        "turn = done",
-        "settle = not complete",
-        "take 0 = 0 empty",
-        "settle = complete",
-    ];
-    goes_through(&rt, rt.alloc(), (1, 1), &row)
+    go_through(&rt, rt.alloc(), (1, 1), BEFORE_AND_AFTER_TAKING)
 }
+
+const TURNS: &[Step<'static>] = &[
+    Step::Send(0, "-1>0"),
+    Step::Send(0, "100>200"),
+    Step::Send(1, "0>100"),
+    Step::Send(1, "200>300"),
+    Step::Turn(Turn::Took(0)),
+    Step::Turn(Turn::Took(1)),
+    Step::Turn(Turn::Took(0)),
+    Step::Turn(Turn::Took(1)),
+];
 
 #[test]
 fn turns_go_round(rt: HostRuntime) -> Result<(), Fail> {
-    let row = [
-        "send 0 -1>0",
-        "send 0 100>200",
-        "send 1 0>100",
-        "send 1 200>300",
-        "turn = took 0",
-        "turn = took 1",
-        "turn = took 0",
-        "turn = took 1",
-    ];
-    goes_through(&rt, rt.alloc(), (2, 2), &row)
+    go_through(&rt, rt.alloc(), (2, 2), TURNS)
 }
+
+const HELD_AT_CLOSE: &[Step<'static>] = &[
+    Step::Send(0, "900>1000"),
+    Step::Turn(Turn::Took(0)),
+    Step::Close(0),
+    Step::Settle(false),
+    Step::Turn(Turn::Done),
+    Step::Take(0, "1000 held"),
+    Step::Settle(true),
+];
 
 #[test]
 fn held_at_close(rt: HostRuntime) -> Result<(), Fail> {
-    let row = [
-        "send 0 900>1000",
-        "turn = took 0",
-        "close 0",
-        "settle = not complete",
-        "turn = done",
-        "take 0 = 1000 held",
-        "settle = complete",
-    ];
-    goes_through(&rt, rt.alloc(), (1, 1), &row)
-}
-
-// A log whose second batch waits for the third, and the answer to it for room; its last is held to
-// the end.
-const TWO_LANES_OF_ONE: &[&str] = &[
-    "send 0 -1>0",
-    "turn = took 0",
-    "send 0 100>200: R[a,b) @100",
-    "turn = took 0",
-    "send 1 0>100: W[a,b)",
-    "turn = took 1",
-    "take 0 = 0 empty",
-    "take 1 = 100 committed",
-    "send 1 900>1000",
-    "turn = took 1",
-    "take 0 = 200 committed",
-    "close 0",
-    "close 1",
-    "turn = done",
-    "take 1 = 1000 held",
-    "turn = done",
-    "settle = complete",
-];
-
-// A refused growth stops the resolver, with what it answered before still handed out.
-#[test]
-fn resolver_stops_at_one_growth_refused(rt: HostRuntime) -> Result<(), Fail> {
-    let outcome = outcome(rt.alloc(), (2, 1), TWO_LANES_OF_ONE)?;
-    assert!(rt; matches!(outcome, Ok(None | Some(Stop::Memory))));
-    Ok(())
+    go_through(&rt, rt.alloc(), (1, 1), HELD_AT_CLOSE)
 }

@@ -1,9 +1,9 @@
 //! Tests of the conflict set and of the resolver, by their public calls alone.
 //!
 //! `set` resolves the worked rows of a conflict set, `cores` and `gate` those of a core, and
-//! `lanes` those of lanes. `served_proxies` calls a proved caller. `calls_without_waiting` makes
-//! each call over lanes where nothing can wait. Further rows, random batches beside a plain scan of
-//! all committed writes, and printed texts are tests of the Cargo edition (`cargo/tests`).
+//! `lanes` those of lanes. `calls_without_waiting` makes each call over lanes where nothing can
+//! wait. Further rows, random batches beside a plain scan of all committed writes, and printed
+//! texts are tests of the Cargo edition (`cargo/tests`).
 //!
 //! The tests named for it, as `core_stops_at_one_growth_refused`, pass whichever one growth is
 //! refused; `.ci/refused-memory` refuses each in turn. Those of `rows_over_lanes` play the rows of
@@ -29,8 +29,6 @@ mod made;
 mod rows;
 #[cfg(test)]
 mod rows_over_lanes;
-#[cfg(test)]
-mod served_proxies;
 #[cfg(test)]
 mod service;
 #[cfg(test)]

@@ -12,18 +12,38 @@ pub fn batch_at_last(alloc: Global, text: &str) -> Result<Batch, Unmade> {
     }
 }
 
-/// Writes an answer.
-pub fn text_at_last(alloc: Global, answer: &Answer) -> Result<String, Unmade> {
+fn answer_at_last(alloc: Global, answer: &Answer) -> Result<String, Unmade> {
     match show_answer(alloc, answer) {
         Err(Unmade::Memory) => show_answer(alloc, answer),
         made => made,
     }
 }
 
-/// Writes a reply.
-pub fn reply_at_last(alloc: Global, reply: &Reply) -> Result<String, Unmade> {
+fn reply_at_last(alloc: Global, reply: &Reply) -> Result<String, Unmade> {
     match show_reply(alloc, reply) {
         Err(Unmade::Memory) => show_reply(alloc, reply),
         made => made,
     }
+}
+
+/// Returns whether this is the text of the answer.
+pub fn is_answer(alloc: Global, answer: &Answer, text: &str) -> Result<bool, Unmade> {
+    Ok(answer_at_last(alloc, answer)?.as_str() == text)
+}
+
+/// Returns whether this is the text of the answer, or `None` if there is none.
+pub fn is_given(
+    alloc: Global,
+    answer: Option<&Answer>,
+    text: &str,
+) -> Result<Option<bool>, Unmade> {
+    match answer {
+        Some(answer) => Ok(Some(is_answer(alloc, answer, text)?)),
+        None => Ok(None),
+    }
+}
+
+/// Returns whether this is the text of the reply.
+pub fn is_reply(alloc: Global, reply: &Reply, text: &str) -> Result<bool, Unmade> {
+    Ok(reply_at_last(alloc, reply)?.as_str() == text)
 }

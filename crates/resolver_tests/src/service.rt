@@ -2,6 +2,7 @@
 ghost use Rattle.std.specs.Prelude.{◌≤◌};
 ghost use Rattle.resolver.specs.Resolver.{AreClients};
 
+use crate::made::is_answer;
 use keyspace::{Answer, Batch, WINDOW};
 use lane::{MAX_CAPACITY, Taken};
 use resolver::{Account, Client, MAX_PROXIES, OpenError, Resolver, Stop, Turn, open};
@@ -58,12 +59,27 @@ impl Service {
         Ok(())
     }
 
-    /// Takes what is next on the reply lane of the proxy.
-    pub fn take(&mut self, proxy: usize) -> Result<Taken<Answer>, Unmade> {
+    // Takes what is next on the reply lane of the proxy.
+    fn take(&mut self, proxy: usize) -> Result<Taken<Answer>, Unmade> {
         if proxy >= self.clients.len() {
             return Err(Unmade::Beyond("proxy"));
         }
         Ok(self.clients[proxy].replies.take())
+    }
+
+    /// Takes what is next on the reply lane of the proxy. Returns whether it is the answer of this
+    /// text, and `Empty` or `End` if it is no answer.
+    pub fn takes(
+        &mut self,
+        alloc: Global,
+        proxy: usize,
+        text: &str,
+    ) -> Result<Taken<bool>, Unmade> {
+        match self.take(proxy)? {
+            Taken::Item(answer) => compared(alloc, &answer, text),
+            Taken::Empty => Ok(Taken::Empty),
+            Taken::End => Ok(Taken::End),
+        }
     }
 
     /// Turns the resolver once.
@@ -85,4 +101,8 @@ impl Service {
     pub fn owed(&self) -> usize {
         self.resolver.owed()
     }
+}
+
+fn compared(alloc: Global, answer: &Answer, text: &str) -> Result<Taken<bool>, Unmade> {
+    Ok(Taken::Item(is_answer(alloc, answer, text)?))
 }

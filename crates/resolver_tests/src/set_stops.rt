@@ -1,7 +1,7 @@
 //! A conflict set that is refused memory stops for good.
 
 use crate::chained::Chained;
-use crate::made::{batch_at_last, reply_at_last};
+use crate::made::{batch_at_last, is_reply};
 use crate::set::LIMIT;
 use conflict::SetStop;
 use keyspace::WINDOW;
@@ -45,21 +45,29 @@ fn set_at_last(alloc: Global) -> Result<Chained, Unmade> {
     }
 }
 
+// Resolves a batch, and returns whether it is replied to so, or `None` at a stop.
+fn resolves(
+    alloc: Global,
+    set: &mut Chained,
+    (text, line): (&str, &str),
+) -> Result<Option<bool>, Unmade> {
+    let batch = batch_at_last(alloc, text)?;
+    match set.resolve(&batch)? {
+        Ok(reply) => Ok(Some(is_reply(alloc, &reply, line)?)),
+        Err(SetStop::Memory) => Ok(None),
+        Err(_stop) => Ok(Some(false)),
+    }
+}
+
 // Resolves the batches, and returns whether each is replied to so until one is refused memory, and
 // then none.
 fn stops_for_good(alloc: Global, set: &mut Chained, replied: Replied) -> Result<bool, Unmade> {
     let mut is_stopped = false;
-    for (text, line) in replied {
-        let batch = batch_at_last(alloc, text)?;
-        let is_right = match set.resolve(&batch)? {
-            Ok(reply) => !is_stopped && reply_at_last(alloc, &reply)?.as_str() == *line,
-            Err(stop) => {
-                is_stopped = true;
-                stop == SetStop::Memory
-            }
-        };
-        if !is_right {
-            return Ok(false);
+    for row in replied {
+        match resolves(alloc, set, *row)? {
+            Some(is_right) if is_stopped || !is_right => return Ok(false),
+            Some(_is_right) => {}
+            None => is_stopped = true,
         }
     }
     Ok(true)

@@ -4,7 +4,6 @@ use crate::arena_calls::shows;
 use arena::{Arena, ArenaError, Slot};
 use linked_list_allocator::LocalHeap;
 use std::alloc::{AllocError, Allocator, Global};
-use std::process::Abort;
 use std::test::Fail;
 
 // Takes what memory the heap has left.
@@ -23,33 +22,44 @@ fn rest_of<'a>(
     Ok(taken)
 }
 
-// Places 512 keys of one byte each, and adds their slots to these.
-fn fill_chunk<A: Allocator + Copy>(
-    arena: &mut Arena<u32, A>,
-    mut slots: Vec<Slot>,
-) -> Result<Vec<Slot>, Fail> {
+// Places 512 keys of one byte each, and returns the slot of the key at this index.
+fn fill_chunk<A: Allocator + Copy>(arena: &mut Arena<u32, A>, index: u32) -> Option<Slot> {
+    let mut found = None;
     for number in 0..512_u32 {
-        slots.push(arena.place(number, &[(number % 256) as u8])?)?;
+        let placed = arena.place(number, &[(number % 256) as u8]);
+        if number == index {
+            found = placed.ok();
+        }
     }
-    Ok(slots)
+    found
 }
 
-// Releases the slot, and places another key.
-fn replace<A: Allocator + Copy>(
-    rt: &impl Abort,
-    arena: &mut Arena<u32, A>,
-    slot: Slot,
-) -> Result<Slot, ArenaError> {
-    assert!(rt; arena.is_live(slot));
+// Releases the slot, and places another key, which is given the slot again.
+fn replaces<A: Allocator + Copy>(arena: &mut Arena<u32, A>, slot: Slot) -> bool {
+    if !arena.is_live(slot) {
+        return false;
+    }
     arena.release(slot);
-    assert_eq!(rt; arena.live(), 511);
-    assert!(rt; !arena.is_live(slot));
-    arena.reserve(&[20])?;
-    arena.place(1000, b"twenty bytes of text")
+    arena.live() == 511
+        && !arena.is_live(slot)
+        && arena.reserve(&[20]).is_ok()
+        && arena.place(1000, b"twenty bytes of text") == Ok(slot)
+        && shows(arena, slot, 1000, b"twenty bytes of text")
+}
+
+// Fills a chunk that is reserved, and replaces a key. No call is refused.
+fn fills_and_replaces<A: Allocator + Copy>(arena: &mut Arena<u32, A>) -> bool {
+    let Some(slot) = fill_chunk(arena, 100) else {
+        return false;
+    };
+    arena.live() == 512
+        && shows(arena, slot, 100, &[100])
+        && replaces(arena, slot)
+        && arena.live() == 512
 }
 
 // Returns whether each call is refused that wants a slot more than there are.
-fn refuses_growth<A: Allocator + Copy>(arena: &mut Arena<u32, A>) -> bool {
+fn refuses_growth(arena: &mut Arena<u32, &LocalHeap>) -> bool {
     arena.reserve(&[33]) == Err(ArenaError::Memory)
         && arena.reserve(&[1, 33]) == Err(ArenaError::Memory)
         && arena.reserve_slots(33, 300) == Err(ArenaError::Memory)
@@ -57,107 +67,73 @@ fn refuses_growth<A: Allocator + Copy>(arena: &mut Arena<u32, A>) -> bool {
         && arena.place(1, b"no slot is left").err() == Some(ArenaError::Memory)
 }
 
-// Returns whether the keys of one byte are there, except the slot that was given again.
-fn shows_chunk<A: Allocator + Copy>(arena: &Arena<u32, A>, slots: &[Slot], again: Slot) -> bool {
-    let mut all_show = shows(arena, again, 1000, b"twenty bytes of text");
-    for (number, slot) in (0..512_u32).zip(slots) {
-        all_show &= *slot == again || shows(arena, *slot, number, &[(number % 256) as u8]);
-    }
-    all_show
-}
-
-// Fills a chunk, gives one of its slots again, and then takes no more.
-fn fill_and_replace<A: Allocator + Copy>(
-    rt: &impl Abort,
-    arena: &mut Arena<u32, A>,
-    room: Vec<Slot>,
-) -> Result<(), Fail> {
-    let slots = fill_chunk(arena, room)?;
-    assert_eq!(rt; arena.live(), 512);
-    assert_eq!(rt; slots.len(), 512);
-    let again = replace(rt, arena, slots[100])?;
-    assert_eq!(rt; again, slots[100]);
-    assert!(rt; refuses_growth(arena));
-    assert_eq!(rt; arena.live(), 512);
-    assert!(rt; shows_chunk(arena, &slots, again));
-    Ok(())
+// Fills a chunk that is reserved, once no memory is left. Then no other slot is given.
+fn at_full_heap(alloc: Global, heap: &LocalHeap) -> Result<bool, AllocError> {
+    let mut arena: Arena<u32, &LocalHeap> = Arena::new(heap);
+    let is_reserved = arena.reserve(&[1; 512]).is_ok();
+    let _rest = rest_of(alloc, heap)?;
+    Ok(
+        is_reserved
+            && fills_and_replaces(&mut arena)
+            && refuses_growth(&mut arena)
+            && arena.live() == 512,
+    )
 }
 
 #[test]
 fn arena_chunk_and_refusal(rt: HostRuntime) -> Result<(), Fail> {
     let heap = LocalHeap::new(rt.alloc(), 200_000)?;
-    let mut arena: Arena<u32, &LocalHeap> = Arena::new(&heap);
-    arena.reserve(&[1; 512])?;
-    let _rest = rest_of(rt.alloc(), &heap)?;
-    fill_and_replace(&rt, &mut arena, Vec::new(rt.alloc()))
+    assert!(rt; at_full_heap(rt.alloc(), &heap)?);
+    Ok(())
 }
 
-// Places a record, in a second try where the first is refused memory.
-fn place_at_last(rt: &impl Abort, arena: &mut Arena<u32>, header: u32, key: &[u8]) -> Option<Slot> {
+// Places a record, in a second try where the first is refused memory, which changes nothing.
+fn place_at_last(arena: &mut Arena<u32>, header: u32, key: &[u8]) -> Option<Slot> {
     let live = arena.live();
     match arena.place(header, key) {
-        Ok(slot) => Some(slot),
-        Err(refusal) => {
-            assert_eq!(rt; refusal, ArenaError::Memory);
-            assert_eq!(rt; arena.live(), live);
-            arena.place(header, key).ok()
-        }
+        Err(ArenaError::Memory) if arena.live() == live => arena.place(header, key).ok(),
+        placed => placed.ok(),
     }
 }
 
-// Reserves slots, in a second try where the first is refused memory.
-fn reserve_at_last(rt: &impl Abort, arena: &mut Arena<u32>, lengths: &[usize]) {
+// Reserves slots, in a second try where the first is refused memory, which changes nothing.
+fn is_reserved_at_last(arena: &mut Arena<u32>, lengths: &[usize]) -> bool {
     let live = arena.live();
-    if let Err(refusal) = arena.reserve(lengths) {
-        assert_eq!(rt; refusal, ArenaError::Memory);
-        assert_eq!(rt; arena.live(), live);
-        assert!(rt; arena.reserve(lengths).is_ok());
+    match arena.reserve(lengths) {
+        Err(ArenaError::Memory) if arena.live() == live => arena.reserve(lengths).is_ok(),
+        reserved => reserved.is_ok(),
     }
+}
+
+// Reserves slots. No key of a reserved length is refused.
+fn reserves(arena: &mut Arena<u32>) -> bool {
+    is_reserved_at_last(arena, &[3, 40, 16_000])
+        && arena.place(1, b"key").is_ok()
+        && arena.place(2, &[7; 40]).is_ok()
 }
 
 // Its outcome is the same whichever one growth is refused.
 #[test]
 fn one_growth_refused(rt: HostRuntime) {
     let mut arena = Arena::new(rt.alloc());
-    let first = place_at_last(&rt, &mut arena, 0, b"first");
-    reserve_at_last(&rt, &mut arena, &[3, 40, 16_000]);
-    assert!(rt; arena.place(1, b"key").is_ok());
-    assert!(rt; arena.place(2, &[7; 40]).is_ok());
-    for number in 3..600_u32 {
-        assert!(rt; place_at_last(&rt, &mut arena, number, b"").is_some());
-    }
-    assert_eq!(rt; arena.live(), 600);
-    let Some(slot) = first else {
+    let Some(slot) = place_at_last(&mut arena, 0, b"first") else {
         panic!(rt; "the first place was refused twice");
     };
-    assert!(rt; shows(&arena, slot, 0, b"first"));
-}
-
-// Makes room for as many slots, in a second try where the first is refused memory.
-fn room_at_last(alloc: Global, count: usize) -> Result<Vec<Slot>, AllocError> {
-    match Vec::with_capacity(alloc, count) {
-        Ok(room) => Ok(room),
-        Err(_refused) => Vec::with_capacity(alloc, count),
+    assert!(rt; reserves(&mut arena));
+    for number in 3..600_u32 {
+        assert!(rt; place_at_last(&mut arena, number, b"").is_some());
     }
+    assert_eq!(rt; arena.live(), 600);
+    assert!(rt; shows(&arena, slot, 0, b"first"));
 }
 
 // The calls of `arena_chunk_and_refusal`: no key of a reserved length is refused, and the slot that
 // was released is given again.
 #[test]
-fn chunk_with_one_growth_refused(rt: HostRuntime) -> Result<(), Fail> {
-    let room = room_at_last(rt.alloc(), 512)?;
-    let mut arena: Arena<u32> = Arena::new(rt.alloc());
-    reserve_at_last(&rt, &mut arena, &[1; 512]);
-    let slots = fill_chunk(&mut arena, room)?;
+fn chunk_with_one_growth_refused(rt: HostRuntime) {
+    let mut arena = Arena::new(rt.alloc());
+    assert!(rt; is_reserved_at_last(&mut arena, &[1; 512]));
+    assert!(rt; fills_and_replaces(&mut arena));
+    assert!(rt; is_reserved_at_last(&mut arena, &[33, 33, 16_000]));
     assert_eq!(rt; arena.live(), 512);
-    assert_eq!(rt; slots.len(), 512);
-    assert!(rt; arena.is_live(slots[100]));
-    arena.release(slots[100]);
-    reserve_at_last(&rt, &mut arena, &[33, 33, 16_000]);
-    let again = arena.place(1000, b"twenty bytes of text")?;
-    assert_eq!(rt; again, slots[100]);
-    reserve_at_last(&rt, &mut arena, &[20, 100]);
-    assert_eq!(rt; arena.live(), 512);
-    assert!(rt; shows_chunk(&arena, &slots, again));
-    Ok(())
 }

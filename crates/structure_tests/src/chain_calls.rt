@@ -3,7 +3,6 @@
 use chain::{ChainError, Gate, Replies};
 use keyspace::Batch;
 use std::alloc::Global;
-use std::process::Abort;
 use std::test::Fail;
 use test_values::{Unmade, batch_of, reply};
 
@@ -12,53 +11,68 @@ fn left(leaving: Option<(usize, Batch)>) -> (usize, i64) {
     leaving.map_or((0, -1), |held| (held.0, held.1.version))
 }
 
-// The version of the reply that is kept, or -1.
-fn kept(replies: &Replies, proxy: usize, version: i64) -> i64 {
-    replies
-        .find(proxy, version)
-        .map_or(-1, |reply| reply.version)
+// The version of the reply of proxy 0 that is kept, or -1.
+fn kept(replies: &Replies, version: i64) -> i64 {
+    replies.find(0, version).map_or(-1, |reply| reply.version)
 }
 
-// Keeps the proxy's reply of this version, unless there is one. It has no entries.
+// Keeps proxy 0's reply of this version, unless there is one. It has no entries.
 fn put(
     alloc: Global,
     replies: &mut Replies,
-    proxy: usize,
     version: i64,
 ) -> Result<Result<(), ChainError>, Unmade> {
     let reply = reply(version, Vec::new(alloc))?;
-    if replies.find(proxy, reply.version).is_some() {
+    if replies.find(0, reply.version).is_some() {
         return Ok(Ok(()));
     }
-    Ok(replies.put(proxy, reply))
+    Ok(replies.put(0, reply))
 }
 
-// Holds the batch, in a second try where the first is refused memory.
-fn hold_at_last(rt: &impl Abort, gate: &mut Gate, batch: Batch) {
+// Holds the batch, in a second try where the first is refused memory. Returns whether the refusal
+// changes nothing.
+fn hold_at_last(gate: &mut Gate, batch: Batch) -> bool {
     let held = gate.held();
     let given = (batch.previous, batch.version, batch.received);
     let Err((refusal, back)) = gate.hold(0, batch) else {
-        return;
+        return true;
     };
-    assert_eq!(rt; refusal, ChainError::Memory);
-    assert_eq!(rt; (back.previous, back.version, back.received), given);
-    assert_eq!(rt; gate.held(), held);
-    assert!(rt; gate.hold(0, back).is_ok());
+    let is_same = (back.previous, back.version, back.received) == given && gate.held() == held;
+    gate.hold(0, back).is_ok() && is_same && refusal == ChainError::Memory
 }
 
-// Keeps the reply of this version, in a second try where the first is refused memory.
-fn put_at_last(
-    rt: &impl Abort,
-    alloc: Global,
-    replies: &mut Replies,
-    version: i64,
-) -> Result<(), Unmade> {
-    if let Err(refusal) = put(alloc, replies, 0, version)? {
-        assert_eq!(rt; refusal, ChainError::Memory);
-        assert_eq!(rt; kept(replies, 0, version), -1);
-        assert!(rt; put(alloc, replies, 0, version)?.is_ok());
+// Keeps the reply of this version, in a second try where the first is refused memory. Returns
+// whether the refusal changes nothing.
+fn put_at_last(alloc: Global, replies: &mut Replies, version: i64) -> Result<bool, Unmade> {
+    let Err(refusal) = put(alloc, replies, version)? else {
+        return Ok(true);
+    };
+    let is_same = kept(replies, version) == -1;
+    Ok(put(alloc, replies, version)?.is_ok() && is_same && refusal == ChainError::Memory)
+}
+
+// Holds a batch of each version, and keeps a reply. Returns whether no refusal changes anything.
+fn fills(alloc: Global, gate: &mut Gate, replies: &mut Replies) -> Result<bool, Unmade> {
+    let mut is_right = true;
+    for number in 1..40_u32 {
+        let version = i64::from(number);
+        is_right &= put_at_last(alloc, replies, version)?;
+        let batch = batch_of(alloc, version - 1, version, -1, Vec::new(alloc))?;
+        is_right &= hold_at_last(gate, batch);
     }
-    Ok(())
+    Ok(is_right)
+}
+
+// Returns whether each of these is there, until it is taken.
+fn empties(gate: &mut Gate, replies: &mut Replies) -> bool {
+    let mut is_right = true;
+    for number in 1..40_u32 {
+        let version = i64::from(number);
+        is_right &= kept(replies, version) == version;
+        replies.forget_to(0, version);
+        is_right &= left(gate.next_for(version)) == (0, version);
+    }
+    is_right && gate.held() == 0
 }
 
 // Its outcome is the same whichever one growth is refused.
@@ -66,18 +80,7 @@ fn put_at_last(
 fn one_growth_refused(rt: HostRuntime) -> Result<(), Fail> {
     let mut gate = Gate::new(rt.alloc());
     let mut replies = Replies::new(rt.alloc());
-    for number in 1..40_u32 {
-        let version = i64::from(number);
-        let batch = batch_of(rt.alloc(), version - 1, version, -1, Vec::new(rt.alloc()))?;
-        hold_at_last(&rt, &mut gate, batch);
-        put_at_last(&rt, rt.alloc(), &mut replies, version)?;
-    }
-    for number in 1..40_u32 {
-        let version = i64::from(number);
-        assert_eq!(rt; kept(&replies, 0, version), version);
-        replies.forget_to(0, version);
-        assert_eq!(rt; left(gate.next_for(version)), (0, version));
-    }
-    assert_eq!(rt; gate.held(), 0);
+    assert!(rt; fills(rt.alloc(), &mut gate, &mut replies)?);
+    assert!(rt; empties(&mut gate, &mut replies));
     Ok(())
 }

@@ -23,57 +23,72 @@ impl LaneEnds {
         Ok(LaneEnds { port, intake })
     }
 
-    // Makes the call and returns its answer.
-    fn call(&mut self, alloc: Global, call: &str) -> Result<String, Fail> {
-        match call {
-            "take" => taken(alloc, self.intake.take_beside(&mut self.port)),
-            "close" => {
+    fn sends(&mut self, item: u32, answer: Result<(), Refused<u32>>) -> bool {
+        self.port.send(item) == answer
+    }
+
+    fn takes(&mut self, answer: Taken<u32>) -> bool {
+        self.intake.take_beside(&mut self.port) == answer
+    }
+
+    // Makes the call, and returns whether it answers so.
+    fn answers(&mut self, step: Step) -> bool {
+        match step {
+            Step::Send(item) => self.sends(item, Ok(())),
+            Step::Full(item) => self.sends(item, Err(Refused::Full(item))),
+            Step::Closed(item) => self.sends(item, Err(Refused::Closed(item))),
+            Step::Take(item) => self.takes(Taken::Item(item)),
+            Step::End => self.takes(Taken::End),
+            Step::Close => {
                 self.port.close();
-                Ok(format!(in alloc; "closed")?)
+                true
             }
-            item => sent(alloc, self.port.send(item.parse()?)),
         }
     }
 }
 
-fn taken(alloc: Global, taken: Taken<u32>) -> Result<String, Fail> {
-    match taken {
-        Taken::Item(item) => Ok(format!(in alloc; "item:{item}")?),
-        Taken::Empty => Ok(format!(in alloc; "empty")?),
-        Taken::End => Ok(format!(in alloc; "end")?),
-    }
+// A call of a lane, with its answer. It takes beside the port.
+#[derive(Clone, Copy)]
+enum Step {
+    // The item is sent.
+    Send(u32),
+    // The lane is full, and the item is returned.
+    Full(u32),
+    // The lane is closed, and the item is returned.
+    Closed(u32),
+    // The item is taken.
+    Take(u32),
+    // The lane has ended.
+    End,
+    Close,
 }
 
-fn sent(alloc: Global, sent: Result<(), Refused<u32>>) -> Result<String, Fail> {
-    match sent {
-        Ok(()) => Ok(format!(in alloc; "sent")?),
-        Err(Refused::Full(item)) => Ok(format!(in alloc; "full:{item}")?),
-        Err(Refused::Closed(item)) => Ok(format!(in alloc; "closed:{item}")?),
-        Err(Refused::Worn(item)) => Ok(format!(in alloc; "worn:{item}")?),
-    }
-}
+const LANE_OF_ONE: [Step; 9] = [
+    Step::Send(7),
+    Step::Full(8),
+    Step::Take(7),
+    Step::Send(8),
+    Step::Close,
+    Step::Closed(9),
+    Step::Take(8),
+    Step::End,
+    Step::End,
+];
 
-// Makes these calls of a lane of this capacity, each a word: a number is sent, and `take` takes
-// beside the port. Returns the answers.
-fn answers(alloc: Global, capacity: usize, calls: &str) -> Result<String, Fail>
-    requires some { 0 < capacity }
-    requires limit { capacity ≤ MAX_CAPACITY }
-{
-    let mut ends = LaneEnds::new(alloc, capacity)?;
-    let mut answers = String::new(alloc);
-    for call in calls.split_whitespace() {
-        answers.push_str(ends.call(alloc, call)?.as_str())?;
-        answers.push(' ')?;
+// Makes these calls, and returns the index of the first that is answered otherwise.
+fn first_wrong(ends: &mut LaneEnds, steps: &[Step]) -> Option<usize> {
+    for (index, step) in steps.iter().enumerate() {
+        if !ends.answers(*step) {
+            return Some(index);
+        }
     }
-    Ok(answers)
+    None
 }
 
 #[test]
 fn lane_of_one(rt: HostRuntime) -> Result<(), Fail> {
-    let calls = "7 8 take 8 close 9 take take take";
-    let answers = answers(rt.alloc(), 1, calls)?;
-    let expected = "sent full:8 item:7 sent closed closed:9 item:8 end end ";
-    assert_eq!(rt; answers.as_str(), expected);
+    let mut ends = LaneEnds::new(rt.alloc(), 1)?;
+    assert_eq!(rt; first_wrong(&mut ends, &LANE_OF_ONE), None);
     Ok(())
 }
 

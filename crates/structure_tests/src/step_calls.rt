@@ -5,130 +5,178 @@ use keyspace::Range;
 use std::alloc::Global;
 use std::process::Abort;
 use std::test::Fail;
-use stepmap::{MAX_LIMIT, StepError, StepMap, SweepEnd};
+use stepmap::{MAX_LIMIT, StepError, SweepEnd};
 use test_values::range;
 
-// Writes the version between two keys.
-fn put(
-    rt: &impl Abort,
-    alloc: Global,
+// A call, with its answer.
+#[derive(Clone, Copy)]
+enum Step<'a> {
+    // Writes the version between two keys. If memory is refused, the map has these versions at
+    // keys, as before, and the next try succeeds.
+    Write(&'a str, &'a str, i64, &'a str),
+    // Prepares for a range between two keys.
+    Prepare(&'a str, &'a str, Result<(), StepError>),
+    Raise(i64),
+    // Sweeps that many boundaries.
+    Sweep(usize, SweepEnd),
+    // There are that many boundaries, and these versions at keys.
+    Has(usize, &'a str),
+}
+
+fn range_of(alloc: Global, begin: &str, end: &str) -> Result<Range, StepError> {
+    match range(alloc, begin.as_bytes(), end.as_bytes()) {
+        Ok(range) => Ok(range),
+        Err(_refused) => Err(StepError::Memory),
+    }
+}
+
+fn write_at_last(
     written: &mut WrittenModel,
-    (begin, end): (&str, &str),
+    range: &Range,
     version: i64,
     before: &str,
-) -> Result<(), StepError> {
-    let Ok(range) = range(alloc, begin.as_bytes(), end.as_bytes()) else {
-        return Err(StepError::Memory);
-    };
-    written.write(rt, &range, version, before)
+) -> Result<bool, StepError> {
+    match written.write(range, version) {
+        Err(StepError::Memory) => {
+            let is_as_before = shows(written.map(), before);
+            Ok(written.write(range, version)? && is_as_before)
+        }
+        is_written => is_written,
+    }
 }
 
-// [a,d) written at 100, then [b,c) at 200.
-fn two_writes(rt: &impl Abort, alloc: Global) -> Result<WrittenModel, StepError> {
-    let mut written = WrittenModel::new(alloc, MAX_LIMIT)?;
-    let before = "=-1 a=-1 d=-1";
-    put(rt, alloc, &mut written, ("a", "d"), 100, before)?;
-    let before = "=-1 a=100 b=100 c=100 d=-1";
-    put(rt, alloc, &mut written, ("b", "c"), 200, before)?;
-    Ok(written)
-}
-
-// Returns whether there are this many boundaries, and these versions at keys.
-fn has(map: &StepMap, boundaries: usize, rows: &str) -> bool {
+fn has(written: &WrittenModel, boundaries: usize, rows: &str) -> bool {
+    let map = written.map();
     map.boundaries() == boundaries && shows(map, rows)
 }
 
-#[test]
-fn step_map_overwrite_and_sweep(rt: HostRuntime) -> Result<(), Fail> {
-    let mut written = two_writes(&rt, rt.alloc())?;
-    assert!(rt; has(written.map(), 5, "=-1 a=100 b=200 c=100 d=-1"));
-    written.raise(&rt, 150);
-    assert!(rt; written.sweep(4) == SweepEnd::Round);
-    assert!(rt; has(written.map(), 3, "=-1 a=-1 b=200 c=100 d=100"));
-    written.raise(&rt, 201);
-    assert!(rt; written.sweep(4) == SweepEnd::Round);
-    assert!(rt; has(written.map(), 1, ""));
+// Makes the call, and returns whether it answers so.
+fn answers(written: &mut WrittenModel, alloc: Global, step: Step<'_>) -> Result<bool, StepError> {
+    match step {
+        Step::Write(begin, end, version, before) => {
+            write_at_last(written, &range_of(alloc, begin, end)?, version, before)
+        }
+        Step::Prepare(begin, end, prepared) => {
+            Ok(written.prepare(&range_of(alloc, begin, end)?) == prepared)
+        }
+        Step::Raise(edge) => Ok(written.raise(edge)),
+        Step::Sweep(count, end) => Ok(written.sweep(count) == end),
+        Step::Has(boundaries, rows) => Ok(has(written, boundaries, rows)),
+    }
+}
+
+// Returns the index of the first step that is answered otherwise.
+fn first_wrong(
+    written: &mut WrittenModel,
+    alloc: Global,
+    steps: &[Step<'_>],
+) -> Result<Option<usize>, StepError> {
+    for (index, step) in steps.iter().enumerate() {
+        if !answers(written, alloc, *step)? {
+            return Ok(Some(index));
+        }
+    }
+    Ok(None)
+}
+
+// Makes the steps over a new map of this limit.
+fn outcome(alloc: Global, limit: usize, steps: &[Step<'_>]) -> Result<Option<usize>, StepError> {
+    if limit == 0 || limit > MAX_LIMIT {
+        return Err(StepError::Full);
+    }
+    let mut written = WrittenModel::new(alloc, limit)?;
+    first_wrong(&mut written, alloc, steps)
+}
+
+fn go_through(
+    rt: &impl Abort,
+    alloc: Global,
+    limit: usize,
+    steps: &[Step<'_>],
+) -> Result<(), Fail> {
+    assert_eq!(rt; outcome(alloc, limit, steps)?, None);
     Ok(())
 }
+
+const OVERWRITE_AND_SWEEP: &[Step<'static>] = &[
+    Step::Write("a", "d", 100, ""),
+    Step::Write("b", "c", 200, ""),
+    Step::Has(5, "=-1 a=100 b=200 c=100 d=-1"),
+    Step::Raise(150),
+    Step::Sweep(4, SweepEnd::Round),
+    Step::Has(3, "=-1 a=-1 b=200 c=100 d=100"),
+    Step::Raise(201),
+    Step::Sweep(4, SweepEnd::Round),
+    Step::Has(1, ""),
+];
+
+#[test]
+fn step_map_overwrite_and_sweep(rt: HostRuntime) -> Result<(), Fail> {
+    go_through(&rt, rt.alloc(), MAX_LIMIT, OVERWRITE_AND_SWEEP)
+}
+
+const PACED_SWEEP: &[Step<'static>] = &[
+    Step::Write("a", "d", 100, ""),
+    Step::Write("b", "c", 200, ""),
+    Step::Raise(150),
+    Step::Sweep(2, SweepEnd::Stopped),
+    Step::Has(4, ""),
+    Step::Sweep(1, SweepEnd::Stopped),
+    Step::Has(4, ""),
+    Step::Sweep(1, SweepEnd::Round),
+    Step::Has(3, ""),
+    Step::Sweep(5, SweepEnd::Round),
+    Step::Has(3, "=-1 a=-1 b=200 c=100 d=100"),
+];
 
 #[test]
 fn paced_sweep_rounds(rt: HostRuntime) -> Result<(), Fail> {
-    let mut written = two_writes(&rt, rt.alloc())?;
-    written.raise(&rt, 150);
-    for (count, end, boundaries) in [
-        (2, SweepEnd::Stopped, 4),
-        (1, SweepEnd::Stopped, 4),
-        (1, SweepEnd::Round, 3),
-        (5, SweepEnd::Round, 3),
-    ] {
-        assert!(rt; written.sweep(count) == end);
-        assert_eq!(rt; written.map().boundaries(), boundaries);
-    }
-    assert!(rt; has(written.map(), 3, "=-1 a=-1 b=200 c=100 d=100"));
-    Ok(())
+    go_through(&rt, rt.alloc(), MAX_LIMIT, PACED_SWEEP)
 }
+
+const SWEEP_AFTER_WRITE: &[Step<'static>] = &[
+    Step::Write("a", "d", 100, ""),
+    Step::Write("b", "c", 200, ""),
+    Step::Raise(150),
+    Step::Sweep(2, SweepEnd::Stopped),
+    Step::Write("bb", "e", 300, ""),
+    Step::Has(4, "=-1 b=200 bb=300 d=300 e=-1"),
+    Step::Sweep(1, SweepEnd::Round),
+    Step::Has(4, ""),
+];
 
 #[test]
 fn paced_sweep_after_write(rt: HostRuntime) -> Result<(), Fail> {
-    let mut written = two_writes(&rt, rt.alloc())?;
-    written.raise(&rt, 150);
-    assert!(rt; written.sweep(2) == SweepEnd::Stopped);
-    put(
-        &rt,
-        rt.alloc(),
-        &mut written,
-        ("bb", "e"),
-        300,
-        "b=200 c=100",
-    )?;
-    assert!(rt; has(written.map(), 4, "=-1 b=200 bb=300 d=300 e=-1"));
-    assert!(rt; written.sweep(1) == SweepEnd::Round);
-    assert!(rt; has(written.map(), 4, ""));
-    Ok(())
+    go_through(&rt, rt.alloc(), MAX_LIMIT, SWEEP_AFTER_WRITE)
 }
 
-// Returns whether the limit refuses the range, and leaves the boundaries of [a,b).
-fn is_full(written: &mut WrittenModel, range: &Range) -> bool {
-    written.prepare(range) == Err(StepError::Full) && has(written.map(), 3, "a=100")
-}
-
-// Prepares for the range once the edge is raised. Before, the limit refuses it.
-fn prepare_after_raise(
-    rt: &impl Abort,
-    written: &mut WrittenModel,
-    range: &Range,
-) -> Result<(), StepError> {
-    assert!(rt; is_full(written, range));
-    written.raise(rt, 101);
-    written.prepare(range)
-}
-
-// Writes [a,b), and prepares for [c,d).
-fn write_and_prepare(
-    rt: &impl Abort,
-    alloc: Global,
-    written: &mut WrittenModel,
-) -> Result<(), Fail> {
-    put(rt, alloc, written, ("a", "b"), 100, "")?;
-    Ok(prepare_after_raise(rt, written, &range(alloc, b"c", b"d")?)?)
-}
+const LIMIT_THREE: &[Step<'static>] = &[
+    Step::Write("a", "b", 100, ""),
+    Step::Prepare("c", "d", Err(StepError::Full)),
+    Step::Has(3, "a=100"),
+    Step::Raise(101),
+    Step::Prepare("c", "d", Ok(())),
+    Step::Has(1, ""),
+];
 
 #[test]
 fn limit_three_step_map(rt: HostRuntime) -> Result<(), Fail> {
-    let mut written = WrittenModel::new(rt.alloc(), 3)?;
-    write_and_prepare(&rt, rt.alloc(), &mut written)?;
-    assert!(rt; has(written.map(), 1, ""));
-    Ok(())
+    go_through(&rt, rt.alloc(), 3, LIMIT_THREE)
 }
 
+const TWO_WRITES: &[Step<'static>] = &[
+    Step::Write("a", "d", 100, "=-1 a=-1 d=-1"),
+    Step::Write("b", "c", 200, "=-1 a=100 b=100 c=100 d=-1"),
+    Step::Has(5, "=-1 a=100 b=200 c=100 d=-1"),
+];
+
 // Its outcome is the same whichever one growth is refused: `new` and the ranges are made at the
-// next try, and `put` looks at the map after a refused `prepare`.
+// next try, and `Step::Write` looks at the map after a refused `prepare`.
 #[test]
 fn one_growth_refused(rt: HostRuntime) -> Result<(), Fail> {
-    let written = match two_writes(&rt, rt.alloc()) {
-        Ok(written) => written,
-        Err(_refused) => two_writes(&rt, rt.alloc())?,
-    };
-    assert!(rt; has(written.map(), 5, "=-1 a=100 b=200 c=100 d=-1"));
+    match outcome(rt.alloc(), MAX_LIMIT, TWO_WRITES) {
+        Ok(wrong) => assert_eq!(rt; wrong, None),
+        Err(_refused) => go_through(&rt, rt.alloc(), MAX_LIMIT, TWO_WRITES)?,
+    }
     Ok(())
 }

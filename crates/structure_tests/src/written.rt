@@ -6,7 +6,6 @@ ghost use Rattle.stepmap.specs.StepMap.{lengths};
 use keys::HashedRange;
 use keyspace::Range;
 use std::alloc::Global;
-use std::process::Abort;
 use stepmap::{KeyLengths, MAX_LIMIT, StepError, StepMap, SweepEnd};
 
 /// A step map, with its edge, and the version that was written last: none in the map is above it.
@@ -47,47 +46,26 @@ impl WrittenModel {
         self.map.prepare(&[KeyLengths::of(range.as_ref())])
     }
 
-    // Prepares for the range. If memory is refused, the map is as before, and the next try
-    // succeeds.
-    fn prepare_at_last(
-        &mut self,
-        rt: &impl Abort,
-        range: &Range,
-        before: &str,
-    ) -> Result<(), StepError>
-        ensures ready { OnOk result (slice_get self.new.map.ready 0 ≡ Some (lengths range.now)) }
-        ensures version { self.new.version ≡ self.old.version }
-        ensures edge { self.new.edge ≡ self.old.edge }
-    {
-        if self.prepare(range).is_ok() {
-            return Ok(());
+    /// Prepares for the range and writes it. Returns whether it may be written: it isn't empty, and
+    /// neither the edge nor an earlier version is above its version.
+    pub fn write(&mut self, range: &Range, version: i64) -> Result<bool, StepError> {
+        if range.is_empty() || version < self.version || version < self.edge {
+            return Ok(false);
         }
-        assert!(rt; shows(&self.map, before));
-        self.prepare(range)
-    }
-
-    /// Prepares for the range and writes it.
-    pub fn write(
-        &mut self,
-        rt: &impl Abort,
-        range: &Range,
-        version: i64,
-        before: &str,
-    ) -> Result<(), StepError> {
-        assert!(rt; !range.is_empty());
-        assert!(rt; version >= self.version);
-        assert!(rt; version >= self.edge);
-        self.prepare_at_last(rt, range, before)?;
+        self.prepare(range)?;
         self.map.write(HashedRange::of(range.as_ref()), version);
         self.version = version;
-        Ok(())
+        Ok(true)
     }
 
-    /// Raises the edge.
-    pub fn raise(&mut self, rt: &impl Abort, edge: i64) {
-        assert!(rt; edge >= self.edge);
+    /// Raises the edge. Returns whether it isn't below the edge before.
+    pub fn raise(&mut self, edge: i64) -> bool {
+        if edge < self.edge {
+            return false;
+        }
         self.map.raise(edge);
         self.edge = edge;
+        true
     }
 
     /// Sweeps `count` boundaries.

@@ -4,5 +4,5 @@ use Rattle.structure_tests.proofs.written.WrittenModel.write.Goals as goal
 
 pub write-requires-clause-newest : goal.write-requires-clause-newest
 write-requires-clause-newest g c = λ k d lt.
-    let below = c.prepare_at_last.new.self.newest k d lt in
-    omega (arith, ints, c.prepare_at_last.ensures.version)
+    let below = c.prepare.new.self.newest k d lt in
+    omega (arith, ints, c.prepare.ensures.version)
