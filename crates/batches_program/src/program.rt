@@ -9,11 +9,11 @@ use batches_arguments::{ArgumentsStop, Job, JobLine, read_words};
 use batches_tasks::{
     Failure, FileProgress, JobStatus, LONG_FILE, convert, fail, fail_in, write_opening,
 };
+use program_arguments::{ArgumentsError, read_arguments};
 use std::alloc::Global;
 use std::fs::{File, Files};
 use std::io::BufReader;
 use std::rt::Env;
-use std::{env, io};
 use wire::{Failed, Sink, write_all, write_and_flush};
 
 /// Runs the program on the words and the streams of the process. The progress through a long file
@@ -31,9 +31,10 @@ pub fn run<R: Files<File = File> + Env + Input + AllocGlobal, O: Sink, E: Sink>(
         (E.failures error.new) }
 {
     let alloc = rt.alloc();
-    let words = match command_line(rt) {
+    let words = match read_arguments(alloc, rt) {
         Ok(words) => words,
-        Err(failure) => return fail(error, alloc, &failure),
+        Err(ArgumentsError::NotText) => return fail(error, alloc, &Failure::NotText),
+        Err(ArgumentsError::Memory) => return fail(error, alloc, &Failure::Memory),
     };
     match read_words(alloc, &words) {
         Ok(job) => do_job(rt, &job, watched, out, error),
@@ -114,17 +115,6 @@ fn open_chain<O: Sink, E: Sink>(
         Ok(()) => JobStatus::Done,
         Err(Failure::Write) => fail_in(error, alloc, OUTPUT, &Failure::Write),
         Err(failure) => fail(error, alloc, &failure),
-    }
-}
-
-// Returns the words of the command line.
-fn command_line<R: Env + AllocGlobal>(rt: &R) -> Result<Vec<String>, Failure> {
-    match env::args(rt).and_then(|words| Ok(words.collect(rt.alloc())?)) {
-        Ok(words) => Ok(words),
-        Err(cause) => match cause.kind() {
-            io::ErrorKind::OutOfMemory => Err(Failure::Memory),
-            _ => Err(Failure::NotText),
-        },
     }
 }
 
