@@ -64,8 +64,8 @@ fn window_out_of_range(rt: HostRuntime) -> Result<(), Fail> {
     refuses(&rt, "--window 1099511627777 f")
 }
 
-// So many files.
-fn files(alloc: Global, count: u32) -> Result<String, Unmade> {
+// Returns arguments that name n files.
+fn file_arguments(alloc: Global, count: u32) -> Result<String, Unmade> {
     let mut given = String::new(alloc);
     for _ in 0..count {
         given.push_str("f ")?;
@@ -78,7 +78,7 @@ fn refused_words(rt: HostRuntime) -> Result<(), Fail> {
     for given in ["", "--capacity 1025 f", "--limit 0 f", "--limit 16777217 f"] {
         refuses(&rt, given)?;
     }
-    refuses(&rt, files(rt.alloc(), 65)?.as_str())
+    refuses(&rt, file_arguments(rt.alloc(), 65)?.as_str())
 }
 
 // `.ci/program-runs` looks for the texts of the help.
