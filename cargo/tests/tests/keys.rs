@@ -140,7 +140,7 @@ fn ranks_are_the_numbers_of_sorted_begins() {
         let begins: BTreeSet<_> =
             (0..ranges.len()).filter(filled).map(|index| &ranges.0[index].begin).collect();
         let sorted: Vec<_> = begins.iter().copied().collect();
-        assert_eq!(ranks.begins(), sorted.len());
+        assert_eq!(ranks.begin_count(), sorted.len());
         for (range, run) in ranges.0.iter().zip(ranks.runs()) {
             let number = |key| sorted.partition_point(|begin| *begin < key) as u32;
             let expected = (number(&range.begin), number(&range.end));
@@ -265,7 +265,9 @@ fn assert_singles_are_ranked(ranges: &Ranges, txns: &Txns, is_write: &[bool]) {
     let gaps: BTreeSet<_> = numbers.values().map(|run| run.0).collect();
     assert_eq!(gaps.len(), numbers.len());
     assert!(
-        numbers.values().all(|run| run.0 + 1 == run.1 && run.1 as usize <= txns.ranks().begins())
+        numbers
+            .values()
+            .all(|run| run.0 + 1 == run.1 && run.1 as usize <= txns.ranks().begin_count())
     );
     for (range, run) in ranges.0.iter().zip(runs) {
         match numbers.get(&range.begin) {
@@ -344,8 +346,8 @@ fn batches_rank_and_hash_their_ranges() {
         let (ranks, order) = GapRuns::with_order(Global, &ranges).expect("memory is ample");
         if ranges.len() == 0 || (0..ranges.len()).any(|index| !ranges.range(index).is_single()) {
             assert_eq!(
-                (txns.ranks().runs(), txns.ranks().begins()),
-                (ranks.runs(), ranks.begins())
+                (txns.ranks().runs(), txns.ranks().begin_count()),
+                (ranks.runs(), ranks.begin_count())
             );
             assert!(order.iter().filter(|index| is_write[**index as usize]).eq(txns.write_order()));
         } else {

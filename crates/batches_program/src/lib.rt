@@ -4,7 +4,9 @@
 //! the task that it asks for over their streams (`batches_tasks`).
 #![tactic(auto)]
 
+mod conversion;
 mod jobs;
+mod opening;
 mod program;
 mod report_page;
 

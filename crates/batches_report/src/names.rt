@@ -7,9 +7,9 @@ ghost use Rattle.batches_report.specs.Names.{names_at};
 
 use crate::error::ReportError;
 use json_lines::put_quoted_key;
+use keys::is_single_key;
 use keyspace::{RangeRef, TxnRef};
 use std::alloc::{AllocError, Global};
-use wire::is_single_key;
 
 /// Returns the names of the read ranges at the places, each once. A place without a range has none.
 pub fn names_of(alloc: Global, txn: &TxnRef<'_>, places: &[u16]) -> Result<Vec<String>, ReportError>

@@ -38,12 +38,17 @@ pub fn read_batches<R: Source>(
 
 /// Returns the lines of split points that spread the batches evenly over this many shards. There
 /// are fewer if the batches have too few different keys.
-pub fn split_points(alloc: Global, batches: &[Batch], shards: usize) -> Result<Vec<u8>, Failure>
+pub fn split_points(
+    alloc: Global,
+    batches: &[Batch],
+    shard_count: usize,
+) -> Result<Vec<u8>, Failure>
     ensures balanced { IfOk result (λ lines. (points : List (List ℕ))
-        × IsBalanced shards (begins_of batches.now) points × (lines.items ≡ point_lines points)) }
+        × IsBalanced shard_count (begins_of batches.now) points
+        × (lines.items ≡ point_lines points)) }
 {
     let sample = refs_of(alloc, batches)?;
-    match balanced(alloc, &sample, shards) {
+    match balanced(alloc, &sample, shard_count) {
         Ok(points) => Ok(lines_of_points(alloc, &points)?),
         Err(BalanceError::ShardCount) => Err(Failure::Resolvers),
         Err(BalanceError::Memory) => Err(Failure::Memory),

@@ -8,8 +8,8 @@ ghost use Rattle.batches_tasks.specs.Stats.{keys_of_range, spread_of, stats_of, 
 ghost use Rattle.batches_tasks.specs.Stats.{versions_of};
 
 use crate::spread::Spread;
+use keys::is_single_key;
 use keyspace::{Batch, RangeRef, RangesRef, TxnRef, Txns};
-use wire::is_single_key;
 
 /// What transactions add up to.
 #[derive(Clone, Copy, Debug, PartialEq, Eq)]

@@ -1,10 +1,10 @@
 //! The tables of a batch and of a reply.
 
 use json_lines::put_key_form;
+use keys::is_single_key;
 use keyspace::{Batch, RangeRef, RangesRef, Reply, TxnRef, Verdict};
 use std::alloc::{AllocError, Global};
 use std::fmt::Write as _;
-use wire::is_single_key;
 
 // The most characters of a key that are shown where keys are cut.
 const MAX_WIDTH: usize = 32;

@@ -1,75 +1,26 @@
 -- What is kept at each key: in a `BTreeMap`, and in the finite map of its entries.
-use Rattle.std.proofs.Common.{
-  ◌≡◌,
-  ℕ,
-  ℤ,
-  ◌≤ℤ◌,
-  pos,
-  Bool,
-  true,
-  false,
-  cond,
-  not,
-  ◌&&◌,
-  ◌==◌,
-  int_le,
-  List,
-  [],
-  ◌∷◌,
-  Option,
-  Some,
-  None,
-  IsTrue,
-  IfSome,
-  option_copied,
-  Bor,
-  if◌then◌else◌,
-  refl,
-  sym,
-  ap,
-  ◌∙◌,
-  arith,
-}
+use Rattle.std.proofs.Common.{◌≡◌, ℕ, ℤ, ◌≤ℤ◌, pos, Bool, true, false, cond, not, ◌==◌, int_le, Option, Some, None, IsTrue, IfSome, option_copied, Bor, if◌then◌else◌, refl, sym, ap, ◌∙◌, arith}
 use Rattle.std.specs.declared.ops.Bound.TheVariants.{Included}
-use Rattle.std.specs.Ordering.{nat_cmp, int_cmp, int_eq, is_gt}
-use Rattle.std.specs.Cmp.{IsTotalOrder, eq_by_cmp_equiv, nat_cmp_total, int_cmp_total}
+use Rattle.std.specs.Ordering.{is_gt}
+use Rattle.std.specs.Cmp.{eq_by_cmp_equiv}
 use Rattle.std.specs.BTreeMap as tree
 use Rattle.std.specs.BTreeMap.{BTreeMap, is_at}
 use Rattle.std.specs.BTreeMap.Range.{IsInRange}
 use Rattle.std.specs.FinMap as map
-use Rattle.std.specs.Map.{lookup}
-use Rattle.std.proofs.lemmas.Bool.Decides.{
-  Decides-and,
-  Decides-eqb,
-  Decides-int_eq,
-  same_from_decides,
-  nat_tests,
-}
-use Rattle.std.proofs.lemmas.Cmp.{on_total, then_total}
+use Rattle.std.proofs.lemmas.Bool.Decides.{Decides-eqb, nat_tests}
 use Rattle.std.proofs.lemmas.Int.{ints}
-use Rattle.std.proofs.lemmas.Map.Lookups.{CmpEqualImpliesEq, exact_pairs, exact_unsigned, exact_signed}
 use Rattle.std.proofs.lemmas.Map.Views.{tells_apart}
 use Rattle.keyspace.specs.declared.reply.Reply.{Reply}
 use Rattle.keys.proofs.callers.Booleans.{and_left, and_right, false_unless, not_both_ways}
 use Rattle.chain.specs.Replies.{Kept, key_cmp, is_up_to, IsFiled}
-
--- keys that compare alike are one
-pub keys_exact : CmpEqualImpliesEq key_cmp
-keys_exact = exact_pairs nat_cmp int_cmp exact_unsigned exact_signed
-
-pub keys_total : IsTotalOrder key_cmp
-keys_total = then_total (on_total (λ p. p.0) nat_cmp_total) (on_total (λ p. p.1) int_cmp_total)
+use Rattle.keyspace.proofs.callers.ProxyVersions.{get-from_tree, keys_exact, keys_total}
 
 -- the finite map of some entries
 abbrev pub map_of : BTreeMap (ℕ × ℤ) Reply → Kept
 map_of m = map.from_entries m.entries
 
-find_key : (es : List ((ℕ × ℤ) × Reply)) (q : ℕ × ℤ) → map.find key_cmp q es ≡ lookup (is_at (key_cmp q)) es
-find_key [] q = refl
-find_key (e ∷ es) q = ap (cond (is_at (key_cmp q) e.0) (Some e.1)) (find_key es q)
-
 pub get-map_of : (m : BTreeMap (ℕ × ℤ) Reply) (q : ℕ × ℤ) → map.get (map_of m) q ≡ tree.get key_cmp m q
-get-map_of m q = map.get-from_entries keys_total m.entries q ∙ find_key m.entries q
+get-map_of m q = get-from_tree m q
 
 -- a version that a call was given as bits
 pub at_version : (m n : BTreeMap (ℕ × ℤ) Reply) (proxy : ℕ) (version given : ℤ) (x : Option Reply)
@@ -102,15 +53,6 @@ map_of-dropped m n proxy version h = map.same_map keys_total keys_exact _ _ (λ 
     ∙ cond-not (is_up_to proxy version q) (map.get (map_of m) q)
     ∙ sym (map.get-retain_keys (map_of m) (λ key. not (is_up_to proxy version key)) q
     (λ x same. ap (λ key. not (is_up_to proxy version key)) (sym (keys_exact q x same)))))
-
--- a key is the one of this proxy and this version exactly if both are
-pub is_at-pair : (a p : ℕ) (b v : ℤ) → is_at (key_cmp (a, b)) (p, v) ≡ ((a == p) && int_eq b v)
-is_at-pair a p b v = same_from_decides _ _ (
-  λ h. let same : (a, b) ≡ (p, v) = tells_apart keys_exact (a, b) (p, v) h in
-      (ap (λ q. q.0) same, ap (λ q. q.1) same),
-  λ same. rw (same.0, same.1) ((eq_by_cmp_equiv keys_total).refl (p, v)),
-)
-    (Decides-and (a == p) (int_eq b v) (Decides-eqb a p) (Decides-int_eq b v))
 
 -- each reply stands at its own version after one was put at its own
 pub IsFiled-put : (m n : BTreeMap (ℕ × ℤ) Reply) (s : ℕ × ℤ) (r : Reply) → r.version ≡ s.1

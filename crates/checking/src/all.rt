@@ -28,14 +28,14 @@ pub struct Checked {
 /// not be reported, or that of the last proxy if it failed for the last line.
 pub fn check_all(
     alloc: Global,
-    batches: usize,
+    batch_count: usize,
     expected: Vec<Vec<Reply>>,
     recorded: Vec<Vec<Reply>>,
 ) -> Result<Checked, usize>
     requires some { 1 ≤ vec_len expected }
     requires as_many { vec_len expected ≡ vec_len recorded }
     ensures text { IfOk result (λ checked. checked.text.items
-        ≡ check_text batches (map vec_items expected.items) (map vec_items recorded.items)) }
+        ≡ check_text batch_count (map vec_items expected.items) (map vec_items recorded.items)) }
     ensures differences { IfOk result (λ checked. checked.difference_count
         ≡ count_differences (map vec_items expected.items) (map vec_items recorded.items)) }
     ensures proxy { IfErr result (λ proxy. proxy < vec_len expected) }
@@ -58,7 +58,7 @@ pub fn check_all(
         };
         proxy += 1;
     }
-    checked.finish(batches).ok_or(last)
+    checked.finish(batch_count).ok_or(last)
 }
 
 impl Checked {
@@ -84,9 +84,9 @@ impl Checked {
     }
 
     // Adds the last line.
-    fn finish(self, batches: usize) -> Option<Self>
+    fn finish(self, batch_count: usize) -> Option<Self>
         ensures text { IfSome result (λ checked. checked.text.items
-            ≡ self.text.items ++ last_line batches self.difference_count) }
+            ≡ self.text.items ++ last_line batch_count self.difference_count) }
         ensures differences { IfSome result
             (λ checked. checked.difference_count ≡ self.difference_count) }
     {
@@ -96,7 +96,7 @@ impl Checked {
         } = self;
         write!(
             &mut text,
-            "checked {batches} batches, {difference_count} differences\n"
+            "checked {batch_count} batches, {difference_count} differences\n"
         )
         .ok()?;
         Some(Checked {

@@ -71,7 +71,7 @@ pub fn detect_conflicts(
 
     // In conflict with the batch, in order.
     let ranks = batch.txns.ranks();
-    scratch.gaps.reset(ranks.begins())?;
+    scratch.gaps.reset(ranks.begin_count())?;
     judge_in_batch(alloc, batch, ranks.runs(), &mut scratch.gaps, &mut entries)?;
 
     // What is committed is written, if it fits the limit.

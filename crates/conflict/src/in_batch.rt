@@ -34,7 +34,7 @@ pub fn judge_in_batch(
 ) -> Result<(), AllocError>
     requires entries { length entries.old ≡ length batch.now.txns }
     requires ranked { AreRankedFor (writes_in batch.now.txns) (ranges_in batch.now.txns)
-        (record { runs = runs.now; begins = length gaps.old }) }
+        (record { runs = runs.now; begin_count = length gaps.old }) }
     requires unmarked { (gap : ℕ) → ¬ IsMarked gaps.old gap }
     ensures judged { OnOk result (entries.new ≡ in_batches [] batch.now.txns entries.old) }
 {

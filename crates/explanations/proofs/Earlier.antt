@@ -8,7 +8,7 @@ use Rattle.std.proofs.lemmas.Bool.Decides.{Decides-int_eq}
 use Rattle.std.proofs.lemmas.List.Folds.{list_any-append}
 use Rattle.keys.specs.declared.range.Range.{Range}
 use Rattle.keys.specs.Range.{ranges_meet}
-use Rattle.keys.proofs.callers.Booleans.{false_unless}
+use Rattle.keys.proofs.callers.Booleans.{false_unless, and_comm}
 use Rattle.keyspace.specs.declared.txn.Txn.{Txn}
 use Rattle.keyspace.specs.declared.reply.Entry.{Entry}
 use Rattle.keyspace.specs.Writes.{committed_ranges, counted_ranges}
@@ -41,12 +41,6 @@ below_test n j h = grind (arith, h)
 above_test : (n j : ℕ) → j ≤ n → nat_lt n j ≡ false
 above_test n j h = grind (arith, h)
 
-and_other_way : (a b : Bool) → (a && b) ≡ (b && a)
-and_other_way true true = refl
-and_other_way true false = refl
-and_other_way false true = refl
-and_other_way false false = refl
-
 -- a write of another version
 pub explains_other : (version : ℤ) (j : ℕ) (snapshot : ℤ) (range : Range) (w : Written) → int_eq w.version version ≡ false
     → explains version j snapshot range w ≡ (int_lt snapshot w.version && ranges_meet range w.range)
@@ -58,7 +52,7 @@ pub explains_older : (version : ℤ) (j : ℕ) (snapshot : ℤ) (range : Range) 
     → explains version j snapshot range w ≡ (ranges_meet range w.range && int_lt snapshot w.version)
 explains_older version j snapshot range w h =
     explains_other version j snapshot range w (not_equal_below w.version version h)
-    ∙ and_other_way (int_lt snapshot w.version) (ranges_meet range w.range)
+    ∙ and_comm (int_lt snapshot w.version) (ranges_meet range w.range)
 
 -- one of another version at or below the snapshot
 pub explains_none : (version : ℤ) (j : ℕ) (snapshot : ℤ) (range : Range) (w : Written) → int_eq w.version version ≡ false
@@ -71,7 +65,7 @@ pub explains_apart : (version : ℤ) (j : ℕ) (snapshot : ℤ) (range : Range) 
     → explains version j snapshot range w ≡ false
 explains_apart version j snapshot range w e =
     let newer = cond (int_eq w.version version) (nat_lt w.txn j) (int_lt snapshot w.version) in
-    ap (λ b. newer && b) e ∙ and_other_way newer false
+    ap (λ b. newer && b) e ∙ and_comm newer false
 
 module _ (proxy : ℕ) (version : ℤ) (j : ℕ) (snapshot : ℤ) (range : Range) where
   -- a write of the batch itself

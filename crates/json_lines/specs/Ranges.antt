@@ -7,7 +7,7 @@ use Rattle.keys.specs.declared.key.TheConstants.{MAX_KEY_LENGTH}
 use Rattle.keyspace.specs.storage.Fields.{RangeFields}
 use Rattle.keyspace.specs.declared.txn.TheConstants.{MAX_RANGES}
 use Rattle.wire.specs.Spelling.{single_key}
-use Rattle.wire.specs.declared.single.TheConstants.{MAX_SINGLE_KEY_LENGTH}
+use Rattle.keys.specs.declared.single_key.TheConstants.{MAX_SINGLE_KEY_LENGTH}
 use Rattle.json_lines.specs.KeyForm.{spelled_key}
 use Rattle.json_lines.specs.Values.{◌>>=◌, list_in}
 

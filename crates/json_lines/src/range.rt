@@ -14,10 +14,9 @@ use crate::key_form::key_of;
 use crate::place::LinePlace;
 use crate::refusal::LineRefusal;
 use json::Value;
-use keys::{Key, MAX_KEY_LENGTH, Range};
+use keys::{Key, MAX_KEY_LENGTH, MAX_SINGLE_KEY_LENGTH, Range};
 use keyspace::MAX_RANGES;
 use std::alloc::Global;
-use wire::MAX_SINGLE_KEY_LENGTH;
 
 /// Reads the ranges of a list.
 #[tactic(auto, unfolding(crate::specs::Values::list_in))]

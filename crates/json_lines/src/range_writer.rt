@@ -7,10 +7,10 @@ ghost use Rattle.json_lines.specs.Written.{all_tokens, key_json, pair_json, rang
 
 use crate::key_form::put_key_form;
 use json::Writer;
+use keys::is_single_key;
 use keyspace::{RangeRef, RangesRef};
 use std::alloc::AllocError;
 use std::str;
-use wire::is_single_key;
 
 /// Writes the ranges of a list.
 pub fn put_ranges(

@@ -12,6 +12,7 @@ pub mod Ranking
 pub mod Kept
 pub mod Numbering
 pub mod SingleKeys
+pub mod SingleEnds
 pub mod NearHeads
 pub mod Spacing
 pub mod Reaching

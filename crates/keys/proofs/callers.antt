@@ -2,6 +2,7 @@
 pub mod Booleans
 pub mod Numbers
 pub mod Lists
+pub mod Counts
 pub mod SomeElement
 pub mod KeyOrder
 pub mod Meeting

@@ -64,11 +64,11 @@ pub record AreChosenInOrder (chosen : ℕ → Bool) (ranges : List Range) (order
 pub record GapRunsView : Type 0 where
   pub runs : List (ℕ × ℕ)
   -- how many begins there are
-  pub begins : ℕ
+  pub begin_count : ℕ
 
 -- The ranks are those of the ranges: equal begins have one number, and each range covers the begins that lie in it.
 pub record AreRanked (ranges : List Range) (ranks : GapRunsView) : Type 0 where
   pub keys : List (List ℕ)
   pub are_begins : AreBegins ranges keys
-  pub count : ranks.begins ≡ length keys
+  pub count : ranks.begin_count ≡ length keys
   pub are_runs : ranks.runs ≡ runs_of keys ranges

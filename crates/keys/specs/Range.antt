@@ -1,5 +1,6 @@
 -- Ranges of keys, and when two of them meet. Source: the half-open key ranges of `KeyRangeRef`, FoundationDB 7.1.
 use Rattle.std.specs.Prelude.{◌≡◌, ◌&&◌, ℕ, Bool, List, [], ◌∷◌, ◌++◌}
+use Rattle.std.specs.Str.{bytes_eq}
 use Rattle.keys.specs.Key.{IsBytes, is_before, IsBefore, IsAtMost}
 use Rattle.keys.specs.declared.range.Range.{Range}
 
@@ -10,6 +11,10 @@ IsEmpty range = range.begin ≡ range.end
 -- the range holds its begin alone: it ends with the key right after that
 abbrev pub IsSingle : Range → Type 0
 IsSingle range = range.end ≡ range.begin ++ 0 ∷ []
+
+-- the same of the two ends, as code decides it
+abbrev pub is_single_key : List ℕ → List ℕ → Bool
+is_single_key begin end = bytes_eq end (begin ++ 0 ∷ [])
 
 -- the half-open range holds the keys from its begin on, below its end
 abbrev pub Holds : Range → List ℕ → Type 0

@@ -33,7 +33,7 @@ pub record AreRankedFor (written ranges : List Range) (ranks : GapRunsView) : Ty
   pub ranked_as : Range → Range
   pub keys : List (List ℕ)
   pub rising : AreRising keys
-  pub count : ranks.begins ≡ length keys
+  pub count : ranks.begin_count ≡ length keys
   pub have_begins : All (HaveBegin keys) (map ranked_as ranges)
   pub are_runs : ranks.runs ≡ runs_of keys (map ranked_as ranges)
   pub each : All (λ range. IsRankedAs written range (ranked_as range)) ranges

@@ -27,6 +27,7 @@ mod prefix;
 mod range;
 mod range_list;
 mod range_ref;
+mod single_key;
 
 pub use error::KeyError;
 pub use gap_runs::{GapRuns, MAX_RANKED};
@@ -37,3 +38,4 @@ pub use prefix::{common_prefix_len, head_after, key_head, same_bytes};
 pub use range::Range;
 pub use range_list::RangeList;
 pub use range_ref::RangeRef;
+pub use single_key::{MAX_SINGLE_KEY_LENGTH, is_single_key};

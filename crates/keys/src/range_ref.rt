@@ -9,6 +9,7 @@ ghost use Rattle.keys.specs.declared.key.TheConstants.{MAX_KEY_LENGTH};
 use crate::key::Key;
 use crate::key_hashes::key_hash;
 use crate::range::Range;
+use crate::single_key::is_single_key;
 use std::alloc::{AllocError, Global};
 use std::marker::Model;
 
@@ -64,10 +65,7 @@ impl<'a> RangeRef<'a> {
     pub fn is_single(&self) -> bool
         ensures single { IsTrue result ↔ IsSingle self.now }
     {
-        match self.end.split_last() {
-            Some((0, front)) => front == self.begin,
-            _ => false,
-        }
+        is_single_key(self.begin, self.end)
     }
 
     /// Returns the hash of the key that the range holds alone, as [`key_hash`](crate::key_hash)

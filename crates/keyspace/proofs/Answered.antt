@@ -1,27 +1,7 @@
 -- Each batch is answered once, but for those that are held.
-use Rattle.std.proofs.Common.{
-  ◌≡◌,
-  ℕ,
-  zero,
-  suc,
-  ◌+◌,
-  Bool,
-  true,
-  false,
-  cond,
-  List,
-  [],
-  ◌∷◌,
-  ◌++◌,
-  length,
-  refl,
-  ap,
-  ◌∙◌,
-  arith,
-}
+use Rattle.std.proofs.Common.{◌≡◌, ℕ, zero, suc, ◌+◌, Bool, true, false, cond, List, [], ◌∷◌, length, refl, ap, ◌∙◌, arith}
 use Rattle.std.specs.Prelude.{ℤ, ◌==◌, int_lt, Option, Some, None, map, filter}
-use Rattle.std.proofs.lemmas.List.{length-append, length-map}
-use Rattle.std.proofs.lemmas.List.Elements.{filter-append}
+use Rattle.std.proofs.lemmas.List.{length-map}
 use Rattle.keyspace.specs.declared.batch.Batch.{Batch}
 use Rattle.keyspace.specs.declared.answer.Answer.{Answer}
 use Rattle.keyspace.specs.declared.answer.Answer.TheVariants as reported
@@ -48,31 +28,9 @@ use Rattle.keyspace.specs.Run.{
   run,
   part,
 }
+use Rattle.keys.proofs.callers.Counts.{one_if, count_of, count_both, count_last, count_first}
+use Rattle.keyspace.proofs.callers.Runs.{run_from_more}
 use Rattle.keyspace.proofs.Waiting.{next_due_leaves}
-
--- one where the proxy is this one, else none
-abbrev one_if : Bool → ℕ
-one_if own = cond own 1 0
-
--- how many elements pass a test
-abbrev count_of : {A : Type 0} → (A → Bool) → List A → ℕ
-count_of test xs = length (filter test xs)
-
-count_one : {A : Type 0} (test : A → Bool) (x : A) → count_of test (x ∷ []) ≡ one_if (test x)
-count_one test x =
-    elim (test x) as (λ own. length (cond own (x ∷ []) []) ≡ one_if own) [ true ↦ refl | false ↦ refl ]
-
-count_both : {A : Type 0} (test : A → Bool) (xs ys : List A)
-    → count_of test (xs ++ ys) ≡ count_of test xs + count_of test ys
-count_both test xs ys = ap length (filter-append test xs ys) ∙ length-append (filter test xs) (filter test ys)
-
-count_last : {A : Type 0} (test : A → Bool) (xs : List A) (x : A)
-    → count_of test (xs ++ x ∷ []) ≡ count_of test xs + one_if (test x)
-count_last test xs x = count_both test xs (x ∷ []) ∙ ap (λ n. count_of test xs + n) (count_one test x)
-
-count_first : {A : Type 0} (test : A → Bool) (x : A) (xs : List A)
-    → count_of test (x ∷ xs) ≡ one_if (test x) + count_of test xs
-count_first test x xs = count_both test (x ∷ []) xs ∙ ap (λ n. n + count_of test xs) (count_one test x)
 
 module _ (proxy : ℕ) where
   abbrev is_answered : ℕ × Answer → Bool
@@ -193,10 +151,5 @@ each_is_answered window log proxy =
     (λ (a : ℕ × Answer). a.1) in
     omega (arith, x, y)
 
-run_from_both : (window : ℤ) (xs : List Step) (x : Step) (s : State)
-    → run_from window (xs ++ x ∷ []) s ≡ step window x (run_from window xs s)
-run_from_both window [] x s = refl
-run_from_both window (y ∷ ys) x s = run_from_both window ys x (step window y s)
-
 pub none_is_held : NoneIsHeldAfterFinish
-none_is_held window log = ap (λ s. s.held) (run_from_both window log Finish start)
+none_is_held window log = ap (λ s. s.held) (run_from_more window log Finish start)

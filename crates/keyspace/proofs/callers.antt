@@ -5,3 +5,5 @@ pub mod SameFields
 pub mod Rows
 pub mod Putting
 pub mod Ordered
+pub mod Runs
+pub mod ProxyVersions

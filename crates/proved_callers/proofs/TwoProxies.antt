@@ -19,8 +19,9 @@ use Rattle.resolver.specs.Lanes.{Each, LanesContinue, has_ended, sent_to}
 use Rattle.resolver.specs.Resolver.{ResolverState, IsResolving, TakesOnlyFrom, AreClients, IsNewClient}
 use Rattle.resolver.specs.Settled.{Settled, SettledFor}
 use Rattle.proved_callers.specs.Served.{ServedFor, IsOneOf, AreServed, HasDone, AreServing}
-use Rattle.resolver.proofs.callers.Lists.{slice_get-set_same, slice_get-set_other, slice_get_inside}
+use Rattle.resolver.proofs.callers.Lists.{slice_get-set_same, slice_get-set_other}
 use Rattle.resolver.proofs.callers.Later.{ClientContinues, port_same, intake_same, clients_same, clients_set, lanes_same, AreClients-later}
+use Rattle.keys.proofs.callers.Lists.{some_at}
 
 -- what stands at an index of a list, after a write there
 written_at : {A : Type 0} (xs : List A) (i j : ℕ) (x y : A) → j ≡ i → i < length xs → slice_get (set xs i x) j ≡ Some y
@@ -136,7 +137,7 @@ serving_sent_by window r clients sent taken are =
     sent_by clients sent are.sent_count (λ i c batches c_at batches_at.
     let many = are.taken_count in
     let inside = slice_get_within clients i c c_at in
-    let answers = slice_get_inside taken i (omega (arith, many, inside)) in
+    let answers = some_at taken i (omega (arith, many, inside)) in
     (are.each i c batches answers.0 c_at batches_at answers.1).sent)
 
 -- a client of a list of new ones is new
@@ -233,10 +234,10 @@ serving_settled window r clients first second served are settled = (
     all = subst (λ w. Settled w log r.lanes clients served.account) are.window_is settled.1
 
     client_0 : (c : Client) × (slice_get clients 0 ≡ Some c)
-    client_0 = slice_get_inside clients 0 (let many = are.sent_count in omega (arith, many))
+    client_0 = some_at clients 0 (let many = are.sent_count in omega (arith, many))
 
     client_1 : (c : Client) × (slice_get clients 1 ≡ Some c)
-    client_1 = slice_get_inside clients 1 (let many = are.sent_count in omega (arith, many))
+    client_1 = some_at clients 1 (let many = are.sent_count in omega (arith, many))
 
     from_both : (index : ℕ) (entry : Processed) → slice_get (run window log).processed index ≡ Some entry
         → IsOneOf first second entry
@@ -246,8 +247,8 @@ serving_settled window r clients first second served are settled = (
         let inside = slice_get_within clients entry.proxy c.0 c.1 in
         let sent_many = are.sent_count in
         let taken_many = are.taken_count in
-        let sent = slice_get_inside ((first ∷ []) ∷ (second ∷ []) ∷ []) entry.proxy (omega (arith, inside, sent_many)) in
-        let taken = slice_get_inside (served.first.items ∷ served.second.items ∷ []) entry.proxy
+        let sent = some_at ((first ∷ []) ∷ (second ∷ []) ∷ []) entry.proxy (omega (arith, inside, sent_many)) in
+        let taken = some_at (served.first.items ∷ served.second.items ∷ []) entry.proxy
         (omega (arith, inside, taken_many)) in
         let done = are.each entry.proxy c.0 sent.0 taken.0 c.1 sent.1 taken.1 in
         one_of_both first second entry entry.proxy sent.0 (length (part c.2.before entry.proxy)) refl sent.1

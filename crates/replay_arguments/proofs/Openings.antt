@@ -1,23 +1,12 @@
 -- One file more is opened, or is a regular one.
-use Rattle.std.specs.Prelude.{◌≡◌, ℕ, zero, suc, ◌+◌, ◌<◌, List, [], ◌∷◌, ◌++◌, length, map, take, Option, slice_index_or}
+use Rattle.std.specs.Prelude.{◌≡◌, ℕ, ◌+◌, ◌<◌, List, [], ◌∷◌, ◌++◌, length, map, take, Option, slice_index_or}
 use Rattle.std.specs.Borrow.{Bor}
 use Rattle.std.specs.List.{All}
-use Rattle.std.proofs.Common.{refl, sym, ap, ◌∙◌, arith}
+use Rattle.std.proofs.Common.{sym, ap, ◌∙◌}
 use Rattle.std.proofs.lemmas.List.{map-append}
 use Rattle.std.proofs.lemmas.List.Elements.{All-push, All-same}
 use Rattle.replay_arguments.specs.Opening.{contents_each}
-
-take_suc : {X Y : Type 0} (f : X → Y) (xs : List X) (n : ℕ) (d : X) → n < length xs
-    → take (suc n) (map f xs) ≡ take n (map f xs) ++ f (slice_index_or xs n d) ∷ []
-take_suc f [] n d inside = absurd (omega arith)
-take_suc f (x ∷ xs) zero d inside = refl
-take_suc f (x ∷ xs) (suc n) d inside = ap (λ l. f x ∷ l) (take_suc f xs n d (omega arith))
-
-take_more : {X Y : Type 0} (f : X → Y) (xs : List X) (n : ℕ) (d : X) → n < length xs
-    → take (n + 1) (map f xs) ≡ take n (map f xs) ++ f (slice_index_or xs n d) ∷ []
-take_more f xs n d inside =
-    let next : n + 1 ≡ suc n = omega arith in
-    ap (λ (k : ℕ). take k (map f xs)) next ∙ take_suc f xs n d inside
+use Rattle.keys.proofs.callers.Lists.{take_map_more}
 
 module _ {R : Type 0} (remaining : R → Option (List ℕ)) (contents : List ℕ → Option (List ℕ))
     (has_opened : List ℕ → Type 0) (names : List (Bor (List ℕ))) where
@@ -32,7 +21,7 @@ module _ {R : Type 0} (remaining : R → Option (List ℕ)) (contents : List ℕ
       → after ≡ readers ++ reader ∷ [] → remaining reader ≡ contents (slice_index_or names proxy d).now
       → has_opened (slice_index_or names proxy d).now → AreOpened readers proxy → AreOpened after (proxy + 1)
   opened_more readers after proxy reader d inside pushed holds opened before =
-      let more = take_more (λ (name : Bor (List ℕ)). name.now) names proxy d inside in (
+      let more = take_map_more (λ (name : Bor (List ℕ)). name.now) names proxy d inside in (
         ap (map remaining) pushed ∙ map-append remaining readers (reader ∷ [])
             ∙ ap (λ l. l ++ remaining reader ∷ []) before.0
             ∙ ap (λ b. contents_each contents (take proxy texts) ++ b ∷ []) holds
@@ -46,5 +35,5 @@ pub each_more : (Holds : List ℕ → Type 0) (names : List (Bor (List ℕ))) (p
     → Holds (slice_index_or names proxy d).now → All Holds (take proxy (map (λ name. name.now) names))
     → All Holds (take (proxy + 1) (map (λ name. name.now) names))
 each_more Holds names proxy d inside one before =
-    All-same Holds _ _ (take_more (λ (name : Bor (List ℕ)). name.now) names proxy d inside)
+    All-same Holds _ _ (take_map_more (λ (name : Bor (List ℕ)). name.now) names proxy d inside)
     (All-push Holds (take proxy (map (λ (name : Bor (List ℕ)). name.now) names)) _ before one)

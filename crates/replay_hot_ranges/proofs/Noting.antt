@@ -27,7 +27,7 @@ module _ (old new : RangeTally) (range : Range) (txn : ℕ) (count : Count)
     (sets : (ends : Ends) → tree.get ends_cmp new.counts ends
     ≡ cond (is_at (ends_cmp (range.begin, range.end)) ends) (Some count) (tree.get ends_cmp old.counts ends))
     (last_is : count.last ≡ txn)
-    (conflicts_are : count.conflicts
+    (conflicts_are : count.conflict_count
     ≡ cond (is_last old txn (range.begin, range.end)) (conflicts_at old (range.begin, range.end))
     (conflicts_at old (range.begin, range.end) + 1)) where
   pub noted_last : (ends : Ends) (other : ℕ) → is_last new other ends ≡ cond (has_ends ends range) (txn == other) (is_last old other ends)

@@ -100,7 +100,7 @@ module _ (tally : RangeTally) (ordered : tree.IsOrdered ends_cmp tally.counts) (
   ends_are : map ends_of all ≡ keys_of tally.counts.entries
   ends_are =
       sym (map-map (λ (r : Row). r.0) row_of all) ∙ ap (map (λ (r : Row). r.0)) rows
-      ∙ map-map (λ (r : Row). r.0) (λ (e : Ends × Count). (e.0, e.1.conflicts)) tally.counts.entries
+      ∙ map-map (λ (r : Row). r.0) (λ (e : Ends × Count). (e.0, e.1.conflict_count)) tally.counts.entries
 
   up : IsStrictlySortedBy ends_cmp (map ends_of all)
   up = subst (IsStrictlySortedBy ends_cmp) (sym ends_are) ordered
@@ -168,15 +168,15 @@ module _ (tally : RangeTally) (ordered : tree.IsOrdered ends_cmp tally.counts) (
   counts k d inside =
       let es = tally.counts.entries in
       let len_all : length (map row_of all) ≡ length all = length-map all row_of in
-      let len_rows : length (rows_of tally) ≡ length es = length-map es (λ (e : Ends × Count). (e.0, e.1.conflicts)) in
+      let len_rows : length (rows_of tally) ≡ length es = length-map es (λ (e : Ends × Count). (e.0, e.1.conflict_count)) in
       let len_same : length (map row_of all) ≡ length (rows_of tally) = ap length rows in
       let within : k < length es = omega arith in
       let found = some_at es k within in
       let entry = found.0 in
-      let row : row_of (get_or all k d) ≡ (entry.0, entry.1.conflicts) =
+      let row : row_of (get_or all k d) ≡ (entry.0, entry.1.conflict_count) =
       sym (get_or-map row_of all k d (row_of d) inside) ∙ ap (λ rs. get_or rs k (row_of d)) rows
-      ∙ get_or-map (λ (e : Ends × Count). (e.0, e.1.conflicts)) es k entry (row_of d) within
-      ∙ ap (λ (e : Ends × Count). (e.0, e.1.conflicts)) (get_or_from_slice_get es k entry entry found.1) in
+      ∙ get_or-map (λ (e : Ends × Count). (e.0, e.1.conflict_count)) es k entry (row_of d) within
+      ∙ ap (λ (e : Ends × Count). (e.0, e.1.conflict_count)) (get_or_from_slice_get es k entry entry found.1) in
       let at : tree.get ends_cmp tally.counts entry.0 ≡ Some entry.1 =
       btree_map_get_place ends_total tally.counts k entry.0 entry.1 ordered found.1 in (
         ap (λ (r : Row). r.1) row ∙ sym (ap conflicts_in at)
@@ -185,18 +185,18 @@ module _ (tally : RangeTally) (ordered : tree.IsOrdered ends_cmp tally.counts) (
       )
 
   -- a range with a count is one of them
-  listed : (ends : Ends) (count : Count) → tree.get ends_cmp tally.counts ends ≡ Some count → Contains (map row_of sorted) (ends, count.conflicts)
+  listed : (ends : Ends) (count : Count) → tree.get ends_cmp tally.counts ends ≡ Some count → Contains (map row_of sorted) (ends, count.conflict_count)
   listed ends count is =
       let es = tally.counts.entries in
       let place = place_from_lookup (is_at (ends_cmp ends)) es count is in
       let within = slice_get_within es place.0 (place.1, count) place.2 in
       let same : ends ≡ place.1 = tells_apart ends_exact ends place.1 place.3 in
-      let len_rows : length (rows_of tally) ≡ length es = length-map es (λ (e : Ends × Count). (e.0, e.1.conflicts)) in
-      let row : Row = (ends, count.conflicts) in
+      let len_rows : length (rows_of tally) ≡ length es = length-map es (λ (e : Ends × Count). (e.0, e.1.conflict_count)) in
+      let row : Row = (ends, count.conflict_count) in
       let at : get_or (rows_of tally) place.0 row ≡ row =
-      get_or-map (λ (e : Ends × Count). (e.0, e.1.conflicts)) es place.0 (place.1, count) row within
-      ∙ ap (λ (e : Ends × Count). (e.0, e.1.conflicts)) (get_or_from_slice_get es place.0 (place.1, count) (place.1, count) place.2)
-      ∙ ap (λ e. (e, count.conflicts)) (sym same) in
+      get_or-map (λ (e : Ends × Count). (e.0, e.1.conflict_count)) es place.0 (place.1, count) row within
+      ∙ ap (λ (e : Ends × Count). (e.0, e.1.conflict_count)) (get_or_from_slice_get es place.0 (place.1, count) (place.1, count) place.2)
+      ∙ ap (λ e. (e, count.conflict_count)) (sym same) in
       let contained : Contains (rows_of tally) row = (place.0, omega arith, at) in
       Contains-permutation (map row_of all) (map row_of sorted) row (IsPermutation-map row_of all sorted moved)
       (subst (λ rs. Contains rs row) (sym rows) contained)
@@ -261,7 +261,7 @@ module _ (tally : RangeTally) (ordered : tree.IsOrdered ends_cmp tally.counts) (
             ⊎ ((conflicts_at tally ends ≡ 0)
             ⊎ ((length first ≡ most) × All (λ h. row_cmp (row_of h) (ends, conflicts_at tally ends) ≡ Less) first))
         go None is = inr (inl (ap conflicts_in is))
-        go (Some count) is = elim (listed_or_after (ends, count.conflicts) (listed ends count is)) [
+        go (Some count) is = elim (listed_or_after (ends, count.conflict_count) (listed ends count is)) [
           | inl here ↦ inl here
           | inr after ↦ inr (inr (subst
               (λ n. (length first ≡ most) × All (λ h. row_cmp (row_of h) (ends, n) ≡ Less) first)

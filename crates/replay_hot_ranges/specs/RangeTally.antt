@@ -10,7 +10,7 @@ use Rattle.replay_hot_ranges.specs.Top.{ends_cmp}
 
 abbrev pub conflicts_in : Option Count → ℕ
 conflicts_in None = 0
-conflicts_in (Some count) = count.conflicts
+conflicts_in (Some count) = count.conflict_count
 
 -- the transaction of this number was counted last
 abbrev pub is_last_in : Option Count → ℕ → Bool
@@ -27,7 +27,7 @@ is_last tally txn ends = is_last_in (tree.get ends_cmp tally.counts ends) txn
 
 -- all ranges with their counts, in order
 abbrev pub rows_of : RangeTally → List (Ends × ℕ)
-rows_of tally = map (λ e. (e.0, e.1.conflicts)) tally.counts.entries
+rows_of tally = map (λ e. (e.0, e.1.conflict_count)) tally.counts.entries
 
 -- the tally has these transactions, whose numbers are at most this one
 pub record IsTallyOf (side : Side) (txns : List (List InConflict)) (newest : ℕ) (tally : RangeTally) : Type 0 where
@@ -44,9 +44,9 @@ pub record IsTallyWith (side : Side) (txns : List (List InConflict)) (conflicts 
 
 -- both sides
 abbrev pub AreTallies : List (List InConflict) → Tallies → Type 0
-AreTallies txns tallies = IsTallyOf read_side txns tallies.txns tallies.reads × IsTallyOf written_side txns tallies.txns tallies.writes
+AreTallies txns tallies = IsTallyOf read_side txns tallies.txn_count tallies.reads × IsTallyOf written_side txns tallies.txn_count tallies.writes
 
 abbrev pub AreTalliesWith : List (List InConflict) → List InConflict → Tallies → Type 0
 AreTalliesWith txns conflicts tallies =
-    IsTallyWith read_side txns conflicts tallies.txns tallies.reads
-    × IsTallyWith written_side txns conflicts tallies.txns tallies.writes
+    IsTallyWith read_side txns conflicts tallies.txn_count tallies.reads
+    × IsTallyWith written_side txns conflicts tallies.txn_count tallies.writes

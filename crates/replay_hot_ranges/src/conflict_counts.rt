@@ -21,7 +21,7 @@ use std::alloc::{AllocError, Global};
 pub struct Tallies {
     alloc: Global,
     // the number of the transaction that was counted last
-    txns: usize,
+    txn_count: usize,
     pub reads: RangeTally,
     pub writes: RangeTally,
 }
@@ -35,7 +35,7 @@ impl Tallies {
     {
         Tallies {
             alloc,
-            txns: 0,
+            txn_count: 0,
             reads: RangeTally::new(alloc),
             writes: RangeTally::new(alloc),
         }
@@ -106,9 +106,9 @@ impl Tallies {
         ensures begun { OnOk result ((txns : List (List InConflict)) → AreTallies txns self.old
             → AreTalliesWith txns [] self.new) }
     {
-        match self.txns.checked_add(1) {
-            Some(txns) => {
-                self.txns = txns;
+        match self.txn_count.checked_add(1) {
+            Some(txn_count) => {
+                self.txn_count = txn_count;
                 Ok(())
             }
             None => Err(AllocError),
@@ -171,8 +171,8 @@ impl Tallies {
             → AreTalliesWith txns conflicts self.old → AreTalliesWith txns
             (conflicts ++ record { read = read.now; written = written.now } ∷ []) self.new) }
     {
-        self.reads.note(self.alloc, self.txns, read)?;
-        self.writes.note(self.alloc, self.txns, written)?;
+        self.reads.note(self.alloc, self.txn_count, read)?;
+        self.writes.note(self.alloc, self.txn_count, written)?;
         Ok(())
     }
 }

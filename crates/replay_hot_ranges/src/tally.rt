@@ -18,10 +18,10 @@ pub struct RangeTally {
 // The count of a range.
 #[derive(Clone, Copy, Debug)]
 struct Count {
-    conflicts: usize,
+    conflict_count: usize,
     // the number of the transaction that was counted last
     last: usize,
-    ghost some: { 0 < conflicts },
+    ghost some: { 0 < conflict_count },
 }
 
 impl Count {
@@ -30,22 +30,22 @@ impl Count {
     // Returns the count of a range once the transaction of this number is counted, which one that
     // was counted last isn't again. A count beyond 64 bits is an error.
     fn after(before: Option<Count>, txn: usize) -> Result<Self, AllocError>
-        ensures conflicts { IfOk result (λ count. count.conflicts ≡ (if is_last_in before txn
+        ensures conflicts { IfOk result (λ count. count.conflict_count ≡ (if is_last_in before txn
             then conflicts_in before else conflicts_in before + 1)) }
         ensures last { IfOk result (λ count. count.last ≡ txn) }
     {
         let Some(count) = before else {
             return Ok(Count {
-                conflicts: 1,
+                conflict_count: 1,
                 last: txn,
             });
         };
         if count.last == txn {
             return Ok(count);
         }
-        match count.conflicts.checked_add(1) {
-            Some(conflicts) => Ok(Count {
-                conflicts,
+        match count.conflict_count.checked_add(1) {
+            Some(conflict_count) => Ok(Count {
+                conflict_count,
                 last: txn,
             }),
             None => Err(AllocError),
@@ -99,7 +99,7 @@ impl RangeTally {
             ranges.push(HotRange {
                 begin: key.0.as_bytes(),
                 end: key.1.as_bytes(),
-                conflicts: count.conflicts,
+                conflicts: count.conflict_count,
             })?;
         }
         Ok(ranges)

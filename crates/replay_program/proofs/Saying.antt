@@ -17,6 +17,7 @@ use Rattle.replay_tasks.specs.Replayed.{HasFailed, Took, TookPrefix, Written}
 use Rattle.replay_tasks.specs.Summarized.{TookUnlessFailed}
 use Rattle.replay_tasks.specs.declared.met.Met.{Met}
 use Rattle.replay_program.specs.Verbose.{AreBatches, AreExamined, HaveBatches, IsExplained, IsFoundIn, IsFoundOf, IsGateFinding, IsOfFile, IsOfRun, SaysHeld}
+use Rattle.keys.proofs.callers.Lists.{take_map_more}
 
 -- one line was written, or a prefix of it, or nothing
 pub said_by : {S U : Type 0} (given : S → Option (List ℕ)) (old new : S) (error : Written) (text : List ℕ) (wrote : Result U WireError)
@@ -82,18 +83,6 @@ get_of f [] n d inside = absurd (omega (arith, inside))
 get_of f (x ∷ xs) zero d inside = refl
 get_of f (x ∷ xs) (suc n) d inside = get_of f xs n d (omega (arith, inside))
 
-take_suc : {X Y : Type 0} (f : X → Y) (xs : List X) (n : ℕ) (d : X) → n < length xs
-    → take (suc n) (map f xs) ≡ take n (map f xs) ++ f (slice_index_or xs n d) ∷ []
-take_suc f [] n d inside = absurd (omega (arith, inside))
-take_suc f (x ∷ xs) zero d inside = refl
-take_suc f (x ∷ xs) (suc n) d inside = ap (λ l. f x ∷ l) (take_suc f xs n d (omega (arith, inside)))
-
-take_more : {X Y : Type 0} (f : X → Y) (xs : List X) (n : ℕ) (d : X) → n < length xs
-    → take (n + 1) (map f xs) ≡ take n (map f xs) ++ f (slice_index_or xs n d) ∷ []
-take_more f xs n d inside =
-    let next : n + 1 ≡ suc n = omega arith in
-    ap (λ (k : ℕ). take k (map f xs)) next ∙ take_suc f xs n d inside
-
 pub take_entire : {X Y : Type 0} (f : X → Y) (xs : List X) (n : ℕ) → length xs ≤ n → take n (map f xs) ≡ map f xs
 take_entire f [] zero all = refl
 take_entire f [] (suc n) all = refl
@@ -130,7 +119,7 @@ module _ (contents : List ℕ → Option (List ℕ)) where
     examined_more proxy d old new more inside joined own before = (
       before.0 ++ own.0,
       subst (λ (l : List (List ℕ)). HaveBatches contents l (before.0 ++ own.0))
-          (sym (take_more (λ (name : Bor (List ℕ)). name.now) names proxy d inside))
+          (sym (take_map_more (λ (name : Bor (List ℕ)). name.now) names proxy d inside))
           (have_more (take proxy texts) before.0 (slice_index_or names proxy d).now own.0 before.1 own.1),
       joined before.0 own.0 before.2 own.2,
     )

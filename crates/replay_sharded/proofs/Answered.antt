@@ -13,7 +13,8 @@ use Rattle.serial.specs.Shards.{Shard, shards}
 use Rattle.shards.specs.Clips.{IsBatchClip}
 use Rattle.replay_shards.specs.Merging.{IsOfMatch, answers_at, at_version, common, version_of_match}
 use Rattle.replay_sharded.specs.Sharded.{IsLogOfShard, answers_by_shard}
-use Rattle.replay_sharded.proofs.Answering.{answered_once, count_both, count_first, count_of, none_held, one_if, version_of_batch}
+use Rattle.keys.proofs.callers.Counts.{count_both, count_first, count_of, one_if}
+use Rattle.replay_sharded.proofs.Answering.{answered_once, none_held, version_of_batch}
 use Rattle.replay_sharded.proofs.Resolved.{AreAllAnswered, AreMergedOf, notes_by_shard}
 use Rattle.replay_sharded.proofs.Sizes.{some_shard}
 use Rattle.replay_sharded.proofs.Taking.{zip_length}

@@ -1,11 +1,10 @@
 -- How often the reference resolver answers a proxy at one version: once per batch of this version that its log takes from the proxy, except
 -- those that are held.
-use Rattle.std.proofs.Common.{◌≡◌, ℕ, zero, suc, ◌+◌, Bool, true, false, not, cond, List, [], ◌∷◌, ◌++◌, length, refl, sym, ap, ◌∙◌, arith}
+use Rattle.std.proofs.Common.{◌≡◌, ℕ, zero, suc, ◌+◌, Bool, true, false, not, cond, List, [], ◌∷◌, length, refl, sym, ap, ◌∙◌, arith}
 use Rattle.std.specs.Prelude.{ℤ, ◌==◌, ◌&&◌, int_lt, Option, None, Some, map, filter, All}
 use Rattle.std.specs.Ordering.{int_eq}
 use Rattle.std.proofs.lemmas.Bool.Decides.{Decides-int_eq}
-use Rattle.std.proofs.lemmas.List.{length-append}
-use Rattle.std.proofs.lemmas.List.Elements.{All-nil, All-head, All-tail, All-push, filter-append}
+use Rattle.std.proofs.lemmas.List.Elements.{All-nil, All-head, All-tail, All-push}
 use Rattle.std.proofs.lemmas.Option.{none-some, same_Some}
 use Rattle.keyspace.specs.declared.answer.Answer.{Answer}
 use Rattle.keyspace.specs.declared.answer.Answer.TheVariants as reported
@@ -40,30 +39,8 @@ use Rattle.keyspace.specs.Writes.{writes}
 use Rattle.keyspace.proofs.callers.Chains.{next_due_leaves}
 use Rattle.resolver.specs.Resolver.{FinishesLast}
 use Rattle.replay_shards.specs.Merging.{answers_at, at_version}
-
--- one if the test passes, else none
-abbrev pub one_if : Bool → ℕ
-one_if passes = cond passes 1 0
-
--- how many items pass a test
-abbrev pub count_of : {X : Type 0} → (X → Bool) → List X → ℕ
-count_of test xs = length (filter test xs)
-
-count_one : {X : Type 0} (test : X → Bool) (x : X) → count_of test (x ∷ []) ≡ one_if (test x)
-count_one test x =
-    elim (test x) as (λ passes. length (cond passes (x ∷ []) []) ≡ one_if passes) [ true ↦ refl | false ↦ refl ]
-
-pub count_both : {X : Type 0} (test : X → Bool) (xs ys : List X)
-    → count_of test (xs ++ ys) ≡ count_of test xs + count_of test ys
-count_both test xs ys = ap length (filter-append test xs ys) ∙ length-append (filter test xs) (filter test ys)
-
-count_last : {X : Type 0} (test : X → Bool) (xs : List X) (x : X)
-    → count_of test (xs ++ x ∷ []) ≡ count_of test xs + one_if (test x)
-count_last test xs x = count_both test xs (x ∷ []) ∙ ap (λ n. count_of test xs + n) (count_one test x)
-
-pub count_first : {X : Type 0} (test : X → Bool) (x : X) (xs : List X)
-    → count_of test (x ∷ xs) ≡ one_if (test x) + count_of test xs
-count_first test x xs = count_both test (x ∷ []) xs ∙ ap (λ n. n + count_of test xs) (count_one test x)
+use Rattle.keyspace.proofs.callers.Runs.{run_from_more}
+use Rattle.keys.proofs.callers.Counts.{one_if, count_of, count_both, count_last, count_first}
 
 -- the reply has the version of its batch
 abbrev HasVersion : Processed → Type 0
@@ -271,12 +248,7 @@ module _ (proxy : ℕ) (version : ℤ) where
       let z = ap (count_of is_held) none in
       omega (arith, x, y, z)
 
-run_from_both : (window : ℤ) (xs : List Step) (x : Step) (s : State)
-    → run_from window (xs ++ x ∷ []) s ≡ step window x (run_from window xs s)
-run_from_both window [] x s = refl
-run_from_both window (y ∷ ys) x s = run_from_both window ys x (step window y s)
-
 -- a log that finishes leaves nothing held
 pub none_held : (window : ℤ) (log : List Step) → FinishesLast log → (run window log).held ≡ []
 none_held window log last =
-    ap (λ (l : List Step). (run window l).held) last.1 ∙ ap (λ (s : State). s.held) (run_from_both window last.0 Finish start)
+    ap (λ (l : List Step). (run window l).held) last.1 ∙ ap (λ (s : State). s.held) (run_from_more window last.0 Finish start)

@@ -21,7 +21,7 @@ use Rattle.shards.specs.declared.shard_reply.ShardReply.{ShardReply}
 use Rattle.shards.specs.Clips.{IsBatchClip, IsTxnClip}
 use Rattle.shards.specs.Combined.{IsCombined}
 use Rattle.shards.specs.Laws.{AreCombinedAmongOthers, AreRepliesTo, IsOfChain}
-use Rattle.replay_sharded.specs.Sharded.{CommitsSerializably, IsLogOfShard, SendsOnce}
+use Rattle.replay_sharded.specs.Sharded.{CommitsSerializably, IsLogOfShard, RepeatsAreEqual}
 use Rattle.replay_sharded.proofs.CommittedLists.{
   HasVersionOf,
   IsIn,
@@ -76,7 +76,7 @@ entries_of window sent shard log own p c is =
 module _ (known_verdicts : AnswersReportVerdicts) (points : List (List ℕ)) (window : ℤ) (sent : List (List Batch)) (logs : List (List Step))
     (together : List (List Answer)) (count : length together ≡ length sent)
     (of : AllZip (IsLogOfShard window sent) (shards points) logs) (merged : AreMergedOf points window sent logs together)
-    (once : SendsOnce sent) (ps : List Processed) (are : AreReplied sent together ps) where
+    (once : RepeatsAreEqual sent) (ps : List Processed) (are : AreReplied sent together ps) where
   -- one shard
   own_list : (shard : Shard) (log : List Step) → IsIn logs log → IsLogOfShard window sent shard log
       → (own : List Processed) × IsOwnList window ps log own × AreClips ps shard own
@@ -225,7 +225,7 @@ first_log window sent (shard ∷ some) (log ∷ rest) one zip = (shard, log, inl
 
 pub serializable : AnswersReportVerdicts → AreSerializableAmongOthers → (points : List (List ℕ)) (window : ℤ) (sent : List (List Batch))
     (logs : List (List Step)) (together : List (List Answer)) → IsRising [] points → length together ≡ length sent
-    → AllZip (IsLogOfShard window sent) (shards points) logs → AreMergedOf points window sent logs together → SendsOnce sent
+    → AllZip (IsLogOfShard window sent) (shards points) logs → AreMergedOf points window sent logs together → RepeatsAreEqual sent
     → CommitsSerializably sent together
 serializable known_verdicts law points window sent logs together rising count of merged once =
     let first = first_log window sent (shards points) logs (some_shard [] points) of in

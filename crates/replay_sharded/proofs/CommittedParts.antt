@@ -17,7 +17,7 @@ use Rattle.serial.specs.Shards.{Shard, shards}
 use Rattle.shards.specs.Clips.{IsBatchClip}
 use Rattle.replay_workers.proofs.callers.Lists.{found}
 use Rattle.replay_shards.specs.Notes.{notes_of}
-use Rattle.replay_sharded.specs.Sharded.{IsLogOfShard, SendsOnce}
+use Rattle.replay_sharded.specs.Sharded.{IsLogOfShard, RepeatsAreEqual}
 use Rattle.replay_sharded.proofs.CommittedLists.{
   HasVersionOf,
   IsIn,
@@ -127,7 +127,7 @@ module _ (known_verdicts : AnswersReportVerdicts) (points : List (List ℕ)) (wi
       ∙ sym (zip_length (IsLogOfShard window sent) (shards points) logs of)) among
 
   -- what a shard has of a batch with such a reply
-  pub part_of : SendsOnce sent → (shard : Shard) (log : List Step) → IsIn logs log → IsLogOfShard window sent shard log
+  pub part_of : RepeatsAreEqual sent → (shard : Shard) (log : List Step) → IsIn logs log → IsLogOfShard window sent shard log
       → (p : Processed) → IsOfTogether sent together p → (c : Processed) × IsPartOf window shard log p c
   part_of once shard log among own p is =
       let all = all_of p.proxy is.own is.received p.reply is.sent_at is.at is.replied in

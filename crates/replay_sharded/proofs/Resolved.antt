@@ -28,7 +28,7 @@ use Rattle.replay_sharded.specs.Sharded.{
   HaveAllRead,
   IsLogOfShard,
   IsResolvedByShards,
-  SendsOnce,
+  RepeatsAreEqual,
   ShardLog,
   answers_by_shard,
   log_of,
@@ -90,7 +90,7 @@ pub resolved_except : HasOneSpelling → (points : List (List ℕ)) (options : O
     → AreMergedOf points options.window sent logs (map answers_of (map vec_items combined.lines.items))
     → length (map answers_of (map vec_items combined.lines.items)) ≡ length sent
     → AreAllAnswered sent (map answers_of (map vec_items combined.lines.items))
-    × (SendsOnce sent → CommitsSerializably sent (map answers_of (map vec_items combined.lines.items))))
+    × (RepeatsAreEqual sent → CommitsSerializably sent (map answers_of (map vec_items combined.lines.items))))
     → IsResolvedByShards points options.window files (map answers_of (map vec_items combined.lines.items))
 resolved_except law points options files combined rising runs all rest =
     let lines = map vec_items combined.lines.items in
@@ -120,7 +120,7 @@ resolved_except law points options files combined rising runs all rest =
     (together.not_lost clean.1))) in
     let as_many : length (map answers_of lines) ≡ length files = length-map lines answers_of ∙ count in
     let last : (sent : List (List Batch)) → HaveAllRead options.window points files logs.0 sent
-    → AreAllAnswered sent (map answers_of lines) × (SendsOnce sent → CommitsSerializably sent (map answers_of lines)) =
+    → AreAllAnswered sent (map answers_of lines) × (RepeatsAreEqual sent → CommitsSerializably sent (map answers_of lines)) =
     λ sent read.
     rest sent (map log_of logs.0) (logs_each options.window sent (shards points) logs.0 read.each_shard)
     (λ proxy own answers sent_at at.

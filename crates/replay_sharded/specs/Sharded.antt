@@ -23,8 +23,8 @@ use Rattle.replay_sharded.specs.Files.{IsFileOf, IsKnown}
 use Rattle.replay_sharded.specs.Runs.{AreRunsOfShards}
 
 -- No proxy sends two different batches of one version. `sent` has the batches of each proxy, as they were sent. A repeat is the same batch.
-abbrev pub SendsOnce : List (List Batch) → Type 0
-SendsOnce sent =
+abbrev pub RepeatsAreEqual : List (List Batch) → Type 0
+RepeatsAreEqual sent =
     (proxy : ℕ) (own : List Batch) (one other : Batch) → slice_get sent proxy ≡ Some own → Contains own one → Contains own other
     → one.version ≡ other.version → one ≡ other
 
@@ -111,7 +111,7 @@ pub record IsResolvedByShards (points : List (List ℕ)) (window : ℤ) (files :
       (sent : List (List Batch)) → HaveAllRead window points files logs sent → (proxy : ℕ) (own : List Batch) (answers : List Answer)
       → slice_get sent proxy ≡ Some own → slice_get together proxy ≡ Some answers → length answers ≡ length own
   pub serializable :
-      (sent : List (List Batch)) → HaveAllRead window points files logs sent → SendsOnce sent → CommitsSerializably sent together
+      (sent : List (List Batch)) → HaveAllRead window points files logs sent → RepeatsAreEqual sent → CommitsSerializably sent together
 
 -- the runs of all shards over files with these bytes, and what they are together
 pub record AreRunsTogether (points : List (List ℕ)) (options : Options) (files : List (Option (List ℕ))) (combined : Combined) : Type 0

@@ -22,21 +22,22 @@ pub struct Room {
 
 impl Room {
     /// Creates the room for that many shards and proxies.
-    pub fn new(alloc: Global, shards: usize, proxies: usize) -> Result<Self, AllocError>
+    pub fn new(alloc: Global, shard_count: usize, proxies: usize) -> Result<Self, AllocError>
         ensures lines { IfOk result (λ room. room.lines.items ≡ []) }
         ensures failures { IfOk result (λ room. room.failures.items ≡ []) }
         ensures by_shard { IfOk result (λ room. room.failures_by_shard.items ≡ []) }
         ensures stops { IfOk result (λ room. room.stops.items ≡ []) }
         ensures lines_room { IfOk result (λ room. proxies ≤ vec_capacity room.lines) }
         ensures failures_room { IfOk result (λ room. proxies ≤ vec_capacity room.failures) }
-        ensures shards_room { IfOk result (λ room. shards ≤ vec_capacity room.failures_by_shard) }
-        ensures stops_room { IfOk result (λ room. shards ≤ vec_capacity room.stops) }
+        ensures shards_room { IfOk result
+            (λ room. shard_count ≤ vec_capacity room.failures_by_shard) }
+        ensures stops_room { IfOk result (λ room. shard_count ≤ vec_capacity room.stops) }
     {
         Ok(Room {
             lines: Vec::with_capacity(alloc, proxies)?,
             failures: Vec::with_capacity(alloc, proxies)?,
-            failures_by_shard: Vec::with_capacity(alloc, shards)?,
-            stops: Vec::with_capacity(alloc, shards)?,
+            failures_by_shard: Vec::with_capacity(alloc, shard_count)?,
+            stops: Vec::with_capacity(alloc, shard_count)?,
         })
     }
 }

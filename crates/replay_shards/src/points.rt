@@ -62,17 +62,17 @@ const CHUNK: usize = 4_096;
 pub fn read_points<S: Source>(
     alloc: Global,
     reader: &mut S,
-    shards: usize,
+    shard_count: usize,
 ) -> Result<SplitPoints, PointsError>
-    requires some { 1 ≤ shards }
-    requires few { shards ≤ MAX_SPLIT_POINTS + 1 }
+    requires some { 1 ≤ shard_count }
+    requires few { shard_count ≤ MAX_SPLIT_POINTS + 1 }
     ensures points { IfOk result (λ points. IfSome (S.remaining reader.old)
         (λ bytes. ArePointLines bytes points)) }
-    ensures count { IfOk result (λ points. length points + 1 ≡ shards) }
+    ensures count { IfOk result (λ points. length points + 1 ≡ shard_count) }
 {
     let bytes = read_to_end(alloc, reader)?;
     let points = keys_of_lines(alloc, &bytes)?;
-    checked(points, shards)
+    checked(points, shard_count)
 }
 
 fn read_to_end<S: Source>(alloc: Global, reader: &mut S) -> Result<Vec<u8>, PointsError>
@@ -134,17 +134,17 @@ fn key_of_line(alloc: Global, before: u64, line: &[u8]) -> Result<Key, PointsErr
 }
 
 // Takes the keys as split points if they rise, and there are as many as are wanted.
-fn checked(points: Vec<Key>, shards: usize) -> Result<SplitPoints, PointsError>
-    requires some { 1 ≤ shards }
-    requires few { shards ≤ MAX_SPLIT_POINTS + 1 }
+fn checked(points: Vec<Key>, shard_count: usize) -> Result<SplitPoints, PointsError>
+    requires some { 1 ≤ shard_count }
+    requires few { shard_count ≤ MAX_SPLIT_POINTS + 1 }
     ensures points { IfOk result (λ split. split ≡ points.items) }
-    ensures count { IfOk result (λ split. length split + 1 ≡ shards) }
+    ensures count { IfOk result (λ split. length split + 1 ≡ shard_count) }
     ensures other { (wanted found : ℕ) → IsErrOf result (PointsError.Count wanted found)
-        ↔ (found ≡ vec_len points) × (wanted + 1 ≡ shards) × (wanted ≢ found) }
+        ↔ (found ≡ vec_len points) × (wanted + 1 ≡ shard_count) × (wanted ≢ found) }
     ensures not_rising { (line : ℕ) → IsErrOf result (PointsError.NotRising (line + 1))
-        ↔ (vec_len points + 1 ≡ shards) × IsFirstFall points.items line }
+        ↔ (vec_len points + 1 ≡ shard_count) × IsFirstFall points.items line }
 {
-    let wanted = shards - 1;
+    let wanted = shard_count - 1;
     if points.len() != wanted {
         return Err(PointsError::Count(wanted as u64, points.len() as u64));
     }

@@ -22,19 +22,19 @@ pub const SAMPLE: usize = 4_096;
 pub fn points_of_sample<S: Source + Drop>(
     alloc: Global,
     readers: Vec<S>,
-    shards: usize,
+    shard_count: usize,
 ) -> Result<SplitPoints, AllocError>
-    requires some { 1 ≤ shards }
-    requires few { shards ≤ MAX_SPLIT_POINTS + 1 }
+    requires some { 1 ≤ shard_count }
+    requires few { shard_count ≤ MAX_SPLIT_POINTS + 1 }
     requires readers { 1 ≤ vec_len readers }
     ensures balanced { IfOk result (λ points. (samples : List (List BatchValue))
         × AllZip AreFirstOf (map S.remaining readers.items) samples
-        × IsBalanced shards (begins_of (flat_map (λ own. own) samples)) points) }
+        × IsBalanced shard_count (begins_of (flat_map (λ own. own) samples)) points) }
 {
     let most = SAMPLE / readers.len();
     let samples = samples_each(alloc, readers, most)?;
     let refs = refs_of(alloc, &samples)?;
-    match balanced(alloc, &refs, shards) {
+    match balanced(alloc, &refs, shard_count) {
         Ok(points) => Ok(points),
         // The number of shards is within its range.
         Err(BalanceError::ShardCount | BalanceError::Memory) => Err(AllocError),

@@ -8,7 +8,7 @@ use Rattle.std.proofs.lemmas.List.Concat.{flat_map-append}
 use Rattle.std.proofs.lemmas.List.Elements.{All-append, All-nil, All-cons}
 use Rattle.std.proofs.lemmas.Option.{same_Some, slice_get-get_or, slice_get_within, get_or_from_slice_get}
 use Rattle.keyspace.specs.declared.answer.Answer.{Answer}
-use Rattle.lane.specs.Lane.{PortView, PortContinues, IntakeView, IntakeContinues}
+use Rattle.lane.specs.Lane.{PortView}
 use Rattle.replay_output.specs.declared.options.style.Style.{Style}
 use Rattle.replay_output.specs.Lines.{line}
 use Rattle.replay_output.specs.Streamed.{Printed, answer_for, printed_for, printed_line, stream_text}
@@ -16,19 +16,8 @@ use Rattle.replay_stream.specs.declared.outlet.Outlet.{Outlet}
 use Rattle.replay_stream.specs.Outlet.{is_complete, PassesOn, OutletContinues, TookText, PassesSome, EachOutlet, StreamContinues, AreNumbered, HasPassedAll, StreamsOn}
 use Rattle.replay_stream.specs.Sinks.{FailsIn, SinkState}
 use Rattle.replay_workers.proofs.callers.SameLanes.{port_continues, intake_continues}
+use Rattle.resolver.proofs.callers.Later.{port_same}
 use Rattle.replay_stream.proofs.Writing.{fails_then, takes_nothing, takes_then}
-
-pub port_same : {T : Type 0} (a : PortView T) → PortContinues a a
-port_same a = record { lane = refl; capacity = refl; seen_taken = omega arith; looks = omega arith }
-
-pub intake_same : {T : Type 0} (a : IntakeView T) → IntakeContinues a a
-intake_same a = record {
-  lane = refl;
-  capacity = refl;
-  seen_sent = omega arith;
-  seen_close = λ seen. seen;
-  looks = omega arith;
-}
 
 -- nothing was passed on
 pub passes_none : (a : Option (PortView Answer)) (waits : Option Answer) → PassesOn a a waits waits []

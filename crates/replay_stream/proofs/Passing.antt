@@ -10,7 +10,8 @@ use Rattle.replay_output.specs.Lines.{line}
 use Rattle.replay_stream.specs.declared.outlet.Outlet.{Outlet}
 use Rattle.replay_stream.specs.Outlet.{is_complete, PassesOn, TookText, PassesSome}
 use Rattle.replay_stream.specs.Sinks.{SinkState}
-use Rattle.replay_stream.proofs.Outlets.{broken, passes_then, port_same}
+use Rattle.resolver.proofs.callers.Later.{port_same}
+use Rattle.replay_stream.proofs.Outlets.{broken, passes_then}
 use Rattle.replay_stream.proofs.Writing.{takes_nothing}
 
 -- an answer was sent to the recorder, or it waits

@@ -20,7 +20,7 @@ use Rattle.replay_shards.specs.declared.failures.ShardStop.{ShardStop}
 use Rattle.replay_sharded.specs.declared.shard_run.ShardRun.{ShardRun}
 use Rattle.replay_sharded.specs.Combined.{HasAllAnswers, stop_of}
 use Rattle.replay_sharded.specs.Runs.{AreRunsOfShards}
-use Rattle.replay_sharded.specs.Sharded.{AreRunsTogether, CommitsSerializably, HaveAllRead, IsResolvedByShards, SendsOnce}
+use Rattle.replay_sharded.specs.Sharded.{AreRunsTogether, CommitsSerializably, HaveAllRead, IsResolvedByShards, RepeatsAreEqual}
 use Rattle.replay_shards.specs.Failures.{IsFirstStop}
 use Rattle.replay_tasks.specs.declared.met.Met.{Met}
 use Rattle.replay_tasks.specs.Checked.{TakesToCompare, check_lines, differences_of}
@@ -59,7 +59,7 @@ pub record IsReplayedByShardsBy (Printed : List (List Answer) → Type 0) (point
   pub resolved : IsResolvedByShards points options.window files (together_of combined)
   -- if all shards have read these batches of the files, and no proxy sends two different batches of one version
   pub words :
-      (sent : List (List Batch)) → HaveAllRead options.window points files resolved.logs sent → SendsOnce sent
+      (sent : List (List Batch)) → HaveAllRead options.window points files resolved.logs sent → RepeatsAreEqual sent
       → WordsAreSerializable options.style.form sent (together_of combined)
   pub printed : Printed (together_of combined)
 

@@ -23,7 +23,7 @@ pub use check::{
     CheckReport, RepliesError, check_over, fail_to_read_replies, print_check, read_replies,
 };
 pub use explain::{explain_lines, explain_over, print_explained};
-pub use met::{Ended, Met, is_unwritten};
+pub use met::{Ended, Met};
 pub use replay::{replay_and_summarize_over, replay_over};
 pub use sharded::{
     check_sharded_over, replay_and_summarize_sharded_over, replay_sharded_over,

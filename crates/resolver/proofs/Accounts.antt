@@ -26,12 +26,13 @@ use Rattle.resolver.specs.Lanes.{Lanes, has_ended, all_ended, sent_to}
 use Rattle.resolver.specs.Resolver.{StandsOverFrom, TakesOnlyFrom, FinishesBy, FinishesLast}
 use Rattle.resolver.specs.Parts.{ProxyLanesView, Parts, AreParts, lanes_of, owed_with, resolver_of}
 use Rattle.resolver.specs.Settled.{SettledFrom, SettledFor, ReceivesAnswers, LearnsVerdicts, IsComplete}
+use Rattle.keys.proofs.callers.Lists.{some_at}
 use Rattle.resolver.proofs.Growing.{begins_itself, begins_then, begins_answers_to, grows_step}
 use Rattle.resolver.proofs.Standing.{run-more, IsIn-standing}
 use Rattle.resolver.proofs.OnlyFrom.{stands_only}
 use Rattle.resolver.proofs.FromVersion.{Stands-as_many, part_of_proxy, known_sender}
 use Rattle.resolver.proofs.Settling.{lanes_at}
-use Rattle.resolver.proofs.Unchanged.{LanesHold, slice_get_inside}
+use Rattle.resolver.proofs.Unchanged.{LanesHold}
 
 -- a beginning of the whole length is the whole
 begins_entire : {T : Type 0} (xs ys : List T) → IsPrefix xs ys → length xs ≡ length ys → xs ≡ ys
@@ -122,13 +123,13 @@ module _ (p : Parts) (are : AreParts p) (clients : List Client) (count : length 
       → (l : ProxyLanesView) × (slice_get p.all_lanes proxy ≡ Some l)
   proxy_lanes_of proxy c at =
       let inside = slice_get_within clients proxy c at in
-      slice_get_inside p.all_lanes proxy (omega (arith, inside, count))
+      some_at p.all_lanes proxy (omega (arith, inside, count))
 
   -- where all is complete, the reply lanes were closed
   was_closed : IsComplete (resolver_of p) clients → p.closed ≡ true
   was_closed complete =
       let some = are.some in
-      let l = slice_get_inside p.all_lanes 0 (omega (arith, some)) in
+      let l = some_at p.all_lanes 0 (omega (arith, some)) in
       let at = lanes_at p.all_lanes 0 l.0 l.1 in
       sym (are.closed 0 l.0.lanes at) ∙ complete.closed 0 l.0.lanes at
 
@@ -381,7 +382,7 @@ module _ (p : Parts) (are : AreParts p) (clients : List Client) (count : length 
             → IsSomeAnd (slice_get clients entry.proxy) (λ c. IsSent core.set.window entire c.requests.sent index entry)
         from_clients index entry at later =
             let known = known_sender core.set.window (length clients) log chains known_verdicts only version index entry at later in
-            let c = slice_get_inside clients entry.proxy known in
+            let c = some_at clients entry.proxy known in
             let l = proxy_lanes_of entry.proxy c.0 c.1 in
             let both = holds entry.proxy l.0 c.0 l.1 c.1 in
             let sent = entire_batches entry.proxy c.0 l.0 c.1 l.1 both.0 both.1 in

@@ -50,11 +50,12 @@ use Rattle.resolver.specs.Lanes.{Lanes, taken_from, sent_to}
 use Rattle.resolver.specs.OpeningLog.{opening_log, log_from}
 use Rattle.resolver.specs.Resolver.{ResolverState, StandsOverFrom, IsResolvingFrom, TakesFrom}
 use Rattle.resolver.specs.Share.{share_of, HasMoreUnanswered, KeepsShare}
+use Rattle.keys.proofs.callers.Lists.{All-without}
 use Rattle.resolver.proofs.Accounts.{made_begins}
 use Rattle.resolver.proofs.AtIndex.{field_at, field_past}
 use Rattle.resolver.proofs.FromVersion.{log_from-more, part_from, part_of_proxy, grows_from, opening_answered}
 use Rattle.resolver.proofs.Growing.{begins_answers_to}
-use Rattle.resolver.proofs.Releasing.{All-without, leave_all-none}
+use Rattle.resolver.proofs.Releasing.{leave_all-none}
 use Rattle.resolver.proofs.Standing.{IsIn-standing, run-more}
 
 -- the first of those held counts for its proxy

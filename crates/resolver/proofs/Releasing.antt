@@ -1,35 +1,14 @@
 -- Held batches leave one after another.
-use Rattle.std.proofs.Common.{
-  ◌≡◌,
-  ℕ,
-  zero,
-  suc,
-  ◌+◌,
-  ◌<◌,
-  List,
-  [],
-  ◌∷◌,
-  ◌++◌,
-  length,
-  Option,
-  Some,
-  None,
-  sym,
-  ap,
-  subst,
-  ◌∙◌,
-  refl,
-  arith,
-}
+use Rattle.std.proofs.Common.{◌≡◌, ℕ, zero, suc, ◌+◌, ◌<◌, List, length, Option, Some, None, sym, ap, subst, ◌∙◌, refl, arith}
 use Rattle.std.specs.Prelude.{ℤ, ◌≤ℤ◌, All}
 use Rattle.std.proofs.lemmas.Int.{ints}
-use Rattle.std.proofs.lemmas.List.Elements.{All-head, All-tail, All-cons}
 use Rattle.keyspace.specs.Processed.{Processed, version_of}
 use Rattle.keyspace.specs.Leaving.{Held, next_due}
 use Rattle.keyspace.specs.Laws.{Leaves}
 use Rattle.keyspace.specs.Run.{State, admit, leave, leave_then, leave_all}
-use Rattle.resolver.specs.Core.{CoreState, Given, IsCore, IsIn, Continues, StopsIn, StopsAsTheyLeave}
+use Rattle.resolver.specs.Core.{CoreState, Given, IsCore, IsIn, StopsIn, StopsAsTheyLeave}
 use Rattle.resolver.specs.Observed.{HasSeenBetween}
+use Rattle.keys.proofs.callers.Lists.{All-without}
 use Rattle.resolver.proofs.Admitting.{admit-held}
 use Rattle.resolver.proofs.Growing.{Grows, grows_leave, grows_leave_all}
 use Rattle.resolver.proofs.Observing.{seen_between}
@@ -83,14 +62,6 @@ leave_all-next window s h others next due fewer =
     ∙ ap (leave_then (leave (length others) window) window s) next
     ∙ ap (λ hs. leave (length hs) window (left window s h others)) (sym same)
 
--- what stays the same over two changes
-pub Continues-then : (first second third : CoreState) → Continues first second → Continues second third → Continues first third
-Continues-then first second third g h = record {
-  window = h.window ∙ g.window;
-  limit = h.limit ∙ g.limit;
-  proxies = h.proxies ∙ g.proxies;
-}
-
 -- The core is in the state after so many of the batches held in this state have left. An observer that had seen what was
 -- processed before has seen what is processed then: `before` and `after` are what is true of it, by what it has seen.
 pub record Reaches (window : ℤ) (state : State) (given : Given) (core : CoreState)
@@ -105,14 +76,6 @@ pub record LeavesNext (core : CoreState) (h : Held) (others : List Held) : Type 
   pub next : next_due core.version core.held ≡ Some (h, others)
   pub due : h.1.previous ≤ℤ core.version
   pub fewer : length core.held ≡ length others + 1
-
--- what holds of each holds of each but one, and of that one
-pub All-without : {X : Type 0} (P : X → Type 0) (before : List X) (x : X) (after : List X)
-    → All P (before ++ x ∷ after) → P x × All P (before ++ after)
-All-without P [] x after all = (All-head P x after all, All-tail P x after all)
-All-without P (y ∷ before) x after all =
-    let others = All-without P before x after (All-tail P y (before ++ x ∷ after) all) in
-    (others.0, All-cons P y (before ++ after) (All-head P y (before ++ x ∷ after) all) others.1)
 
 All-leaves : (P : Held → Type 0) (version : ℤ) (held : List Held) (h : Held) (others : List Held)
     → Leaves version held h others → All P held → P h × All P others

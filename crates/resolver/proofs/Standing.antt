@@ -28,22 +28,18 @@ use Rattle.std.proofs.lemmas.Bool.{cases_Bool, eqb-true, eqb-false}
 use Rattle.std.proofs.lemmas.List.{get_or-set_other, length-set}
 use Rattle.keyspace.specs.declared.answer.Answer.{Answer}
 use Rattle.keyspace.specs.declared.batch.Batch.{Batch}
-use Rattle.keyspace.specs.Run.{State, Step, admit, leave, step, run_from, run, answers_to, start}
+use Rattle.keyspace.specs.Run.{State, Step, admit, leave, step, run, answers_to, start}
 use Rattle.limits.specs.declared.stop.Stop.{Stop}
 use Rattle.resolver.specs.Owed.{owed_to, given_oldest}
 use Rattle.resolver.specs.Core.{CoreState, Given, IsPrefix, IsIn, MadeBetween, StopsIn, StopsAtLimit, made_to}
 use Rattle.resolver.specs.Stands.{StoppedIn, StandsBy, given_also}
 use Rattle.resolver.specs.CoreCalls.{AddsStep}
-
-run_from-more : (window : ℤ) (log : List Step) (x : Step) (s : State)
-    → run_from window (log ++ x ∷ []) s ≡ step window x (run_from window log s)
-run_from-more window [] x s = refl
-run_from-more window (y ∷ log) x s = run_from-more window log x (step window y s)
+use Rattle.keyspace.proofs.callers.Runs.{run_from_more}
 
 -- a run of one step more
 pub run-more : (window : ℤ) (log : List Step) (x : Step)
     → run window (log ++ x ∷ []) ≡ step window x (run window log)
-run-more window log x = run_from-more window log x start
+run-more window log x = run_from_more window log x start
 
 -- without a stop the core is in the state after the log
 pub IsIn-standing : (stop : Option Stop) (log : List Step) (given : Given) (core : CoreState) → stop ≡ None

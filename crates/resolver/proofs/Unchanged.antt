@@ -1,14 +1,14 @@
 -- Pairs of lanes that are settled: no list has changed, and no answer that waits.
-use Rattle.std.proofs.Common.{◌≡◌, ℕ, zero, suc, ◌<◌, ◌≤◌, ◌&&◌, true, List, [], ◌∷◌, length, Some, refl, sym, ap, ap₂, subst, subst₂, ◌∙◌, inl, inr, arith}
+use Rattle.std.proofs.Common.{◌≡◌, ℕ, zero, suc, ◌≤◌, ◌&&◌, true, List, [], ◌∷◌, length, Some, refl, sym, ap, ap₂, subst, subst₂, ◌∙◌, inl, inr, arith}
 use Rattle.std.specs.Prelude.{slice_get}
-use Rattle.std.proofs.lemmas.Option.{none-some, same_Some, slice_get_within}
+use Rattle.std.proofs.lemmas.Option.{slice_get_within}
 use Rattle.std.proofs.lemmas.List.{length-map}
 use Rattle.keyspace.specs.declared.answer.Answer.{Answer}
 use Rattle.lane.specs.Lane.{Lane, HasEnded}
 use Rattle.resolver.specs.declared.client.Client.{Client}
 use Rattle.limits.specs.declared.settings.TheConstants.{MAX_PROXIES}
 use Rattle.resolver.specs.Owed.{owed_count}
-use Rattle.resolver.specs.Lanes.{Lanes, Each, LanesContinue, AreSameLists, all_ended}
+use Rattle.resolver.specs.Lanes.{Each, LanesContinue, AreSameLists, all_ended}
 use Rattle.resolver.specs.Resolver.{IsThrough, SameClients}
 use Rattle.resolver.specs.Parts.{
   ProxyLanesView,
@@ -20,21 +20,9 @@ use Rattle.resolver.specs.Parts.{
   owed_with,
   resolver_of,
 }
-use Rattle.resolver.proofs.AtIndex.{owed_with-same}
+use Rattle.keys.proofs.callers.Lists.{some_at}
+use Rattle.resolver.proofs.AtIndex.{owed_with-same, proxy_lanes_at}
 use Rattle.resolver.proofs.Settling.{lanes_at}
-
--- an element stands at each index of a list
-pub slice_get_inside : {A : Type 0} (xs : List A) (i : ℕ) → i < length xs → (x : A) × (slice_get xs i ≡ Some x)
-slice_get_inside [] i inside = absurd (omega (arith, inside))
-slice_get_inside (x ∷ xs) zero inside = (x, refl)
-slice_get_inside (x ∷ xs) (suc i) inside = slice_get_inside xs i (omega (arith, inside))
-
--- the lanes at an index are those of the proxy there
-pub proxy_lanes_at : (all_lanes : List ProxyLanesView) (proxy : ℕ) (k : Lanes) → slice_get (lanes_of all_lanes) proxy ≡ Some k
-    → (l : ProxyLanesView) × (slice_get all_lanes proxy ≡ Some l) × (l.lanes ≡ k)
-proxy_lanes_at [] proxy k at = absurd (none-some k at)
-proxy_lanes_at (l ∷ all_lanes) zero k at = (l, refl, same_Some l.lanes k at)
-proxy_lanes_at (l ∷ all_lanes) (suc proxy) k at = proxy_lanes_at all_lanes proxy k at
 
 all_ended-same : (old new : List ProxyLanesView) → length new ≡ length old
     → ((proxy : ℕ) (l m : ProxyLanesView) → slice_get old proxy ≡ Some l → slice_get new proxy ≡ Some m
@@ -63,8 +51,8 @@ module _ (old new : List ProxyLanesView) (before after : List Client) (each : Ea
       → (c d : Client) × SettlesLanes l c m d
   settles_at proxy l m l_at m_at =
       let inside = slice_get_within old proxy l l_at in
-      let c = slice_get_inside before proxy (omega (arith, inside, many)) in
-      let d = slice_get_inside after proxy (omega (arith, inside, many, each.clients)) in
+      let c = some_at before proxy (omega (arith, inside, many)) in
+      let d = some_at after proxy (omega (arith, inside, many, each.clients)) in
       (c.0, d.0, each.each proxy l m c.0 d.0 l_at m_at c.1 d.1)
 
   pub owed_with-settled : (owed : List (List Answer)) → owed_with new owed ≡ owed_with old owed
@@ -79,8 +67,8 @@ module _ (old new : List ProxyLanesView) (before after : List Client) (each : Ea
   pub lanes_hold : LanesHold old before
   lanes_hold proxy l c l_at c_at =
       let inside = slice_get_within old proxy l l_at in
-      let m = slice_get_inside new proxy (omega (arith, inside, each.count)) in
-      let d = slice_get_inside after proxy (omega (arith, inside, many, each.clients)) in
+      let m = some_at new proxy (omega (arith, inside, each.count)) in
+      let d = some_at after proxy (omega (arith, inside, many, each.clients)) in
       let settles = each.each proxy l m.0 c d.0 l_at m.1 c_at d.1 in
       (settles.requests, settles.replies)
 
@@ -101,8 +89,8 @@ module _ (old new : List ProxyLanesView) (before after : List Client) (each : Ea
     count = each.clients;
     each = λ proxy c d c_at d_at.
         let inside = slice_get_within before proxy c c_at in
-        let l = slice_get_inside old proxy (omega (arith, inside, many)) in
-        let m = slice_get_inside new proxy (omega (arith, inside, many, each.count)) in
+        let l = some_at old proxy (omega (arith, inside, many)) in
+        let m = some_at new proxy (omega (arith, inside, many, each.count)) in
         (each.each proxy l.0 m.0 c d l.1 m.1 c_at d_at).client;
   }
 
@@ -149,7 +137,7 @@ module _ (p : Parts) (new : List ProxyLanesView) (before after : List Client)
           → (l : ProxyLanesView) × (slice_get p.all_lanes proxy ≡ Some l)
       old_proxy_lanes proxy m at =
           let inside = slice_get_within new proxy m at in
-          slice_get_inside p.all_lanes proxy (omega (arith, inside, each.count))
+          some_at p.all_lanes proxy (omega (arith, inside, each.count))
 
       settled : (proxy : ℕ) (l m : ProxyLanesView) (l_at : slice_get p.all_lanes proxy ≡ Some l)
           (m_at : slice_get new proxy ≡ Some m)

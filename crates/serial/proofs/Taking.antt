@@ -33,18 +33,7 @@ use Rattle.std.specs.Prelude.{◌==◌, ◌&&◌, not, int_lt, Option, Some, Non
 use Rattle.std.specs.Ordering.{int_eq}
 use Rattle.std.proofs.lemmas.Bool.{eqb-true}
 use Rattle.std.proofs.lemmas.Option.{same_Some}
-use Rattle.std.proofs.lemmas.List.Elements.{
-  All-nil,
-  All-cons,
-  All-head,
-  All-tail,
-  All-append,
-  All-push,
-  All-map,
-  All-weaker,
-  Contains-append_left,
-  Contains-push,
-}
+use Rattle.std.proofs.lemmas.List.Elements.{All-nil, All-append, All-push, All-map, All-weaker, Contains-append_left, Contains-push}
 use Rattle.keyspace.specs.declared.batch.Batch.{Batch}
 use Rattle.keyspace.specs.declared.reply.Reply.{Reply}
 use Rattle.keyspace.specs.declared.answer.Answer.{Answer}
@@ -71,6 +60,8 @@ use Rattle.keyspace.specs.Run.{
   run,
 }
 use Rattle.keyspace.proofs.callers.Chains.{next_due_leaves}
+use Rattle.keyspace.proofs.callers.Runs.{run_from_more}
+use Rattle.keys.proofs.callers.Lists.{All-without}
 
 -- an element of the first of two lists is at the same index of both together
 pub at_front : {X : Type 0} (xs ys : List X) (k : ℕ) (x : X) → slice_get xs k ≡ Some x → slice_get (xs ++ ys) k ≡ Some x
@@ -93,14 +84,6 @@ front_or_end (z ∷ xs) x (suc k) y h = elim (front_or_end xs x k y h) [
   | inl front ↦ inl front
   | inr end ↦ inr (ap suc end.0, end.1)
 ]
-
--- what holds of all of a list holds of one of them and of all others
-all_without : {X : Type 0} (P : X → Type 0) (before : List X) (x : X) (after : List X) → All P (before ++ x ∷ after)
-    → P x × All P (before ++ after)
-all_without P [] x after all = (All-head P x after all, All-tail P x after all)
-all_without P (y ∷ before) x after all =
-    let more = all_without P before x after (All-tail P y (before ++ x ∷ after) all) in
-    (more.0, All-cons P y (before ++ after) (All-head P y (before ++ x ∷ after) all) more.1)
 
 -- the reply is that of one of these entries, which is of this proxy
 abbrev pub IsReplyOf : List Processed → ℕ → Reply → Type 0
@@ -242,7 +225,7 @@ module _ (Taken : ℕ → ℕ → Batch → Type 0)
   knows_leave_then continue_with window continues s (Some l) due k =
       let leaves = next_due_leaves.some (version_of s.processed) s.held l.0 l.1 due in
       let Here : Held → Type 0 = HeldAt (length s.processed) in
-      let parts = all_without Here leaves.before l.0 leaves.after (subst (All Here) leaves.held_is k.held) in
+      let parts = All-without Here leaves.before l.0 leaves.after (subst (All Here) leaves.held_is k.held) in
       let without : State = record s { held = l.1 } in
       let known : Knows Taken without = record {
         processed = k.processed;
@@ -296,11 +279,6 @@ taken_more window log more n p b t = record {
   taken = ap (λ steps. steps ++ more) t.taken ∙ append_assoc t.before (Take p b ∷ t.after) more;
   not_earlier = t.not_earlier;
 }
-
-run_from_more : (window : ℤ) (log : List Step) (x : Step) (s : State)
-    → run_from window (log ++ x ∷ []) s ≡ step window x (run_from window log s)
-run_from_more window [] x s = refl
-run_from_more window (y ∷ log) x s = run_from_more window log x (step window y s)
 
 knows_step : (window : ℤ) (log : List Step) (x : Step) → Knows (IsTaken window log) (run window log)
     → Knows (IsTaken window (log ++ x ∷ [])) (step window x (run window log))

@@ -17,8 +17,8 @@ use Rattle.keys.specs.Key.{is_before}
 use Rattle.shards.specs.Built.{LiesAt, HasBounds, end_or_empty, clip_fields, clips_of}
 use Rattle.shards.specs.Reach.{ends_below, is_reached, IsReported}
 use Rattle.shards.specs.declared.reach.Reach.{Reach}
-use Rattle.shards.specs.declared.shard_tables.KeyAt.{KeyAt}
-use Rattle.shards.specs.declared.shard_tables.Bounds.{Bounds}
+use Rattle.shards.specs.declared.shard_bounds.KeyAt.{KeyAt}
+use Rattle.shards.specs.declared.shard_bounds.Bounds.{Bounds}
 
 pub lies_kept : (buffer more new_buffer : List ℕ) (at : KeyAt) (key : List ℕ) → new_buffer ≡ buffer ++ more → LiesAt buffer at key
     → LiesAt new_buffer at key

@@ -11,9 +11,9 @@ use Rattle.shards.specs.Built.{LiesAt, HasBounds, end_or_empty, clip_fields}
 use Rattle.shards.specs.Clips.{goes_to}
 use Rattle.shards.specs.Cut.{IsCut}
 use Rattle.shards.specs.declared.shard_ends.Cut.{Cut}
-use Rattle.shards.specs.declared.shard_tables.Bounds.{Bounds}
-use Rattle.shards.specs.declared.shard_tables.KeyAt.{KeyAt}
-use Rattle.shards.proofs.Reached.{and_comm}
+use Rattle.shards.specs.declared.shard_bounds.Bounds.{Bounds}
+use Rattle.shards.specs.declared.shard_bounds.KeyAt.{KeyAt}
+use Rattle.keys.proofs.callers.Booleans.{and_comm}
 
 unless_before : (b x : Bool) → (b ≡ false → x ≡ true) → x ≡ (not b || x)
 unless_before true x h = refl

@@ -6,7 +6,7 @@ use Rattle.std.proofs.lemmas.Bool.Decides.{nat_tests}
 use Rattle.std.proofs.lemmas.Option.{slice_get-get_or, slice_get_past}
 use Rattle.keys.specs.declared.range.Range.{Range}
 use Rattle.keys.specs.Key.{is_before}
-use Rattle.keys.proofs.callers.Booleans.{and_left, and_both}
+use Rattle.keys.proofs.callers.Booleans.{and_left, and_both, and_comm}
 use Rattle.keys.proofs.callers.KeyOrder.{not_before_itself, before_at_most_same, not_before_if}
 use Rattle.serial.specs.Shards.{ends_above, has_key}
 use Rattle.shards.specs.Reach.{shard_at, AreFirst, ends_below, IsReach}
@@ -21,12 +21,6 @@ none_before_empty (byte ∷ key) = refl
 empty_before : (a b : List ℕ) → is_before a b ≡ true → is_before [] b ≡ true
 empty_before a [] h = let no = sym (none_before_empty a) ∙ h in cc
 empty_before a (byte ∷ b) h = refl
-
-pub and_comm : (a b : Bool) → (a && b) ≡ (b && a)
-and_comm true true = refl
-and_comm true false = refl
-and_comm false true = refl
-and_comm false false = refl
 
 not_not : (a b : Bool) → not a ≡ b → a ≡ not b
 not_not true b h = ap not h

@@ -26,8 +26,8 @@ use Rattle.serial.specs.Shards.{Shard, ends_above}
 use Rattle.shards.specs.Clips.{goes_to, read_indices}
 use Rattle.shards.specs.Reach.{ends_below}
 use Rattle.shards.specs.ReadIndices.{parts_from, AreIndices}
-use Rattle.shards.specs.declared.shard_tables.KeyAt.{KeyAt}
-use Rattle.shards.specs.declared.shard_tables.Bounds.{Bounds}
+use Rattle.shards.specs.declared.shard_bounds.KeyAt.{KeyAt}
+use Rattle.shards.specs.declared.shard_bounds.Bounds.{Bounds}
 use Rattle.shards.specs.declared.shard_tables.ShardTables.{ShardTables}
 
 -- the end of a shard, or the empty key

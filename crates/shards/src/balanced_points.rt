@@ -24,18 +24,18 @@ use std::alloc::{AllocError, Global};
 pub fn balanced(
     alloc: Global,
     sample: &[&Batch],
-    shards: usize,
+    shard_count: usize,
 ) -> Result<SplitPoints, BalanceError>
     ensures balanced { IfOk result
-        (IsBalanced shards (begins_of (map (λ batch. batch.now) sample.now))) }
+        (IsBalanced shard_count (begins_of (map (λ batch. batch.now) sample.now))) }
     ensures shard_count { IsErrOf result BalanceError.ShardCount
-        ↔ ((shards ≡ 0) ⊎ (MAX_SPLIT_POINTS + 1 < shards)) }
+        ↔ ((shard_count ≡ 0) ⊎ (MAX_SPLIT_POINTS + 1 < shard_count)) }
 {
-    if shards == 0 || shards > MAX_SPLIT_POINTS + 1 {
+    if shard_count == 0 || shard_count > MAX_SPLIT_POINTS + 1 {
         return Err(BalanceError::ShardCount);
     }
     let begins = sorted_begins(alloc, sample)?;
-    let points = pick_points(alloc, &begins, shards)?;
+    let points = pick_points(alloc, &begins, shard_count)?;
     Ok(SplitPoints::new(points))
 }
 
@@ -68,18 +68,18 @@ fn put_begins<'a>(begins: &mut Vec<&'a [u8]>, batch: &'a Batch) -> Result<(), Al
 
 // Picks split points from keys in order. At each point, the remaining shards share the keys after
 // it evenly.
-fn pick_points(alloc: Global, begins: &[&[u8]], shards: usize) -> Result<Vec<Key>, AllocError>
-    requires some { 0 < shards }
+fn pick_points(alloc: Global, begins: &[&[u8]], shard_count: usize) -> Result<Vec<Key>, AllocError>
+    requires some { 0 < shard_count }
     requires sorted { IsSorted (λ a b. slice_cmp nat_cmp a.now b.now) begins.now }
     requires short { All (λ key. length key.now ≤ MAX_KEY_LENGTH) begins.now }
     ensures rising { IfOk result (λ points. IsRising [] points.items) }
     ensures balanced { IfOk result
-        (λ points. IsBalanced shards (keys_of begins.now) points.items) }
+        (λ points. IsBalanced shard_count (keys_of begins.now) points.items) }
 {
     let mut points = Vec::new(alloc);
     let mut rest = keys_after(begins, &[]);
-    for done in 0..shards - 1 {
-        let part = rest.len() / (shards - done);
+    for done in 0..shard_count - 1 {
+        let part = rest.len() / (shard_count - done);
         if part < rest.len() {
             let point = rest[part];
             points.push(Key::copied(alloc, point)?)?;

@@ -1,47 +1,32 @@
 //! The tables of a shard while a batch is clipped to it.
 
-ghost use Rattle.std.specs.Prelude.{◌≡◌, ◌<◌, ◌≤◌, ◌∷◌, ◌++◌, [], ℕ, List, length, is_some, nat_lt};
-ghost use Rattle.std.specs.Prelude.{◌+◌, if◌then◌else◌, map};
-ghost use Rattle.std.specs.Prelude.{All, IfOk, IfSome, OnOk};
+ghost use Rattle.std.specs.Prelude.{◌≡◌, ◌<◌, ◌≤◌, ◌∷◌, ◌++◌, [], ℕ, List, length};
+ghost use Rattle.std.specs.Prelude.{◌+◌, map};
+ghost use Rattle.std.specs.Prelude.{All, IfOk, OnOk};
 ghost use Rattle.std.specs.List.{AllZip};
-ghost use Rattle.keys.specs.declared.key.TheConstants.{MAX_KEY_LENGTH};
 ghost use Rattle.keys.specs.declared.range.Range.{Range};
 ghost use Rattle.keyspace.specs.declared.batch.TheConstants.{MAX_TXNS};
 ghost use Rattle.keyspace.specs.declared.txn.TheConstants.{MAX_RANGES};
 ghost use Rattle.keyspace.specs.declared.txn.Txn.{Txn};
-ghost use Rattle.keyspace.specs.storage.Fields.{range_fields, txn_fields};
+ghost use Rattle.keyspace.specs.storage.Fields.{txn_fields};
 ghost use Rattle.keyspace.specs.Judge.{places_from};
-ghost use Rattle.keyspace.specs.storage.Putting.{ArePut};
-ghost use Rattle.keyspace.specs.storage.Tables.{range_of_span, txn_of_row, LiesWithin};
+ghost use Rattle.keyspace.specs.storage.Tables.{txn_of_row, LiesWithin};
 ghost use Rattle.serial.specs.Shards.{Shard, shards};
-ghost use Rattle.shards.specs.Built.{AreLeft, LiesAt, HasBounds, IsBuilt, clip_fields, clips_of};
+ghost use Rattle.shards.specs.Built.{AreLeft, IsBuilt};
 ghost use Rattle.shards.specs.Clips.{goes_to, read_indices, IsClipped, IsTxnClip};
-ghost use Rattle.shards.specs.Cut.{shard_of_ends, IsCut};
+ghost use Rattle.shards.specs.Cut.{shard_of_ends};
 ghost use Rattle.shards.specs.Reach.{shard_at, IsReported};
 
 use crate::clipped::Clipped;
+use crate::copied_clips::{put_clips, put_key};
+use crate::kept_clips::{keep_reads, keep_writes};
 use crate::reach::Reach;
 use crate::read_indices::ReadIndices;
-use crate::shard_ends::{Cut, ShardEnds};
+use crate::shard_bounds::Bounds;
+use crate::shard_ends::ShardEnds;
 use crate::split_points::SplitPoints;
-use keys::RangeRef;
-use keyspace::{Batch, RangesRef, Row, Span, TxnRef, Txns, bytes_at};
+use keyspace::{Batch, Row, Span, TxnRef, Txns};
 use std::alloc::{AllocError, Global};
-
-/// The location of a key in a buffer, in bytes.
-#[derive(Clone, Copy, Debug)]
-pub(crate) struct KeyAt {
-    begin: u32,
-    length: u16,
-}
-
-/// A shard, and where its ends lie in its buffer. All ranges that are cut share these.
-#[derive(Clone, Copy, Debug)]
-pub(crate) struct Bounds {
-    shard: usize,
-    from: KeyAt,
-    to: KeyAt,
-}
 
 /// The tables of the transactions that are clipped to a shard.
 #[derive(Debug, Drop)]
@@ -241,240 +226,6 @@ impl ShardTables {
         let txns = Txns::from_tables(alloc, buffer, spans, rows)?;
         Ok((txns, ReadIndices::new(indices, ends)))
     }
-}
-
-impl Bounds {
-    // Returns where the first key of the shard lies, if the range begins before it.
-    fn begin_of(&self, reach: &Reach) -> Option<KeyAt>
-        ensures begin { result ≡
-            (if nat_lt reach.now.first self.now.shard then Some self.now.from else None) }
-    {
-        if usize::from(reach.first) < self.shard {
-            Some(self.from)
-        } else {
-            None
-        }
-    }
-
-    // Returns where the end of the shard lies, if the range ends after it.
-    fn end_of(&self, reach: &Reach) -> Option<KeyAt>
-        ensures end { result ≡
-            (if nat_lt self.now.shard reach.now.last then Some self.now.to else None) }
-    {
-        if self.shard < usize::from(reach.last) {
-            Some(self.to)
-        } else {
-            None
-        }
-    }
-
-    // Returns the span of the clip of a range that is cut to the shard. Its keys are those of the
-    // span and the ends of the shard.
-    fn clip(&self, span: &Span, cut: Cut) -> Span
-        ensures clip { (shard : Shard) (m : ℕ) (buffer : List ℕ) (range : Range)
-            → HasBounds shard m buffer self.now
-            → LiesWithin (length buffer) span.now
-            → range_of_span buffer span.now ≡ range_fields range
-            → IsCut shard range cut
-            → LiesWithin (length buffer) result
-            × (range_of_span buffer result ≡ clip_fields shard range) }
-    {
-        let own_begin = KeyAt {
-            begin: span.begin,
-            length: span.begin_length,
-        };
-        let own_end = KeyAt {
-            begin: span.end,
-            length: span.end_length,
-        };
-        let begin = pick(cut.begin, self.from, own_begin);
-        let end = pick(cut.end, self.to, own_end);
-        Span {
-            begin: begin.begin,
-            begin_length: begin.length,
-            end: end.begin,
-            end_length: end.length,
-        }
-    }
-}
-
-// Returns the first location if the test says so, and otherwise the second one.
-fn pick(test: bool, first: KeyAt, second: KeyAt) -> KeyAt
-    ensures picked { result ≡ (if test then first else second) }
-{
-    if test { first } else { second }
-}
-
-// Appends the spans of the clips of those read ranges that go to the shard, and the indices of
-// these. Their keys, and the ends of the shard, lie in the buffer.
-fn keep_reads(
-    kept: &mut Vec<Span>,
-    indices: &mut Vec<u16>,
-    bounds: &Bounds,
-    shard: &ShardEnds<'_>,
-    buffer: &[u8],
-    spans: &[Span],
-) -> Result<(), AllocError>
-    requires lie { All (LiesWithin (length buffer.now)) spans.now }
-    requires few { length spans.now ≤ MAX_RANGES }
-    ensures kept { OnOk result ((m : ℕ) (ranges : List Range)
-        → HasBounds (shard_of_ends shard.now) m buffer.now bounds.now
-        → map (range_of_span buffer.now) spans.now ≡ map range_fields ranges
-        → ArePut buffer.now kept.old.items (clips_of (shard_of_ends shard.now) ranges)
-        buffer.now kept.new.items) }
-    ensures indices { OnOk result ((m : ℕ) (ranges : List Range)
-        → HasBounds (shard_of_ends shard.now) m buffer.now bounds.now
-        → map (range_of_span buffer.now) spans.now ≡ map range_fields ranges
-        → indices.new.items ≡ indices.old.items
-        ++ places_from 0 (goes_to (shard_of_ends shard.now)) ranges) }
-{
-    for (index, span) in spans.iter().enumerate() {
-        let goes = keep_clip(kept, bounds, shard, buffer, span)?;
-        if goes {
-            indices.push(index as u16)?;
-        }
-    }
-    Ok(())
-}
-
-// Appends the spans of the clips of those write ranges that go to the shard. Their keys, and the
-// ends of the shard, lie in the buffer.
-fn keep_writes(
-    kept: &mut Vec<Span>,
-    bounds: &Bounds,
-    shard: &ShardEnds<'_>,
-    buffer: &[u8],
-    spans: &[Span],
-) -> Result<(), AllocError>
-    requires lie { All (LiesWithin (length buffer.now)) spans.now }
-    ensures kept { OnOk result ((m : ℕ) (ranges : List Range)
-        → HasBounds (shard_of_ends shard.now) m buffer.now bounds.now
-        → map (range_of_span buffer.now) spans.now ≡ map range_fields ranges
-        → ArePut buffer.now kept.old.items (clips_of (shard_of_ends shard.now) ranges)
-        buffer.now kept.new.items) }
-{
-    for span in spans {
-        keep_clip(kept, bounds, shard, buffer, span)?;
-    }
-    Ok(())
-}
-
-// Appends the span of the clip of a range, if the range goes to the shard, and returns whether it
-// does. Its keys, and the ends of the shard, lie in the buffer.
-fn keep_clip(
-    kept: &mut Vec<Span>,
-    bounds: &Bounds,
-    shard: &ShardEnds<'_>,
-    buffer: &[u8],
-    span: &Span,
-) -> Result<bool, AllocError>
-    requires lies { LiesWithin (length buffer.now) span.now }
-    ensures kept { IfOk result (λ goes. (m : ℕ) (range : Range)
-        → HasBounds (shard_of_ends shard.now) m buffer.now bounds.now
-        → range_of_span buffer.now span.now ≡ range_fields range
-        → (goes ≡ goes_to (shard_of_ends shard.now) range)
-        × ArePut buffer.now kept.old.items
-        (if goes then clip_fields (shard_of_ends shard.now) range ∷ [] else []) buffer.now
-        kept.new.items) }
-{
-    let begin = bytes_at(buffer, span.begin, span.begin_length);
-    let end = bytes_at(buffer, span.end, span.end_length);
-    let Some(cut) = shard.cut(begin, end) else {
-        return Ok(false);
-    };
-    kept.push(bounds.clip(span, cut))?;
-    Ok(true)
-}
-
-// Appends the clips of those ranges that go to the shard: their keys to the buffer, and their spans
-// to the others.
-fn put_clips(
-    buffer: &mut Vec<u8>,
-    spans: &mut Vec<Span>,
-    bounds: &Bounds,
-    ranges: &RangesRef<'_>,
-    reaches: &[Reach],
-) -> Result<(), AllocError>
-    requires count { length reaches.now ≡ length ranges.now }
-    ensures put { OnOk result ((shard : Shard) (m : ℕ)
-        → HasBounds shard m buffer.old.items bounds.now
-        → AllZip (IsReported shard m) ranges.now reaches.now
-        → ArePut buffer.old.items spans.old.items (clips_of shard ranges.now) buffer.new.items
-        spans.new.items) }
-{
-    for (index, reach) in reaches.iter().enumerate() {
-        if reach.includes(bounds.shard) {
-            let range = ranges.get(index);
-            put_clip(
-                buffer,
-                spans,
-                &range,
-                bounds.begin_of(reach),
-                bounds.end_of(reach),
-            )?;
-        }
-    }
-    Ok(())
-}
-
-// Appends a range: its keys to the buffer, and its span to the others. If it begins or ends with a
-// key that already lies in the buffer, that one is used.
-fn put_clip(
-    buffer: &mut Vec<u8>,
-    spans: &mut Vec<Span>,
-    range: &RangeRef<'_>,
-    begin: Option<KeyAt>,
-    end: Option<KeyAt>,
-) -> Result<(), AllocError>
-    ensures put { OnOk result ((from to : List ℕ) → IfSome begin
-        (λ at. LiesAt buffer.old.items at from)
-        → IfSome end (λ at. LiesAt buffer.old.items at to)
-        → ArePut buffer.old.items spans.old.items (record {
-          begin = if is_some begin then from else range.now.begin;
-          end = if is_some end then to else range.now.end;
-        } ∷ []) buffer.new.items spans.new.items) }
-{
-    let begin = key_or_put(buffer, begin, range.begin())?;
-    let end = key_or_put(buffer, end, range.end())?;
-    spans.push(Span {
-        begin: begin.begin,
-        begin_length: begin.length,
-        end: end.begin,
-        end_length: end.length,
-    })?;
-    Ok(())
-}
-
-// Returns where a key lies that is in the buffer, or appends the other one.
-fn key_or_put(buffer: &mut Vec<u8>, at: Option<KeyAt>, key: &[u8]) -> Result<KeyAt, AllocError>
-    requires short { length key.now ≤ MAX_KEY_LENGTH }
-    ensures kept { OnOk result ((more : List ℕ) × (buffer.new.items ≡ buffer.old.items ++ more)) }
-    ensures at { IfOk result (λ found. (bound : List ℕ) → IfSome at
-        (λ at. LiesAt buffer.old.items at bound)
-        → LiesAt buffer.new.items found (if is_some at then bound else key.now)) }
-{
-    match at {
-        Some(at) => Ok(at),
-        None => put_key(buffer, key),
-    }
-}
-
-// Appends the key to the buffer, and returns where it lies, or an error if memory is refused or the
-// buffer has more than 4 GiB.
-fn put_key(buffer: &mut Vec<u8>, key: &[u8]) -> Result<KeyAt, AllocError>
-    requires short { length key.now ≤ MAX_KEY_LENGTH }
-    ensures key { OnOk result (buffer.new.items ≡ buffer.old.items ++ key.now) }
-    ensures at { IfOk result (λ at. LiesAt buffer.new.items at key.now) }
-{
-    let begin = buffer.len();
-    if begin > u32::MAX as usize {
-        return Err(AllocError);
-    }
-    buffer.extend_from_slice(key)?;
-    Ok(KeyAt {
-        begin: begin as u32,
-        length: key.len() as u16,
-    })
 }
 
 /// Appends the indices of those ranges that go to the shard. Returns an error if memory is refused.

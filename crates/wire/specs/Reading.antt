@@ -3,6 +3,7 @@ use Rattle.std.specs.Prelude.{◌≡◌, ◌≢◌, ℕ, ◌+◌, zero, suc, ℤ
 use Rattle.std.specs.Int.{w64, cast_signed}
 use Rattle.byteorder.specs.Endian.{big_number}
 use Rattle.keys.specs.declared.key.TheConstants.{MAX_KEY_LENGTH}
+use Rattle.keys.specs.declared.single_key.TheConstants.{MAX_SINGLE_KEY_LENGTH}
 use Rattle.keyspace.specs.declared.txn.TheConstants.{MAX_RANGES}
 use Rattle.keyspace.specs.declared.batch.TheConstants.{MAX_TXNS}
 use Rattle.keys.specs.Key.{is_before}
@@ -11,7 +12,6 @@ use Rattle.keyspace.specs.declared.reply.Verdict.TheVariants.{Conflict, TooOld, 
 use Rattle.wire.specs.declared.error.WireError.{WireError}
 use Rattle.wire.specs.declared.error.WireError.TheVariants.{Short, Long, Kind, Trailing, Version, Marks, Count, KeyLength, Inverted, Cut, Memory, Read, Form, Spelling, Write}
 use Rattle.wire.specs.declared.field.TheConstants.{MAX_BODY_LENGTH}
-use Rattle.wire.specs.declared.single.TheConstants.{MAX_SINGLE_KEY_LENGTH}
 use Rattle.wire.specs.declared.version.WireVersion.{WireVersion}
 use Rattle.wire.specs.declared.version.WireVersion.TheVariants.{One, Two}
 use Rattle.wire.specs.Fields.{RangeFields, TxnFields, BatchFields, EntryFields, ReplyFields}

@@ -3,10 +3,10 @@
 -- batch and how a range is spelled, and nothing else.
 use Rattle.std.specs.Prelude.{◌≡◌, ◌≢◌, ℕ, ℤ, pos, negsuc, ◌≤◌, ◌≤ℤ◌, ◌<ℤ◌, Bool, List, [], ◌∷◌, ◌++◌, length, if◌then◌else◌}
 use Rattle.std.specs.List.{flat_map, AllByRecursion}
-use Rattle.std.specs.Str.{bytes_eq}
 use Rattle.std.specs.Int.{w64, cast_unsigned}
 use Rattle.std.specs.Int.RustNames.{FitsSigned}
 use Rattle.byteorder.specs.Endian.{big_bytes}
+use Rattle.keys.specs.Range as ends
 use Rattle.keyspace.specs.declared.txn.TheConstants.{MAX_RANGES}
 use Rattle.keyspace.specs.declared.batch.TheConstants.{MAX_TXNS}
 pub use Rattle.keyspace.specs.storage.Fields.{RangeHolds}
@@ -36,7 +36,7 @@ abbrev pub single_key : List ℕ → RangeFields
 single_key key = record { begin = key; end = key ++ 0 ∷ [] }
 
 abbrev pub is_single_key : RangeFields → Bool
-is_single_key range = bytes_eq range.end (single_key range.begin).end
+is_single_key range = ends.is_single_key range.begin range.end
 
 -- version 2 begins a range with its form: 1 and the key of a single key, 0 and both ends of any other range
 unfoldable pub formed_text : RangeFields → List ℕ

@@ -8,8 +8,8 @@ ghost use Rattle.wire.specs.Fields.{reply_fields};
 ghost use Rattle.wire.specs.Spelling.{key_text, ends_text, range_text, txn_text, batch_body};
 ghost use Rattle.wire.specs.Spelling.{entry_text, reply_body};
 
-use crate::single::is_single_key;
 use crate::version::WireVersion;
+use keys::is_single_key;
 use keyspace::{Batch, Entry, MAX_RANGES, MAX_TXNS, RangeRef, RangesRef, Reply, TxnRef, Txns};
 
 fn key_length(key: &[u8]) -> usize

@@ -11,8 +11,8 @@ ghost use Rattle.wire.specs.Fields.{range_fields, txn_fields, entry_fields};
 ghost use Rattle.wire.specs.Spelling.{signed_text, key_text, ends_text, formed_text, range_text};
 ghost use Rattle.wire.specs.Spelling.{marks_text, txn_text, verdict_text, places_text, entry_text};
 
-use crate::single::is_single_key;
 use crate::version::WireVersion;
+use keys::is_single_key;
 use keyspace::{Entry, RangeRef, RangesRef, TxnRef, Txns, Verdict};
 use std::alloc::AllocError;
 

@@ -7,9 +7,8 @@ ghost use Rattle.wire.specs.declared.field.TheConstants.{MAX_BODY_LENGTH};
 
 use crate::error::WireError;
 use crate::field::{key_of, room_for, u8_at};
-use crate::single::{MAX_SINGLE_KEY_LENGTH, is_single_key};
 use crate::version::WireVersion;
-use keys::MAX_KEY_LENGTH;
+use keys::{MAX_KEY_LENGTH, MAX_SINGLE_KEY_LENGTH, is_single_key};
 use keyspace::{Span, bytes_at};
 
 // The fewest bytes that a range takes in either version: in version 2, a form and the length of a

@@ -1,6 +1,6 @@
 //! The words of the program's environment.
 
-ghost use Rattle.std.specs.Prelude.{◌≡◌, ◌<◌, ◌⊎◌, ℕ, List, IfErr};
+ghost use Rattle.std.specs.Prelude.{◌≡◌, ◌<◌, ◌⊎◌, ℕ, List};
 ghost use Rattle.std.specs.Io.KnownBytes.{Appends};
 ghost use Rattle.workload_program.specs.Fault.{IsReported, expected_line, line_of};
 ghost use Rattle.workload_program.specs.declared.fault.Fault.{Fault as FaultValue};
@@ -8,8 +8,8 @@ ghost use Rattle.workload_program.specs.declared.fault.Fault.{Fault as FaultValu
 use crate::fault::{Fault, fail};
 use crate::program::run;
 use crate::words::refuse;
+use program_arguments::{ArgumentsError, read_arguments};
 use std::rt::Env;
-use std::{env, io};
 use wire::Sink;
 
 /// Runs the program on the words of its environment, as [`run`] does, and returns the exit code.
@@ -32,23 +32,9 @@ pub fn run_in<R: Env + AllocGlobal, O: Sink, E: Sink>(rt: &R, out: &mut O, error
         × IsReported (line_of fault) (E.given error.old) (E.given error.new) (E.failures error.old)
         (E.failures error.new) }
 {
-    match command_line(rt) {
-        Ok(Some(words)) => run(rt.alloc(), &words, out, error),
-        Ok(None) => refuse(error),
-        Err(fault) => fail(error, fault),
-    }
-}
-
-// Returns the words of the command line, or none where one of them isn't text.
-fn command_line(rt: &(impl Env + AllocGlobal)) -> Result<Option<Vec<String>>, Fault>
-    ensures memory { IfErr result (λ fault. fault ≡ Fault.Memory) }
-{
-    let words = env::args(rt).and_then(|words| Ok(words.collect(rt.alloc())?));
-    match words {
-        Ok(words) => Ok(Some(words)),
-        Err(cause) => match cause.kind() {
-            io::ErrorKind::OutOfMemory => Err(Fault::Memory),
-            _ => Ok(None),
-        },
+    match read_arguments(rt.alloc(), rt) {
+        Ok(words) => run(rt.alloc(), &words, out, error),
+        Err(ArgumentsError::NotText) => refuse(error),
+        Err(ArgumentsError::Memory) => fail(error, Fault::Memory),
     }
 }

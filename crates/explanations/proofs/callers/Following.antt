@@ -17,6 +17,7 @@ use Rattle.keyspace.specs.Writes.{writes, earlier}
 use Rattle.keyspace.specs.Judged.{edge, HasVerdict, IsTooOld}
 use Rattle.explanations.specs.Explains.{explaining_writes, newest_of}
 use Rattle.explanations.specs.History.{FollowsChain, HistoryState, Keeps}
+use Rattle.keys.proofs.callers.Numbers.{natural_above, at_most_itself, max_rises}
 use Rattle.explanations.proofs.Explaining.{dropped_explain_nothing}
 use Rattle.explanations.proofs.Rising.{Precedes, versions_below, newest_of-more}
 
@@ -31,24 +32,6 @@ pub same_processed : (p q : Processed) → p.proxy ≡ q.proxy → p.batch ≡ q
 same_processed p q proxy batch reply = λ i. record { proxy = proxy i; batch = batch i; reply = reply i }
 
 -- edges in a chain
-
-above_below : (c d : ℤ) → c ≤ℤ d → int_lt (pos 0) c ≡ true → int_lt (pos 0) d ≡ false → c ≤ℤ pos 0
-above_below c d h e f = grind (arith, ints)
-
-natural_above : (d : ℤ) → int_lt (pos 0) d ≡ true → pos 0 ≤ℤ d
-natural_above d e = grind (arith, ints)
-
-at_most_itself : (d : ℤ) → d ≤ℤ d
-at_most_itself d = omega (arith, ints)
-
-max_rises : (c d : ℤ) → c ≤ℤ d → int_max c (pos 0) ≤ℤ int_max d (pos 0)
-max_rises c d h = go (int_lt (pos 0) c) (int_lt (pos 0) d) refl refl
-  where
-    go : (x y : Bool) → int_lt (pos 0) c ≡ x → int_lt (pos 0) d ≡ y → cond x c (pos 0) ≤ℤ cond y d (pos 0)
-    go true true e f = h
-    go true false e f = above_below c d h e f
-    go false true e f = natural_above d f
-    go false false e f = at_most_itself (pos 0)
 
 max_natural : (d : ℤ) → pos 0 ≤ℤ int_max d (pos 0)
 max_natural d = go (int_lt (pos 0) d) refl

@@ -13,6 +13,12 @@ pub and_both : (a b : Bool) → a ≡ true → b ≡ true → (a && b) ≡ true
 and_both true b h k = k
 and_both false b h k = cc
 
+pub and_comm : (a b : Bool) → (a && b) ≡ (b && a)
+and_comm true true = refl
+and_comm true false = refl
+and_comm false true = refl
+and_comm false false = refl
+
 pub or_either : (a b : Bool) → (a || b) ≡ true → (a ≡ true) ⊎ (b ≡ true)
 or_either true b h = inl refl
 or_either false b h = inr h

@@ -1,11 +1,12 @@
--- Lemmas for callers: a part of a list with one element more.
+-- Lemmas for callers: elements and parts of lists, and lists that go together.
 use Rattle.std.proofs.Common.{◌≡◌, ℕ, zero, suc, ◌+◌, ◌-◌, ◌<◌, ◌≤◌, List, [], ◌∷◌, ◌++◌, length, get_or, take, drop, refl, ap, sym, subst, ◌∙◌, arith, length-drop, length-take, map}
 use Rattle.std.specs.Prelude.{Some, slice_get, slice_range}
-use Rattle.std.specs.List.{AllZip}
+use Rattle.std.specs.List.{AllZip, All}
 use Rattle.std.proofs.Math.Seq.{take-suc}
 use Rattle.std.proofs.lemmas.List.{get_or-drop, get_or-take}
 use Rattle.std.proofs.lemmas.Option.{get_or_from_slice_get, none-some, same_Some, slice_get-get_or, slice_get_within}
 use Rattle.std.proofs.lemmas.Slice.Zip.{all_zipped_more}
+use Rattle.std.proofs.lemmas.List.Elements.{All-head, All-tail, All-cons}
 
 -- by the first index and the number of the elements
 pub part_more : {X : Type 0} (xs : List X) (from n : ℕ) (x : X) → slice_get xs (from + n) ≡ Some x
@@ -83,3 +84,24 @@ AllZip-at R (first ∷ xs) [] i x d is all = absurd all
 AllZip-at {X} R (first ∷ xs) (other ∷ ys) zero x d is all =
     let same : first ≡ x = cc in subst (λ (e : X). R e other) same all.0
 AllZip-at R (first ∷ xs) (other ∷ ys) (suc i) x d is all = AllZip-at R xs ys i x d is all.1
+
+-- the images of one element more
+take_map_suc : {X Y : Type 0} (f : X → Y) (xs : List X) (n : ℕ) (d : X) → n < length xs
+    → take (suc n) (map f xs) ≡ take n (map f xs) ++ f (get_or xs n d) ∷ []
+take_map_suc f [] n d inside = absurd (omega (arith, inside))
+take_map_suc f (x ∷ xs) zero d inside = refl
+take_map_suc f (x ∷ xs) (suc n) d inside = ap (λ l. f x ∷ l) (take_map_suc f xs n d (omega (arith, inside)))
+
+pub take_map_more : {X Y : Type 0} (f : X → Y) (xs : List X) (n : ℕ) (d : X) → n < length xs
+    → take (n + 1) (map f xs) ≡ take n (map f xs) ++ f (get_or xs n d) ∷ []
+take_map_more f xs n d inside =
+    let next : n + 1 ≡ suc n = omega arith in
+    ap (λ (k : ℕ). take k (map f xs)) next ∙ take_map_suc f xs n d inside
+
+-- what holds of all of a list holds of one of them and of all others
+pub All-without : {X : Type 0} (P : X → Type 0) (before : List X) (x : X) (after : List X) → All P (before ++ x ∷ after)
+    → P x × All P (before ++ after)
+All-without P [] x after all = (All-head P x after all, All-tail P x after all)
+All-without P (y ∷ before) x after all =
+    let more = All-without P before x after (All-tail P y (before ++ x ∷ after) all) in
+    (more.0, All-cons P y (before ++ after) (All-head P y (before ++ x ∷ after) all) more.1)

@@ -25,14 +25,14 @@ pub fn number_begins<L: RangeList>(
     ensures others { OthersStay sorted.now runs.old runs.new }
     ensures as_many { length runs.new ≡ length runs.old }
 {
-    let mut begins = 0;
+    let mut begin_count = 0;
     for (place, headed) in sorted.iter().enumerate() {
         if place == 0 || !have_same_begin(&sorted[place - 1], headed, ranges) {
-            begins += 1;
+            begin_count += 1;
         }
-        runs[headed.index] = (begins - 1, begins);
+        runs[headed.index] = (begin_count - 1, begin_count);
     }
-    begins
+    begin_count
 }
 
 // Returns whether two ranges have the same begin. Keys are looked at only where the heads are the

@@ -20,7 +20,7 @@ use crate::range_list::RangeList;
 pub fn reach_ends<L: RangeList>(
     runs: &mut [(u32, u32)],
     sorted: &[HeadedIndex],
-    begins: u32,
+    begin_count: u32,
     ranges: &L,
     prefix: &[u8],
     hashes: &[Option<u32>],
@@ -32,7 +32,7 @@ pub fn reach_ends<L: RangeList>(
     requires within { All (λ h. h.index < length runs.old) sorted.now }
     requires hashes { AreHashesOf (L.ranges ranges.now) hashes.now }
     ensures reached { (keys : List (List ℕ))
-        → AreNumbered (L.ranges ranges.now) sorted.now keys begins runs.old
+        → AreNumbered (L.ranges ranges.now) sorted.now keys begin_count runs.old
         → All (HasRun (L.ranges ranges.now) keys runs.new) (indices_of sorted.now) }
     ensures others { OthersStay sorted.now runs.old runs.new }
     ensures as_many { length runs.new ≡ length runs.old }
@@ -46,7 +46,7 @@ pub fn reach_ends<L: RangeList>(
         let first = place + 1 + count_below(end, prefix, &sorted[place + 1..], ranges);
         let reached = match sorted.get(first) {
             Some(next) => runs[next.index].0,
-            None => begins,
+            None => begin_count,
         };
         runs[headed.index].1 = reached;
     }

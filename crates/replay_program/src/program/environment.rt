@@ -13,23 +13,14 @@ ghost use Rattle.replay_arguments.specs.Arguments.{IsMistaken};
 
 use super::run;
 use crate::report::RunReport;
+use program_arguments::{ArgumentsError, read_arguments};
 use replay_arguments::Files;
 use replay_output::{StartError, Status, fail_to_start};
 use std::alloc::Global;
 use std::rt::Env;
 use std::sync::Wait;
 use std::thread::Threads;
-use std::{env, io};
 use wire::{Sink, write_all};
-
-// Why the words can't be read.
-#[derive(Clone, Copy)]
-enum ArgumentsError {
-    // A word isn't UTF-8. The toolchain opens files by text names alone.
-    NotText,
-    // Memory was refused.
-    Memory,
-}
 
 /// Runs the program on the words of its environment, as [`run`] does. Words that can't be read as
 /// text are refused, as mistaken ones are.
@@ -80,19 +71,10 @@ pub fn run_in<R: Threads + Wait + Copy + Send + 'static, V: Env, F: Files, O: Si
         × ReportsLine (written (E.given error.old) (E.given error.new) (E.failures error.old)
         (E.failures error.new)) text }
 {
-    match command_line(alloc, environment) {
+    match read_arguments(alloc, environment) {
         Ok(words) => run(rt, alloc, files, &words, out, error),
         Err(cause) => RunReport::unstarted(alloc, fail_to_read(error, cause)),
     }
-}
-
-// Returns the words of the command line.
-fn command_line(alloc: Global, environment: &impl Env) -> Result<Vec<String>, ArgumentsError> {
-    let words = env::args(&(environment, alloc)).and_then(|words| Ok(words.collect(alloc)?));
-    words.map_err(|cause| match cause.kind() {
-        io::ErrorKind::OutOfMemory => ArgumentsError::Memory,
-        _ => ArgumentsError::NotText,
-    })
 }
 
 // The message about arguments that aren't text, in the form of `clap`'s refusals.

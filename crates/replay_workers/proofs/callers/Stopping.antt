@@ -15,13 +15,6 @@ use Rattle.resolver.specs.Turns.{Turns}
 use Rattle.resolver.proofs.callers.Standing.{IsIn-standing}
 use Rattle.replay_workers.specs.Stops.{FillsArena, IsStopOf, IsAccountedFor}
 
-pub core_continues : (a b c : CoreState) → Continues a b → Continues b c → Continues a c
-core_continues a b c first second = record {
-  window = second.window ∙ first.window;
-  limit = second.limit ∙ first.limit;
-  proxies = second.proxies ∙ first.proxies;
-}
-
 -- a resolver that has taken nothing
 pub accounted_new : (r : ResolverState) → StandsOver r [] → r.core.stop ≡ None → IsAccountedFor r
 accounted_new r stands none = record {

@@ -1,4 +1,4 @@
--- Lemmas for callers: the ends of lanes later: they are still of the same lanes.
+-- Lemmas for callers: a core later, and the ends of lanes later: they are still of the same lanes.
 use Rattle.std.proofs.Common.{
   ◌≡◌,
   ℕ,
@@ -22,10 +22,19 @@ use Rattle.std.proofs.lemmas.Option.{same_Some, slice_get_within}
 use Rattle.std.proofs.lemmas.List.{length-set}
 use Rattle.lane.specs.Lane.{PortView, IntakeView, SameLane, PortContinues, IntakeContinues}
 use Rattle.resolver.specs.declared.client.Client.{Client}
+use Rattle.resolver.specs.Core.{CoreState, Continues}
 use Rattle.resolver.specs.Lanes.{Lanes, Each, LanesContinue}
 use Rattle.resolver.specs.Resolver.{AreClients}
+use Rattle.keys.proofs.callers.Lists.{some_at}
 use Rattle.resolver.proofs.Settling.{slice_get-set_same, slice_get-set_other}
-use Rattle.resolver.proofs.Unchanged.{slice_get_inside}
+
+-- what stays the same over two changes
+pub Continues-then : (first second third : CoreState) → Continues first second → Continues second third → Continues first third
+Continues-then first second third g h = record {
+  window = h.window ∙ g.window;
+  limit = h.limit ∙ g.limit;
+  proxies = h.proxies ∙ g.proxies;
+}
 
 same_lane_later : {T : Type 0} (p q : PortView T) (t u : IntakeView T) → SameLane p t → PortContinues p q
     → IntakeContinues t u → SameLane q u
@@ -113,10 +122,10 @@ AreClients-later lanes later clients now are continued clients_continue = record
         → (l : Lanes) × (slice_get lanes proxy ≡ Some l)
     before proxy m at =
         let inside = slice_get_within later proxy m at in
-        slice_get_inside lanes proxy (omega (arith, inside, continued.count))
+        some_at lanes proxy (omega (arith, inside, continued.count))
 
     client_before : (proxy : ℕ) (d : Client) → slice_get now proxy ≡ Some d
         → (c : Client) × (slice_get clients proxy ≡ Some c)
     client_before proxy d at =
         let inside = slice_get_within now proxy d at in
-        slice_get_inside clients proxy (omega (arith, inside, clients_continue.count))
+        some_at clients proxy (omega (arith, inside, clients_continue.count))

@@ -68,9 +68,9 @@ pub fn open_sharded<F: Files>(
         return Err(ShardingError::Irregular(proxy));
     }
     let points = points_of(alloc, files, line)?;
-    let shards = points.shard_count();
-    let gatekeepers = waiting_rooms(alloc, shards, line.files.len())?;
-    let readers = open_each(alloc, files, &line.files, shards)?;
+    let shard_count = points.shard_count();
+    let gatekeepers = waiting_rooms(alloc, shard_count, line.files.len())?;
+    let readers = open_each(alloc, files, &line.files, shard_count)?;
     Ok(ShardedReaders {
         readers,
         points,
@@ -109,19 +109,19 @@ fn open_each<F: Files>(
     alloc: Global,
     files: &F,
     names: &[&str],
-    shards: usize,
+    shard_count: usize,
 ) -> Result<Vec<Vec<F::Reader>>, ShardingError>
-    ensures count { IfOk result (λ each. vec_len each ≡ shards) }
+    ensures count { IfOk result (λ each. vec_len each ≡ shard_count) }
     ensures files { IfOk result (λ each. All (ReadTheFiles F.Reader.remaining
         (contents_each (F.contents files.now) (map (λ name. name.now) names.now)))
         (map vec_items each.items)) }
-    ensures opened { 1 ≤ shards → OnOk result (All (F.has_opened files.now)
+    ensures opened { 1 ≤ shard_count → OnOk result (All (F.has_opened files.now)
         (map (λ name. name.now) names.now)) }
     ensures why { IfErr result (IsWhyNotSharded (F.is_regular files.now) (F.is_irregular files.now)
         (F.has_opened files.now) (F.cannot_open files.now) (map (λ name. name.now) names.now)) }
 {
-    let mut each = Vec::with_capacity(alloc, shards)?;
-    for _ in 0..shards {
+    let mut each = Vec::with_capacity(alloc, shard_count)?;
+    for _ in 0..shard_count {
         each.push_reserved(open_all(alloc, files, names, Extent::Complete)?);
     }
     Ok(each)
@@ -150,14 +150,14 @@ fn open_all<F: Files>(
 // Makes the room of each shard, with a place for each proxy.
 fn waiting_rooms(
     alloc: Global,
-    shards: usize,
+    shard_count: usize,
     proxies: usize,
 ) -> Result<Vec<Arc<WaitingRoom, Global>>, AllocError>
-    ensures each { IfOk result (λ rooms. vec_len rooms ≡ shards) }
+    ensures each { IfOk result (λ rooms. vec_len rooms ≡ shard_count) }
     ensures places { IfOk result (λ rooms. All (λ room. length room.value ≡ proxies) rooms.items) }
 {
-    let mut rooms = Vec::with_capacity(alloc, shards)?;
-    for _ in 0..shards {
+    let mut rooms = Vec::with_capacity(alloc, shard_count)?;
+    for _ in 0..shard_count {
         rooms.push_reserved(Arc::new(alloc, WaitingRoom::new(alloc, proxies)?)?);
     }
     Ok(rooms)

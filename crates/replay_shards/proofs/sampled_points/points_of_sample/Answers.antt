@@ -17,6 +17,6 @@ returns-in-Ok g c =
       balanced = (
         seen,
         c.in_ok-samples.ensures.samples,
-        subst (λ (l : List Batch). IsBalanced c.args.shards (begins_of l) c.in-Ok.points) same c.in-Ok.ensures.balanced,
+        subst (λ (l : List Batch). IsBalanced c.args.shard_count (begins_of l) c.in-Ok.points) same c.in-Ok.ensures.balanced,
       );
     }

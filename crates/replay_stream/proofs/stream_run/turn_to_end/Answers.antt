@@ -2,9 +2,10 @@ use Rattle.std.specs.Prelude.{negsuc}
 use Rattle.std.proofs.Common.{◌∙◌, rules}
 use Rattle.replay_stream.specs.Proxies.{outlets_of}
 use Rattle.replay_stream.specs.Sinks.{state_by}
+use Rattle.resolver.proofs.callers.Later.{Continues-then}
 use Rattle.replay_stream.proofs.Outlets.{streams_then}
 use Rattle.replay_workers.proofs.callers.SameLanes.{lanes_continue}
-use Rattle.replay_workers.proofs.callers.Stopping.{accounted_turn, core_continues}
+use Rattle.replay_workers.proofs.callers.Stopping.{accounted_turn}
 use Rattle.replay_stream.proofs.stream_run.turn_to_end.Goals as goal
 
 pub loop-preserved-in-Ok-Took : goal.loop-preserved-in-Ok-Took
@@ -15,7 +16,7 @@ loop-preserved-in-Ok-Took g c =
       resolving = λ first. c.turn.ensures.turns.resolving (negsuc 0) (c.loop.invariant.resolving first);
       accounted = λ first.
           accounted_turn c.loop.resolver c.turn.new.self c.turn.result c.turn.ensures.turns (c.loop.invariant.accounted first);
-      continues = core_continues _ c.loop.resolver.core _ c.loop.invariant.continues c.turn.ensures.turns.steps.continues;
+      continues = Continues-then _ c.loop.resolver.core _ c.loop.invariant.continues c.turn.ensures.turns.steps.continues;
       lanes = lanes_continue _ c.loop.resolver.lanes _ c.loop.invariant.lanes c.turn.ensures.turns.steps.lanes;
       style = round.style ∙ c.loop.invariant.style;
       numbered = round.numbered;
@@ -34,7 +35,7 @@ loop-preserved-in-Ok-Idle g c =
       resolving = λ first. c.turn.ensures.turns.resolving (negsuc 0) (c.loop.invariant.resolving first);
       accounted = λ first.
           accounted_turn c.loop.resolver c.turn.new.self c.turn.result c.turn.ensures.turns (c.loop.invariant.accounted first);
-      continues = core_continues _ c.loop.resolver.core _ c.loop.invariant.continues c.turn.ensures.turns.steps.continues;
+      continues = Continues-then _ c.loop.resolver.core _ c.loop.invariant.continues c.turn.ensures.turns.steps.continues;
       lanes = lanes_continue _ c.loop.resolver.lanes _ c.loop.invariant.lanes c.turn.ensures.turns.steps.lanes;
       style = round.style ∙ c.loop.invariant.style;
       numbered = round.numbered;
@@ -53,7 +54,7 @@ loop-preserved-in-Ok-Done g c =
       resolving = λ first. c.turn.ensures.turns.resolving (negsuc 0) (c.loop.invariant.resolving first);
       accounted = λ first.
           accounted_turn c.loop.resolver c.turn.new.self c.turn.result c.turn.ensures.turns (c.loop.invariant.accounted first);
-      continues = core_continues _ c.loop.resolver.core _ c.loop.invariant.continues c.turn.ensures.turns.steps.continues;
+      continues = Continues-then _ c.loop.resolver.core _ c.loop.invariant.continues c.turn.ensures.turns.steps.continues;
       lanes = lanes_continue _ c.loop.resolver.lanes _ c.loop.invariant.lanes c.turn.ensures.turns.steps.lanes;
       style = round.style ∙ c.loop.invariant.style;
       numbered = round.numbered;
@@ -72,7 +73,7 @@ loop-preserved g c =
       resolving = λ first. c.turn.ensures.turns.resolving (negsuc 0) (c.loop.invariant.resolving first);
       accounted = λ first.
           accounted_turn c.loop.resolver c.turn.new.self c.turn.result c.turn.ensures.turns (c.loop.invariant.accounted first);
-      continues = core_continues _ c.loop.resolver.core _ c.loop.invariant.continues c.turn.ensures.turns.steps.continues;
+      continues = Continues-then _ c.loop.resolver.core _ c.loop.invariant.continues c.turn.ensures.turns.steps.continues;
       lanes = lanes_continue _ c.loop.resolver.lanes _ c.loop.invariant.lanes c.turn.ensures.turns.steps.lanes;
       style = round.style ∙ c.loop.invariant.style;
       numbered = round.numbered;

@@ -1,11 +1,11 @@
 use Rattle.std.specs.Prelude.{negsuc}
 use Rattle.std.proofs.Common.{refl, subst, sym, ◌∙◌}
 use Rattle.replay_summary.specs.declared.occupancy.Occupancy.{Occupancy}
-use Rattle.resolver.proofs.callers.Later.{lanes_same}
+use Rattle.resolver.proofs.callers.Later.{lanes_same, Continues-then}
 use Rattle.replay_workers.specs.Occupied.{IsMeasured}
 use Rattle.replay_workers.proofs.Occupying.{measured_new}
 use Rattle.replay_workers.proofs.callers.SameLanes.{lanes_continue}
-use Rattle.replay_workers.proofs.callers.Stopping.{accounted_turn, core_continues}
+use Rattle.replay_workers.proofs.callers.Stopping.{accounted_turn}
 use Rattle.replay_workers.proofs.workers_run.turn_to_end.Goals as goal
 
 pub loop-init : goal.loop-init
@@ -32,7 +32,7 @@ loop-preserved-in-Ok-Took g c =
           accounted_turn c.loop.resolver c.turn_and_note.new.resolver c.turn_and_note.result turns (c.loop.invariant.accounted first);
       measured = λ stands none first. c.turn_and_note.ensures.measured (c.loop.invariant.measured stands none first);
       setting = c.turn_and_note.ensures.setting ∙ c.loop.invariant.setting;
-      continues = core_continues _ c.loop.resolver.core _ c.loop.invariant.continues turns.steps.continues;
+      continues = Continues-then _ c.loop.resolver.core _ c.loop.invariant.continues turns.steps.continues;
       lanes = lanes_continue _ c.loop.resolver.lanes _ c.loop.invariant.lanes turns.steps.lanes;
     }
 
@@ -45,7 +45,7 @@ loop-preserved-in-Ok-Idle g c =
           accounted_turn c.loop.resolver c.turn_and_note.new.resolver c.turn_and_note.result turns (c.loop.invariant.accounted first);
       measured = λ stands none first. c.turn_and_note.ensures.measured (c.loop.invariant.measured stands none first);
       setting = c.turn_and_note.ensures.setting ∙ c.loop.invariant.setting;
-      continues = core_continues _ c.loop.resolver.core _ c.loop.invariant.continues turns.steps.continues;
+      continues = Continues-then _ c.loop.resolver.core _ c.loop.invariant.continues turns.steps.continues;
       lanes = lanes_continue _ c.loop.resolver.lanes _ c.loop.invariant.lanes turns.steps.lanes;
     }
 
@@ -58,7 +58,7 @@ loop-preserved g c =
           accounted_turn c.loop.resolver c.turn_and_note.new.resolver c.turn_and_note.result turns (c.loop.invariant.accounted first);
       measured = λ stands none first. c.turn_and_note.ensures.measured (c.loop.invariant.measured stands none first);
       setting = c.turn_and_note.ensures.setting ∙ c.loop.invariant.setting;
-      continues = core_continues _ c.loop.resolver.core _ c.loop.invariant.continues turns.steps.continues;
+      continues = Continues-then _ c.loop.resolver.core _ c.loop.invariant.continues turns.steps.continues;
       lanes = lanes_continue _ c.loop.resolver.lanes _ c.loop.invariant.lanes turns.steps.lanes;
     }
 

@@ -18,7 +18,7 @@ pub returns-clause-balanced : goal.returns-clause-balanced
 returns-clause-balanced c =
     let sample = map (λ (batch : Bor Batch). batch.now) c.args.sample.now in
     let begins = c.in_ok-begins.begins.items in
-    let shards = c.args.shards in
+    let shards = c.args.shard_count in
     let points = c.in_ok-points.points.items in
     subst (λ (all : List (List ℕ)). IsBalanced shards (begins_of sample) all) (sym c.new.ensures.points)
     (balanced_permuted shards (begins_of sample) (keys_of begins) points c.in_ok-begins.ensures.same

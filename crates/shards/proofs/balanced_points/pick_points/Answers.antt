@@ -12,7 +12,7 @@ use Rattle.shards.proofs.balanced_points.pick_points.Goals as goal
 
 pub loop-done-init : goal.loop-done-init
 loop-done-init c =
-    let n = c.args.shards in
+    let n = c.args.shard_count in
     let begins = keys_of c.args.begins.now in
     let rest = keys_of c.keys_after-rest.result.now in
     let all : n ≡ n - 0 = omega arith in
@@ -30,7 +30,7 @@ pub copied-requires : goal.copied-requires
 copied-requires c =
     let begins = keys_of c.args.begins.now in
     let rest = c.loop-done.rest.now in
-    let part = length rest / (c.args.shards - c.loop-done.done) in
+    let part = length rest / (c.args.shard_count - c.loop-done.done) in
     let at = key_at rest part none c.if-part-rest.true in
     record {
       short = All-contains IsShort begins (get_or rest part none).now
@@ -50,7 +50,7 @@ joined n left begins old new before after same_points same_rest picked =
 
 pub loop-done-preserved : goal.loop-done-preserved
 loop-done-preserved c =
-    let n = c.args.shards in
+    let n = c.args.shard_count in
     let left = n - (c.loop-done.done + 1) in
     let begins = keys_of c.args.begins.now in
     let points = c.loop-done.points.items in
@@ -90,7 +90,7 @@ loop-done-preserved c =
 
 pub returns-clause-balanced : goal.returns-clause-balanced
 returns-clause-balanced c =
-    let n = c.args.shards in
+    let n = c.args.shard_count in
     let one : n - c.loop-done.done ≡ 1 = omega arith in
     balanced_when_done n _ _ (keys_of c.loop-done.rest.now)
     (subst (λ (m : ℕ). ArePicked n m (keys_of c.args.begins.now) c.loop-done.points.items (keys_of c.loop-done.rest.now)) one

@@ -6,6 +6,6 @@ use Rattle.shards.proofs.balanced_points.pick_points.Given as goal
 
 abbrev pub invariant-loop-done : goal.invariant-loop-done
 invariant-loop-done l = record {
-  picked : ArePicked l.shards (l.shards - l.done) (keys_of l.begins) l.points.items (keys_of l.rest);
+  picked : ArePicked l.shard_count (l.shard_count - l.done) (keys_of l.begins) l.points.items (keys_of l.rest);
   sorted : IsSorted (λ (a b : Bor (List ℕ)). slice_cmp nat_cmp a.now b.now) l.rest;
 }

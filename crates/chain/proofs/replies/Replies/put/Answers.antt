@@ -5,7 +5,8 @@ use Rattle.std.specs.FinMap as map
 use Rattle.std.specs.Ordering.{int_eq}
 use Rattle.std.proofs.lemmas.Int.{to_z-of_z}
 use Rattle.chain.specs.Replies.{key_cmp}
-use Rattle.chain.proofs.KeptKeys.{at_version, get-map_of, is_at-pair, map_of-put, IsFiled-put}
+use Rattle.keyspace.proofs.callers.ProxyVersions.{is_at-pair}
+use Rattle.chain.proofs.KeptKeys.{at_version, get-map_of, map_of-put, IsFiled-put}
 use Rattle.chain.proofs.replies.Replies.put.Goals as goal
 
 updated : (c : goal.Joined-insert-2) (q : ℕ × ℤ)

@@ -18,7 +18,7 @@ use Rattle.keys.proofs.gap_runs.begin_numbers.number_begins.Goals as goal
 counted : (g : given.Over) (c : Joined-place-eq0 g)
     → IsCounted (begins_of (g.L.RangeList.ranges c.args.ranges.now) (take c.loop-place.place c.args.sorted.now))
     (begin_at (g.L.RangeList.ranges c.args.ranges.now) (get_or c.args.sorted.now c.loop-place.place no_headed).index)
-    c.loop-place.begins c.if-place-eq0.begins
+    c.loop-place.begin_count c.if-place-eq0.begin_count
 counted g c =
     let ranges = g.L.RangeList.ranges c.args.ranges.now in
     let all = c.args.sorted.now in
@@ -35,12 +35,12 @@ counted g c =
                 (v.have_same_begin.ensures.same.1 ((last_before ranges all i no_headed key v.if-place-eq0.false
                 c.loop-place-test.true).0 last))
           ] in
-          inr (differs, w.begins-is)
+          inr (differs, w.begin_count-is)
       | else-place-eq0+else-not-have_same_begin w ↦
           inl (
             (last_before ranges all i no_headed key w.if-place-eq0.false c.loop-place-test.true).1
                 (w.have_same_begin.ensures.same.0 w.if-not-have_same_begin.false),
-            w.begins-is,
+            w.begin_count-is,
           )
     ]
 
@@ -63,7 +63,7 @@ loop-place-preserved g c =
     record {
       as_many = length-set c.loop-place.runs (get_or all i no_headed).index _ ∙ c.loop-place.invariant.as_many;
       few = counted_few _ _ _ _ i c.loop-place.invariant.few step;
-      numbered = numbered_more ranges all i old.0 c.loop-place.begins c.if-place-eq0.begins c.loop-place.runs
+      numbered = numbered_more ranges all i old.0 c.loop-place.begin_count c.if-place-eq0.begin_count c.loop-place.runs
           c.loop-place-test.true c.requires.sorted old.1 step within;
       others = others_more all i c.args.runs.now c.loop-place.runs _ c.loop-place-test.true c.loop-place.invariant.others;
     }
@@ -74,5 +74,5 @@ returns-clause-numbered g c =
     let entire = take_all c.loop-place.place c.args.sorted.now c.loop-place-test.false in (
       old.0,
       numbered_all _ _ _ _ _ (subst (λ hs. AreNumberedSoFar (g.L.RangeList.ranges c.args.ranges.now) hs old.0
-          c.loop-place.begins c.loop-place.runs) entire old.1),
+          c.loop-place.begin_count c.loop-place.runs) entire old.1),
     )

@@ -35,7 +35,7 @@ loop-place-preserved g c =
     c.count_below.ensures.below)
     (subst (λ (e : List ℕ). All (λ h. IsAtMost e (begin_at ranges h.index)) (drop n part)) c.end_in-end.ensures.end
     c.count_below.ensures.following) in
-    let reached : (keys : List (List ℕ)) → AreNumbered ranges all keys c.args.begins c.args.runs.now
+    let reached : (keys : List (List ℕ)) → AreNumbered ranges all keys c.args.begin_count c.args.runs.now
     → c.match-get.reached ≡ rank keys (end_at ranges d.index) =
     λ keys are.
     elim c.match-get.branch [
@@ -104,7 +104,7 @@ pub loop-place-init : goal.loop-place-init
 loop-place-init g c = record {
   as_many = refl;
   reached = λ keys are.
-      none_reached (g.L.RangeList.ranges c.args.ranges.now) c.args.sorted.now keys c.args.begins c.args.runs.now are;
+      none_reached (g.L.RangeList.ranges c.args.ranges.now) c.args.sorted.now keys c.args.begin_count c.args.runs.now are;
   others = λ index none. refl;
 }
 

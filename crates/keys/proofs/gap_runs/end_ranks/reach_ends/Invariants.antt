@@ -8,7 +8,7 @@ abbrev pub invariant-loop-place : goal.invariant-loop-place
 invariant-loop-place g l = record {
   as_many : length l.runs ≡ length l.fn.runs;
   reached : (keys : List (List ℕ))
-      → AreNumbered (g.L.RangeList.ranges l.ranges) l.sorted keys l.begins l.fn.runs
+      → AreNumbered (g.L.RangeList.ranges l.ranges) l.sorted keys l.begin_count l.fn.runs
       → AreReached (g.L.RangeList.ranges l.ranges) keys (indices_of l.sorted) (indices_of (take l.place l.sorted)) l.runs;
   others : OthersStay l.sorted l.fn.runs l.runs;
 }

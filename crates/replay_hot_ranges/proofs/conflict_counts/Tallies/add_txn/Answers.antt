@@ -36,8 +36,8 @@ returns-in_ok-begin-in-Conflict c = record {
       let reads = put t txns at reads_are (c.in_ok-begin-in-Conflict.ensures.begun txns before) in
       let tallies = c.add_reads.new.self in
       let entire : AreTallies (txns ++ conflicts ∷ []) tallies = (
-        ended read_side txns conflicts tallies.txns tallies.reads reads.0,
-        ended written_side txns conflicts tallies.txns tallies.writes reads.1,
+        ended read_side txns conflicts tallies.txn_count tallies.reads reads.0,
+        ended written_side txns conflicts tallies.txn_count tallies.writes reads.1,
       ) in
       subst (λ (all : List (List InConflict)). AreTallies all tallies)
       (sym (ap (λ (v : Verdict). txns ++ rejected_by v conflicts) c.in-Conflict.is)) entire)

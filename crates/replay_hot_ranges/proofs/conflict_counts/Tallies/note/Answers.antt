@@ -7,7 +7,7 @@ use Rattle.replay_hot_ranges.proofs.conflict_counts.Tallies.note.Goals as goal
 pub returns : goal.returns
 returns c =
     let conflict : InConflict = record { read = c.args.read.now; written = c.args.written.now } in
-    let n = c.args.self.now.txns in
+    let n = c.args.self.now.txn_count in
     record {
       noted = λ txns conflicts before. (
         noted read_side txns conflicts n c.args.self.now.reads c.note.new.self c.args.read.now conflict refl

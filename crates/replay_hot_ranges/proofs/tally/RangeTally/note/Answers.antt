@@ -17,7 +17,7 @@ returns c =
     let count = c.in_ok-count.count in
     let key : Ends = (c.in_ok-range.range.begin, c.in_ok-range.range.end) in
     let copied : c.copied.result ≡ tree.get ends_cmp old.counts key = c.copied.ensures ∙ c.get.ensures.value in
-    let conflicts_are : count.conflicts ≡ cond (is_last old txn key) (conflicts_at old key) (conflicts_at old key + 1) =
+    let conflicts_are : count.conflict_count ≡ cond (is_last old txn key) (conflicts_at old key) (conflicts_at old key + 1) =
     c.in_ok-count.ensures.conflicts
     ∙ ap (λ (o : Option Count). cond (is_last_in o txn) (conflicts_in o) (conflicts_in o + 1)) copied in
     record {

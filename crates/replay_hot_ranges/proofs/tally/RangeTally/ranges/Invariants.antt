@@ -7,4 +7,4 @@ use Rattle.replay_hot_ranges.proofs.tally.RangeTally.ranges.Given as goal
 
 -- the ranges so far, and those that are left
 abbrev pub invariant-loop-key : goal.invariant-loop-key
-invariant-loop-key l = map row_of l.ranges.items ++ map (λ (e : Ends × Count). (e.0, e.1.conflicts)) l.key-iterator ≡ rows_of l.self
+invariant-loop-key l = map row_of l.ranges.items ++ map (λ (e : Ends × Count). (e.0, e.1.conflict_count)) l.key-iterator ≡ rows_of l.self

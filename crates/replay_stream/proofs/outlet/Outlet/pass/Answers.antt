@@ -3,7 +3,7 @@ use Rattle.keyspace.specs.declared.answer.Answer.{Answer}
 use Rattle.lane.specs.Lane.{IntakeContinues, IntakeView}
 use Rattle.replay_stream.specs.declared.outlet.Outlet.{Outlet}
 use Rattle.replay_stream.specs.Sinks.{state_by}
-use Rattle.replay_stream.proofs.Outlets.{intake_same}
+use Rattle.resolver.proofs.callers.Later.{intake_same}
 use Rattle.replay_stream.proofs.Passing.{passes_after, passes_nothing}
 use Rattle.replay_stream.proofs.outlet.Outlet.pass.Goals as goal
 

@@ -6,21 +6,10 @@ use Rattle.keyspace.specs.Laws.{Leaves}
 use Rattle.keyspace.specs.Run.{State, admit, leave, leave_all}
 use Rattle.limits.specs.declared.stop.Stop.TheVariants.{GateFull, ArenaFull}
 use Rattle.resolver.specs.Core.{CoreState, Given, core_of, IsIn, Continues, StopsIn}
+use Rattle.resolver.proofs.callers.Later.{Continues-then}
 use Rattle.resolver.proofs.Growing.{Grows, grows_leave, grows_leave_all, MadeBetween-grown}
 use Rattle.resolver.proofs.Stops.{OnErr-always, same_stop}
-use Rattle.resolver.proofs.Releasing.{
-  LeavesNext,
-  leaver_known,
-  IsCore-left,
-  IsIn-left,
-  Continues-then,
-  Reaches,
-  IsIn-reached,
-  seen_reached,
-  seen_refused,
-  Reaches-left,
-  StopsAsTheyLeave-left,
-}
+use Rattle.resolver.proofs.Releasing.{LeavesNext, leaver_known, IsCore-left, IsIn-left, Reaches, IsIn-reached, seen_reached, seen_refused, Reaches-left, StopsAsTheyLeave-left}
 use Rattle.resolver.proofs.resolver_core.Core.release.Given.{Over}
 use Rattle.resolver.proofs.resolver_core.Core.release.Goals as goal
 use Rattle.resolver.proofs.resolver_core.Core.release.Goals.{In-Some, In_default}

@@ -8,11 +8,11 @@ use Rattle.chain.specs.declared.gate.TheConstants.{MAX_HELD}
 use Rattle.limits.specs.declared.stop.Stop.TheVariants.{GateFull, ArenaFull}
 use Rattle.resolver.specs.Core.{CoreState, Given, IsIn, Continues, MadeBetween, StopsAsTheyLeave}
 use Rattle.resolver.specs.Observed.{HasSeenBetween}
+use Rattle.resolver.proofs.callers.Later.{Continues-then}
 use Rattle.resolver.proofs.Admitting.{admit-ahead, less_from_test, at_most_from_test}
 use Rattle.resolver.proofs.Stops.{OnErr-always, same_stop}
 use Rattle.resolver.proofs.Growing.{grows_admit, MadeBetween-step, MadeBetween-earlier}
 use Rattle.resolver.proofs.Observing.{seen_none, seen_earlier}
-use Rattle.resolver.proofs.Releasing.{Continues-then}
 use Rattle.resolver.proofs.resolver_core.Core.take.Given.{Over}
 use Rattle.resolver.proofs.resolver_core.Core.take.Goals as goal
 use Rattle.resolver.proofs.resolver_core.Core.take.Goals.{

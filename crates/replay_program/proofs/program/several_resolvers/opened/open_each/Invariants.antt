@@ -13,5 +13,5 @@ invariant-loop g l = record {
       (map vec_items l.each.items);
   opened : 1 ≤ l.counter → All (g.F.Files.has_opened l.fn.files) (texts l.fn.names);
   count : vec_len l.each ≡ l.counter;
-  room : l.fn.shards ≤ vec_capacity l.each;
+  room : l.fn.shard_count ≤ vec_capacity l.each;
 }

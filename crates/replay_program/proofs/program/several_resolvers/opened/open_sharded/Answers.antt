@@ -27,7 +27,7 @@ returns-in_err-readers-clause-why g c =
 pub invariant_of-result : goal.invariant_of-result
 invariant_of-result g c =
     let asks = c.requires.asked.1 in
-    let shards = c.shard_count-shards.ensures.count in
+    let shards = c.shard_count-shard_count.ensures.count in
     let files = contents_each (g.F.Files.contents c.args.files.now) (texts c.deref-2.result.now) in
     let proxies = sym c.len-2.ensures in
     record {
@@ -55,6 +55,6 @@ returns-clause-regular g c =
 
 pub returns-clause-opened : goal.returns-clause-opened
 returns-clause-opened g c =
-    let some = subst (λ (n : ℕ). 1 ≤ n) (sym c.shard_count-shards.ensures.count) (some_shard [] c.in_ok-points.points) in
+    let some = subst (λ (n : ℕ). 1 ≤ n) (sym c.shard_count-shard_count.ensures.count) (some_shard [] c.in_ok-points.points) in
     subst (λ (names : List (Bor (List ℕ))). All (g.F.Files.has_opened c.args.files.now) (texts names)) c.deref-2.ensures.value
     (c.in_ok-readers.ensures.opened some)

@@ -7,5 +7,5 @@ abbrev pub invariant-loop : goal.invariant-loop
 invariant-loop l = record {
   places : All (λ room. length room.value ≡ l.fn.proxies) l.rooms.items;
   count : vec_len l.rooms ≡ l.counter;
-  room : l.fn.shards ≤ vec_capacity l.rooms;
+  room : l.fn.shard_count ≤ vec_capacity l.rooms;
 }

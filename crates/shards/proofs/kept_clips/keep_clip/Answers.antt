@@ -6,8 +6,8 @@ use Rattle.keyspace.proofs.callers.Putting.{put_none}
 use Rattle.shards.specs.Built.{clip_fields}
 use Rattle.shards.specs.Cut.{shard_of_ends}
 use Rattle.shards.proofs.Appended.{span_put}
-use Rattle.shards.proofs.shard_tables.keep_clip.Goals.{After-bytes_at-end}
-use Rattle.shards.proofs.shard_tables.keep_clip.Goals as goal
+use Rattle.shards.proofs.kept_clips.keep_clip.Goals.{After-bytes_at-end}
+use Rattle.shards.proofs.kept_clips.keep_clip.Goals as goal
 
 -- the keys of the range are those of the span
 begin_is : (c : After-bytes_at-end) (range : Range) → range_of_span c.args.buffer.now c.args.span.now ≡ range_fields range

@@ -1,6 +1,6 @@
 use Rattle.std.proofs.Common.{◌∙◌}
-use Rattle.wire.proofs.callers.Singles.{empty_not_single, single_if_zero, single_unless_zero}
-use Rattle.wire.proofs.single.is_single_key.Goals as goal
+use Rattle.keys.proofs.SingleEnds.{empty_not_single, single_if_zero, single_unless_zero}
+use Rattle.keys.proofs.single_key.is_single_key.Goals as goal
 
 pub returns-in_default : goal.returns-in_default
 returns-in_default c = record {

@@ -5,7 +5,7 @@ use Rattle.keyspace.specs.storage.Putting.{ArePut}
 use Rattle.keyspace.specs.storage.Tables.{range_of_span}
 use Rattle.shards.specs.Built.{HasBounds, clips_of}
 use Rattle.shards.specs.Cut.{shard_of_ends}
-use Rattle.shards.proofs.shard_tables.keep_writes.Given as goal
+use Rattle.shards.proofs.kept_clips.keep_writes.Given as goal
 
 abbrev pub invariant-loop-span : goal.invariant-loop-span
 invariant-loop-span l =

@@ -7,7 +7,7 @@ use Rattle.keyspace.specs.storage.Tables.{range_of_span}
 use Rattle.shards.specs.Built.{HasBounds, clips_of}
 use Rattle.shards.specs.Clips.{goes_to}
 use Rattle.shards.specs.Cut.{shard_of_ends}
-use Rattle.shards.proofs.shard_tables.keep_reads.Given as goal
+use Rattle.shards.proofs.kept_clips.keep_reads.Given as goal
 
 abbrev pub invariant-loop-index : goal.invariant-loop-index
 invariant-loop-index l = record {

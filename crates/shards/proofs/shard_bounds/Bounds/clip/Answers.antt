@@ -1,5 +1,5 @@
 use Rattle.shards.proofs.Cutting.{cut_lies}
-use Rattle.shards.proofs.shard_tables.Bounds.clip.Goals as goal
+use Rattle.shards.proofs.shard_bounds.Bounds.clip.Goals as goal
 
 pub returns : goal.returns
 returns c = record {

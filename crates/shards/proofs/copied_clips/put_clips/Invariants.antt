@@ -4,7 +4,7 @@ use Rattle.keyspace.specs.storage.Putting.{ArePut}
 use Rattle.serial.specs.Shards.{Shard}
 use Rattle.shards.specs.Built.{HasBounds, clips_of}
 use Rattle.shards.specs.Reach.{IsReported}
-use Rattle.shards.proofs.shard_tables.put_clips.Given as goal
+use Rattle.shards.proofs.copied_clips.put_clips.Given as goal
 
 abbrev pub invariant-loop-index : goal.invariant-loop-index
 invariant-loop-index l =

@@ -9,7 +9,7 @@ use Rattle.keyspace.proofs.callers.Putting.{put_none}
 use Rattle.shards.specs.Built.{clips_of}
 use Rattle.shards.specs.Cut.{shard_of_ends}
 use Rattle.shards.proofs.Appended.{range_at, put_next}
-use Rattle.shards.proofs.shard_tables.keep_writes.Goals as goal
+use Rattle.shards.proofs.kept_clips.keep_writes.Goals as goal
 
 pub loop-span-init : goal.loop-span-init
 loop-span-init c = λ m ranges has reported. put_none c.args.buffer.now c.args.kept.now.items

@@ -12,8 +12,8 @@ use Rattle.shards.specs.Clips.{goes_to}
 use Rattle.shards.specs.Cut.{shard_of_ends}
 use Rattle.shards.proofs.Appended.{range_at, put_next}
 use Rattle.shards.proofs.IndexLists.{places_with, places_without}
-use Rattle.shards.proofs.shard_tables.keep_reads.Goals.{then-goes+in_ok-push, else-goes}
-use Rattle.shards.proofs.shard_tables.keep_reads.Goals as goal
+use Rattle.shards.proofs.kept_clips.keep_reads.Goals.{then-goes+in_ok-push, else-goes}
+use Rattle.shards.proofs.kept_clips.keep_reads.Goals as goal
 
 pub loop-index-init : goal.loop-index-init
 loop-index-init c = record {

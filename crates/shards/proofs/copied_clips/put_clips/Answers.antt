@@ -10,8 +10,8 @@ use Rattle.shards.specs.Built.{clip_fields, clips_of}
 use Rattle.shards.specs.Reach.{is_reached, IsReported}
 use Rattle.shards.specs.declared.reach.Reach.{Reach}
 use Rattle.shards.proofs.Appended.{bounds_kept, clip_put, clips_with, clips_without}
-use Rattle.shards.proofs.shard_tables.put_clips.Goals.{then-includes+in_ok-put_clip, else-includes}
-use Rattle.shards.proofs.shard_tables.put_clips.Goals as goal
+use Rattle.shards.proofs.copied_clips.put_clips.Goals.{then-includes+in_ok-put_clip, else-includes}
+use Rattle.shards.proofs.copied_clips.put_clips.Goals as goal
 
 pub loop-index-init : goal.loop-index-init
 loop-index-init c = λ shard m has reported. put_none c.args.buffer.now.items c.args.spans.now.items

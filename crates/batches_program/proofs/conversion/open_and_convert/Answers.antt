@@ -1,5 +1,5 @@
 use Rattle.batches_tasks.proofs.callers.Reporting.{reports_then}
-use Rattle.batches_program.proofs.program.do_line.Goals as goal
+use Rattle.batches_program.proofs.conversion.open_and_convert.Goals as goal
 
 pub returns-clause-reported : goal.returns-clause-reported
 returns-clause-reported g c =
