@@ -91,10 +91,10 @@ module _ {nodes : Arena Node} {least height slot : ℕ} {f t : ℕ → Bool}
   abbrev pub middle_items : List Item
   middle_items = flat_map below middle
 
-  abbrev p : Item → Bool
+  abbrev pub p : Item → Bool
   p x = f x.key
 
-  abbrev q : Item → Bool
+  abbrev pub q : Item → Bool
   q x = t x.key
 
   abbrev pub left_from_last : List Item

@@ -1,7 +1,7 @@
 -- The greatest of a version and those of items, in parts.
-use Rattle.std.proofs.Common.{◌≡◌, ℕ, ◌+◌, ◌<◌, Bool, List, [], ◌∷◌, ◌++◌, length, get_or, take, drop, filter, flat_map, map, All, Any, refl, sym, subst, ◌∙◌, inl, inr, arith, append_assoc, ℤ, ◌≤ℤ◌}
+use Rattle.std.proofs.Common.{◌≡◌, ℕ, ◌+◌, ◌<◌, Bool, List, [], ◌∷◌, ◌++◌, length, get_or, take, drop, filter, flat_map, map, All, Any, refl, sym, subst, ◌∙◌, inl, inr, arith, append_assoc, ℤ, ◌≤ℤ◌, SFits, w64, to_z, of_z}
 use Rattle.std.specs.Int.{int_max}
-use Rattle.std.proofs.lemmas.Int.{ints}
+use Rattle.std.proofs.lemmas.Int.{ints, to_z-of_z}
 use Rattle.std.proofs.lemmas.List.{take_more}
 use Rattle.std.proofs.lemmas.List.Elements.{All-append, All-drop, All-filter, All-map, All-push, All-weaker}
 use Rattle.std.proofs.lemmas.List.Quantifiers.{Any-push}
@@ -97,3 +97,11 @@ most_passed least e xs n q describes le = record {
   least_bound = omega (arith, ints);
   reached = inl refl;
 }
+
+-- The code keeps a version as it is.
+module _ {X : Type 0} {version_at : X → ℤ} {xs : List X} {least v : ℤ} where
+  pub least_kept : SFits w64 least → IsMost version_at (to_z w64 (of_z w64 least)) xs v → IsMost version_at least xs v
+  least_kept fits h = rw (to_z-of_z w64 least fits) at h
+
+  pub most_kept : SFits w64 v → IsMost version_at least xs v → IsMost version_at least xs (to_z w64 (of_z w64 v))
+  most_kept fits h = rw (to_z-of_z w64 v fits) h

@@ -140,7 +140,7 @@ module _ (old mid : Store) (new : Overwrite) (was now : List Item) (stored : Are
   front_are = (stored_partitioned old.keys was stored false start).before
 
   middle_are : boundaries_in old.keys middle ≡ inside (range_of new) (not_empty new) bs
-    middle_are = between_bounds old.keys was stored false false start end
+  middle_are = between_bounds old.keys was stored false false start end
 
   rest_are : boundaries_in old.keys rest ≡ from_on end bs
   rest_are = (stored_partitioned old.keys was stored false end).following

@@ -44,7 +44,7 @@ clears_after q below (e ∷ es) (suc i) clear next describe fails last after k p
 
 module _ (p q : ℕ → Bool) (v : ℤ) (n : (key : ℕ) → p key ≡ true → q key ≡ true) where
   -- What is told of a part is told of the whole.
-  pub answered_wider : (items front part back : List Item) (clear next : Bool) (result : Option Bool)
+  answered_wider : (items front part back : List Item) (clear next : Bool) (result : Option Bool)
       → items ≡ front ++ (part ++ back) → Clears q clear next back → Answers p q v next part result
       → Answers p q v clear items result
   answered_wider items front part back clear next result parts clears answered before after k c d =

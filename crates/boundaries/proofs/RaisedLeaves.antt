@@ -107,12 +107,12 @@ module _ {old : Store} {height lower slot i x : ℕ} (at : IsAt old.nodes height
   )
 
   changed_kept : IsChanged old new height slot (Raised leaf)
-  changed_kept = changed_above at put refl made (Raised leaf) refl (λ is. absurd (cc))
+  changed_kept = changed_above at put refl new made (Raised leaf) refl (λ is. absurd (cc))
       (λ other is. (is, (omega arith, subst (λ l. IsRaisedIn b l (suc lower) slot) (let same : leaf ≡ other = cc in same) there)))
       (record { few_less = omega arith; spare = omega arith; headed = put.headed; keeps = record { keys = refl; removed = refl } })
 
   items_kept : items_in b height slot ≡ around at (items_in b lower x)
-  items_kept = (step_rebalanced at put refl made).items_are
+  items_kept = (step_rebalanced at put refl new made).items_are
 
 module _ (old : Store) (leaf : RaisedLeaf) where
   -- the node at a slot, and the child that leads to the leaf

@@ -48,7 +48,7 @@ module _ {H : Type 0} where
       by_len (suc n) some = omega arith
 
   -- one record fewer
-  pub len_released : (a b : Arena H) (slot : ℕ) → IsLive a slot → b.records ≡ finite.remove a.records slot
+  len_released : (a b : Arena H) (slot : ℕ) → IsLive a slot → b.records ≡ finite.remove a.records slot
       → finite.len b.records + 1 ≡ finite.len a.records
   len_released a b slot live released =
       let count : finite.len b.records ≡ finite.len a.records - 1 =

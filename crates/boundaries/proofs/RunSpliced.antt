@@ -2,7 +2,7 @@
 use Rattle.std.proofs.Common.{◌≡◌, ℕ, ◌+◌, ◌-◌, ◌≤◌, List, [], ◌∷◌, ◌++◌, Option, Some, length, take, drop, refl, sym, ap, ◌∙◌, subst, arith, IfSome}
 use Rattle.std.specs.List.{All}
 use Rattle.std.proofs.lemmas.List.{length-append, length-drop, length-take-le}
-use Rattle.arena.specs.Arena.{header_at, key_at, spare_of}
+use Rattle.arena.specs.Arena.{IsLive, header_at, key_at, spare_of}
 use Rattle.boundaries.specs.declared.entry.NodeEntry.{NodeEntry}
 use Rattle.boundaries.specs.declared.node.Node.{Node}
 use Rattle.boundaries.specs.declared.node.splice.Splice.{Splice}
@@ -16,7 +16,9 @@ use Rattle.boundaries.specs.Node.{all_heads_of, entries_of, key_heads_of, keys_o
 use Rattle.boundaries.specs.Rebalancing.{CanSpliceAt, IsStored}
 use Rattle.boundaries.specs.Splice.{CanSplice, spliced}
 use Rattle.boundaries.specs.Store.{AreHeaded, KeysStay}
+use Rattle.boundaries.specs.Subtree.{entries_at}
 use Rattle.boundaries.proofs.Headed.{headed_at, headed_kept}
+use Rattle.boundaries.proofs.Placing.{entries_from_header, live_if_some}
 use Rattle.boundaries.proofs.Puts.{stays_known}
 
 -- a node is stored as it is in a store with the same nodes
@@ -50,6 +52,8 @@ module _ {old : Store} {slot : ℕ} {o : Overwrite} {run : EntryRun} (can : CanW
   can_splice_run mid nodes stay heads heads_are known beside =
       let headed = headed_stays old mid nodes stay can.sound.headed in
       let there : header_at mid.nodes slot ≡ Some leaf = ap (λ n. header_at n slot) nodes ∙ can.run_is.there in
+      let live : 1 ≤ length (entries_at old.nodes slot) = omega (arith, can.run_is.run_is.some, can.run_is.run_is.end.within,
+      ap length (entries_from_header old.nodes slot leaf can.run_is.there)) in
       let splices : CanSplice mid.keys leaf splice = record {
         ordered = rw (from, to) can.run_is.run_is.ordered;
         within = rw to can.run_is.run_is.end.within;
@@ -59,7 +63,7 @@ module _ {old : Store} {slot : ℕ} {o : Overwrite} {run : EntryRun} (can : CanW
       } in
       record {
         sound = record { keyless = subst IsKeyless (sym nodes) can.sound.keyless; headed = headed };
-        live = rw there refl;
+        live = subst (λ n. IsLive n slot) (sym nodes) (live_if_some old.nodes slot live);
         room = rw nodes can.room;
         splices = rw there splices;
       }

@@ -1,8 +1,9 @@
 -- A tree in which boundaries are stored: it can be searched and changed, and they are stored again once it was.
-use Rattle.std.proofs.Common.{◌≡◌, ◌≢◌, ℕ, ◌+◌, ◌-◌, ◌*◌, ◌<◌, ◌≤◌, ◌^◌, Bool, inl, inr, true, List, [], ◌∷◌, ◌++◌, None, Option, Some, length, map, option_map, is_some, false, refl, sym, ◌∙◌, ap, subst, arith, append-nil}
-use Rattle.std.specs.Prelude.{ℤ, nat_eq, slice_get}
+use Rattle.std.proofs.Common.{◌≡◌, ℕ, ◌+◌, ◌-◌, ◌*◌, ◌/◌, ◌<◌, ◌≤◌, ◌^◌, inl, inr, true, List, [], ◌∷◌, ◌++◌, None, Option, Some, length, map, option_map, is_some, false, refl, sym, ◌∙◌, ap, subst, arith, append-nil}
+use Rattle.std.specs.Prelude.{ℤ, nat_eq, slice_get, Result, Ok, Err, OnOk, is_ok}
 use Rattle.std.specs.List.{All, Contains, IsDistinct}
 use Rattle.std.specs.FinMap as finite
+use Rattle.std.proofs.Math.Nat.{mul-le-mul_left}
 use Rattle.std.proofs.lemmas.List.{map-append}
 use Rattle.std.proofs.lemmas.List.Elements.{All-cons, All-head, All-nil, All-weaker}
 use Rattle.arena.specs.Arena.{Arena, IsLive, key_at, record_at, spare_of, wanted_of}
@@ -13,7 +14,7 @@ use Rattle.boundaries.specs.declared.overwrite.Overwrite.{Overwrite}
 use Rattle.boundaries.specs.declared.store.Store.{Store}
 use Rattle.boundaries.specs.declared.tree.Tree.{Tree}
 use Rattle.boundaries.specs.Bound.{Keys, bytes_at, is_below, is_below_at}
-use Rattle.boundaries.specs.Boundary.{Boundary, AreBoundaries, AreInOrder}
+use Rattle.boundaries.specs.Boundary.{AreBoundaries, AreInOrder}
 use Rattle.boundaries.specs.Item.{Item, item_of}
 use Rattle.boundaries.specs.Store.{AreHeaded, IsTree}
 use Rattle.boundaries.specs.declared.boundary_list.TheConstants.{LONGEST_PATH}
@@ -21,8 +22,8 @@ use Rattle.boundaries.specs.Path.{IsPartitioned}
 use Rattle.boundaries.specs.Overwrite.{CanBeWritten, CanOverwrite, GivesEntire, GivesPart, GivesWritten, HasKeyRoom, before_start, bound_to}
 use Rattle.boundaries.specs.Position.{CanReach}
 use Rattle.boundaries.specs.Stored.{AreStored, boundaries_of, boundary_of, overwritten, version_at_end}
-use Rattle.boundaries.specs.Subtree.{entries_at, items_in, slots_in}
-use Rattle.boundaries.specs.Walk.{CanChangeTree, IsChangedTree, IsNewTree, items_of_tree}
+use Rattle.boundaries.specs.Subtree.{entries_at, slots_in}
+use Rattle.boundaries.specs.Walk.{IsChangedTree, IsNewTree, items_of_tree}
 use Rattle.boundaries.proofs.Closing.{after_empty}
 use Rattle.boundaries.proofs.FirstKeys.{first_describes, items_under, node_describes, node_items}
 use Rattle.boundaries.proofs.Inserting.{can_change, tree_put}
@@ -30,7 +31,7 @@ use Rattle.boundaries.proofs.Frames.{Agree, items_same}
 use Rattle.boundaries.proofs.KeyBytes.{known_bytes}
 use Rattle.boundaries.proofs.KnownItems.{headed_items}
 use Rattle.boundaries.proofs.Puts.{live_by_key}
-use Rattle.boundaries.proofs.Trees.{raised_stays, tree_stays}
+use Rattle.boundaries.proofs.Trees.{enough_nodes, raised_stays, tree_stays}
 use Rattle.boundaries.proofs.LeafChange.{root_some}
 use Rattle.boundaries.proofs.Overwritten.{parts, middle, part_parts, entire_boundaries, entire_few, entire_kept, entire_record, part_boundaries, part_few, part_fewer, part_kept, part_record, part_written}
 use Rattle.boundaries.proofs.Partitioning.{slot_is_below_live, stored_partitioned}
@@ -262,6 +263,31 @@ stored_with tree store room more s keys nodes none wider enough =
       raised = raised_stays a b tree.root.slot tree.root.height tree.raised nodes s.raised;
       none_removed = none;
     }
+
+-- what is told where a call went well
+pub ok_holds : {T E P : Type 0} (r : Result T E) → is_ok r ≡ true → OnOk r P → P
+ok_holds (Ok x) went h = h
+ok_holds (Err e) went h = cc
+
+module _ (tree : Tree) (store : Store) (room : ℕ) (s : AreStored tree room) (keys : store.keys.records ≡ tree.store.keys.records)
+    (nodes : store.nodes.records ≡ tree.store.nodes.records) (none : store.removed.items ≡ []) where
+  -- with no fewer spare nodes
+  pub stored_still : spare_of tree.store.nodes 0 ≤ spare_of store.nodes 0 → AreStored (record tree { store = store }) room
+  stored_still kept =
+      let more : finite.len tree.store.nodes.records + spare_of tree.store.nodes 0
+          ≤ finite.len tree.store.nodes.records + spare_of store.nodes 0 =
+      omega (arith, kept) in
+      stored_with tree store room room s keys nodes none (omega arith)
+      (omega (arith, mul-le-mul_left (HALF_FULL - 1) more, s.tree_is.reserved))
+
+  -- with nodes for more boundaries
+  pub stored_wider : (more : ℕ) → room ≤ more
+      → more / (HALF_FULL - 1) + LONGEST_PATH + 1 ≤ finite.len tree.store.nodes.records + spare_of store.nodes 0
+      → AreStored (record tree { store = store }) more
+  stored_wider more wider enough =
+      let total = finite.len tree.store.nodes.records + spare_of store.nodes 0 in
+      stored_with tree store room more s keys nodes none wider
+      (enough_nodes (HALF_FULL - 1) more total (omega arith) (omega (arith, enough)))
 
 module _ (old mid : Tree) (new : Overwrite) {room : ℕ} (s : AreStored old room) where
   -- What is removed may be released.

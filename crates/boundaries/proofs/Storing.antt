@@ -207,6 +207,6 @@ module _ {store : Store} {slot i : ℕ} {l : List NodeEntry} (d e : NodeEntry) (
           few_less = omega (arith, few_less, ap length (put_entries b (with_header b slot node) slot node refl));
           spare = omega (arith, few, changes.live, changes.spare);
           headed = headed_header (key_at between.keys) b (with_header b slot node) slot node refl headed own_headed;
-          keeps = keeps;
+          keeps = record { keys = keeps.keys; removed = keeps.removed };
         },
       )

@@ -1,5 +1,5 @@
 -- A range is written, run by run: first its boundaries are removed, and at last it is written over.
-use Rattle.std.proofs.Common.{◌≡◌, ℕ, ◌+◌, ◌≤◌, arith, [], ◌∷◌, length, None, Some, refl, sym, ap, ◌∙◌}
+use Rattle.std.proofs.Common.{◌≡◌, ℕ, ◌+◌, ◌≤◌, arith, [], ◌∷◌, length, None, Some, refl, ◌∙◌}
 use Rattle.std.specs.Prelude.{ℤ}
 use Rattle.arena.specs.Arena.{HasRoomFor, wanted_of}
 use Rattle.keys.specs.declared.range.Range.{Range}
@@ -31,19 +31,21 @@ to_write range version old new start end version_is none are = record {
   room = refl;
 }
 
-module _ {range : Range} {version : ℤ} {old now next : Stored} {new : Overwrite} (h : IsToWrite range version old now new) where
+module _ {range : Range} {version : ℤ} {old now : Stored} {new : Overwrite} (h : IsToWrite range version old now new) where
   -- There is room.
   pub keys_fit : HasRoomFor (spare_in old) (length range.begin ∷ length range.end ∷ [])
       → HasRoomFor (spare_in now) (length new.start.now ∷ length new.end.now ∷ [])
   keys_fit room size within = rw (h.start, h.end) (omega (arith, room size within, h.spare size))
 
+module _ {range : Range} {version : ℤ} {old now next : Stored} {new : Overwrite} (h : IsToWrite range version old now new) where
   -- some of its boundaries are removed
-  pub to_write_still : (at_end : ℤ) (later : Overwrite) → later ≡ record new { at_end = Some at_end } → IsCleared new now next at_end
+  pub to_write_still : (at_end : ℤ) (later : Overwrite) → later.start.now ≡ new.start.now → later.end.now ≡ new.end.now
+      → later.version ≡ new.version → later.at_end ≡ Some at_end → IsCleared new now next at_end
       → next.room ≡ now.room → IsToWrite range version old next later
-  to_write_still at_end later is c room = rw is record {
-    start = h.start;
-    end = h.end;
-    same = c.same ∙ h.same;
+  to_write_still at_end later start end version_is at_is c room = record {
+    start = start ∙ h.start;
+    end = end ∙ h.end;
+    same = rw (start, end, version_is, at_is) (c.same ∙ h.same);
     boundaries = c.boundaries;
     few = omega (arith, c.fewer, h.few);
     spare = λ size. omega (arith, h.spare size, c.none_used size);
@@ -56,4 +58,7 @@ module _ {range : Range} {version : ℤ} {old now next : Stored} {new : Overwrit
 
   pub is_used : IsWrittenOver new now next → (size : ℕ)
       → spare_in old size ≤ spare_in next size + wanted_of (length range.begin ∷ length range.end ∷ []) size
-  is_used w size = rw (h.start, h.end) at (omega (arith, h.spare size, w.used_slots size))
+  is_used w size =
+      let used : spare_in old size ≤ spare_in next size + wanted_of (length new.start.now ∷ length new.end.now ∷ []) size =
+      omega (arith, h.spare size, w.used_slots size) in
+      rw (h.start, h.end) at used

@@ -1,8 +1,8 @@
 -- The items of a leaf of which a run is written over, and what tells whether the run is ended.
-use Rattle.std.proofs.Common.{◌≡◌, ◌≢◌, ◌⊎◌, inl, inr, ℕ, ℤ, ◌-◌, ◌<◌, ◌≤◌, Bool, true, false, not, List, [], ◌∷◌, ◌++◌, Option}
+use Rattle.std.proofs.Common.{◌≡◌, ◌≢◌, ◌⊎◌, inl, inr, ℕ, ℤ, ◌<◌, ◌≤◌, Bool, true, false, not, List, [], ◌∷◌, ◌++◌, Option}
 use Rattle.std.proofs.Common.{Some, None, length, get_or, slice_get, take, drop, filter, map, All, Any, refl, sym}
-use Rattle.std.proofs.Common.{◌∙◌, ap, arith, is_some, length-append}
-use Rattle.std.proofs.lemmas.List.{same_from_push, append-nil, length-map, length-take-le, take-append-drop, drop_at, drop_more, drop_all}
+use Rattle.std.proofs.Common.{◌∙◌, ap, arith, is_some}
+use Rattle.std.proofs.lemmas.List.{length-map, length-take-le, take-append-drop, drop_at, drop_more, drop_all}
 use Rattle.std.proofs.lemmas.List.Elements.{All-nil, All-cons, All-head, All-append, All-filter, All-weaker, Contains-get_or, filter-append, filter_passes}
 use Rattle.std.proofs.lemmas.Option.{slice_get_cases}
 use Rattle.keys.proofs.callers.SomeElement.{Any-first, Any-right}
@@ -10,7 +10,7 @@ use Rattle.boundaries.specs.declared.entry.NodeEntry.{NodeEntry}
 use Rattle.boundaries.specs.Item.{Item, item_of}
 use Rattle.boundaries.specs.Overwrite.{IsOverwritten, IsPartOfPartitioned, first_is_below}
 use Rattle.boundaries.specs.Path.{IsPartitioned, items_below, items_not_below, between, first_key}
-use Rattle.boundaries.specs.Items.{IsLast, ended_by}
+use Rattle.boundaries.specs.Items.{ended_by}
 use Rattle.boundaries.specs.Walk.{IsRaised}
 use Rattle.boundaries.proofs.callers.Partitions.{All-back, none_fail, IsPartitioned-parts}
 use Rattle.boundaries.proofs.Inserting.{ended_some}

@@ -117,6 +117,6 @@ pub record IsWrittenInLeaf (old new : Store) (leaf : RaisedLeaf) (o : Overwrite)
   pub keys : KeysStay old.keys new.keys
 
 -- It was written over, or nothing was changed.
-pub WritesInLeaf : Store → Store → RaisedLeaf → Overwrite → Bool → Type 0
+abbrev pub WritesInLeaf : Store → Store → RaisedLeaf → Overwrite → Bool → Type 0
 WritesInLeaf old new leaf o true = IsWrittenInLeaf old new leaf o
 WritesInLeaf old new leaf o false = new ≡ old

@@ -132,4 +132,4 @@ written_kept new (Some at_end) old between store next was now keeps given = reco
 -- A tree of which a run of items may be written over, and of which the leaf of the last write is right.
 pub record CanOverwrite (tree : Tree) (new : Overwrite) : Type 0 where
   pub can_change : CanChangeTree (bound_to new) (CanBeWritten new) tree
-  pub raised : IsRaisedInTree tree.store.nodes tree.root.height tree.root.slot tree.raised
+  pub raised : IsRaisedInTree tree.store.nodes tree.root.slot tree.root.height tree.raised

@@ -50,7 +50,7 @@ pub record AreStored (tree : Tree) (room : ℕ) : Type 0 where
   pub counted : finite.len tree.store.keys.records ≡ length (items_of_tree tree)
   pub headed : AreHeaded tree.store
   pub tree_is : IsTree tree.store.nodes tree.root.slot tree.root.height (length (items_of_tree tree)) room
-  pub raised : IsRaisedInTree tree.store.nodes tree.root.height tree.root.slot tree.raised
+  pub raised : IsRaisedInTree tree.store.nodes tree.root.slot tree.root.height tree.raised
   pub none_removed : tree.store.removed.items ≡ []
 
 -- the version at the end of what is written

@@ -186,7 +186,7 @@ impl Boundaries {
     {
         let mut new = Overwrite::of(range, version);
         while let Some(at_end) = self.overwrite(&new) {
-            new.at_end = Some(at_end);
+            new = new.with_end(at_end);
         }
     }
 

@@ -23,7 +23,7 @@ pub struct Overwrite<'a> {
 }
 
 impl<'a> Overwrite<'a> {
-    ghost use Rattle.std.specs.Prelude.{◌≡◌, None};
+    ghost use Rattle.std.specs.Prelude.{◌≡◌, None, Some};
     ghost use Rattle.keys.specs.Range.{IsEmpty};
     ghost use Rattle.boundaries.specs.Overwrite.{bound_from, bound_past, bound_to};
 
@@ -47,6 +47,22 @@ impl<'a> Overwrite<'a> {
             common_prefix_len,
             version,
             at_end: None,
+        }
+    }
+
+    /// Returns the same with this version at the end.
+    pub fn with_end(self, at_end: i64) -> Self
+        ensures start { result.start.now ≡ self.entry.start.now }
+        ensures end { result.end.now ≡ self.entry.end.now }
+        ensures version { result.version ≡ self.entry.version }
+        ensures at_end { result.at_end ≡ Some at_end }
+    {
+        Overwrite {
+            start: self.start,
+            end: self.end,
+            common_prefix_len: self.common_prefix_len,
+            version: self.version,
+            at_end: Some(at_end),
         }
     }
 

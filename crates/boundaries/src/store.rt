@@ -69,10 +69,23 @@ impl Store {
             ≡ finite.len self.old.keys.records }
         ensures spare { (size : ℕ) → spare_of self.old.keys size ≤ spare_of self.new.keys size }
     {
-        for key in self.removed.as_slice() {
-            self.keys.release(*key);
-        }
+        release(&mut self.keys, self.removed.as_slice());
         self.removed.clear();
+    }
+}
+
+// Releases keys.
+fn release(keys: &mut Keys, slots: &[Slot])
+    requires live { All (IsLive keys.old) slots.now }
+    requires distinct { IsDistinct nat_eq slots.now }
+    ensures others { (slot : ℕ) → ¬ Contains slots.now slot
+        → record_at keys.new slot ≡ record_at keys.old slot }
+    ensures counted { finite.len keys.new.records + length slots.now
+        ≡ finite.len keys.old.records }
+    ensures spare { (size : ℕ) → spare_of keys.old size ≤ spare_of keys.new size }
+{
+    for slot in slots {
+        keys.release(*slot);
     }
 }
 

@@ -3,7 +3,6 @@ use Rattle.std.proofs.Common.{◌≡◌, ℕ, ◌≤◌, List, [], length, refl,
 use Rattle.std.specs.Prelude.{ℤ, Option}
 use Rattle.stepmap.specs.Filter.{FilterState}
 use Rattle.stepmap.specs.Boundary.{Boundary, AreBoundaries}
-use Rattle.stepmap.specs.StepMap.{Steps}
 use Rattle.boundaries.specs.Stored.{Stored}
 use Rattle.stepmap.specs.Kept.{steps_of, IsKept}
 use Rattle.stepmap.proofs.FilterBounds.{determines_equal}

@@ -1,12 +1,9 @@
 -- Whether room can be made with a later edge: what is counted says it.
-use Rattle.std.proofs.Common.{◌≡◌, ℕ, ◌+◌, ◌*◌, ◌≤◌, ◌<◌, Bool, true, false, List, [], ◌∷◌, length, refl, sym, ◌∙◌, inl, inr, arith}
-use Rattle.std.specs.Prelude.{ℤ, ◌≤ℤ◌, ◌↔◌, int_lt, nat_le, IsTrue}
-use Rattle.std.proofs.lemmas.Int.{ints}
+use Rattle.std.proofs.Common.{◌≡◌, ℕ, ◌+◌, ◌*◌, ◌<◌, Bool, true, false, List, [], length, refl, sym, ◌∙◌, inl, inr, arith}
+use Rattle.std.specs.Prelude.{ℤ, ◌≤ℤ◌, ◌↔◌, nat_le, IsTrue}
 use Rattle.keys.proofs.callers.Booleans.{true_or_false}
 use Rattle.keyspace.specs.Writes.{Write}
-use Rattle.stepmap.specs.Boundary.{Boundary}
 use Rattle.stepmap.specs.StepMap.{Steps, AreSteps}
-use Rattle.stepmap.specs.Sweeping.{unexpired_boundaries}
 use Rattle.stepmap.specs.Limit.{HasRoomFor, after_round, made_room, unexpired_all}
 use Rattle.stepmap.specs.Rooted.{Rooted}
 use Rattle.stepmap.specs.Counting.{live_count}

@@ -22,7 +22,7 @@ use Rattle.std.proofs.Common.{
   arith,
   length-append,
 }
-use Rattle.std.specs.Prelude.{ℤ, negsuc, ◌≤ℤ◌, All}
+use Rattle.std.specs.Prelude.{ℤ, negsuc, All}
 use Rattle.std.proofs.lemmas.List.Elements.{All-append, All-cons, All-filter, All-take, All-drop}
 use Rattle.keys.specs.Key.{IsBefore}
 use Rattle.boundaries.specs.Boundary.{Boundary, AreInOrder, RiseFrom, value_at, last_version}

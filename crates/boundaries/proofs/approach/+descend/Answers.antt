@@ -1,4 +1,5 @@
-use Rattle.std.proofs.Common.{rules, ◌≡◌, ◌≤◌, ◌<◌, ◌∙◌, ℕ, drop, ◌+◌, ◌-◌, Bool, true, false, List, length, length-drop, filter, get_or, get_or-drop, slice_get, Option, Some, IsTrue, refl, arith}
+use Rattle.std.proofs.Common.{rules, ◌≡◌, ◌≤◌, ◌<◌, ◌∙◌, ℕ, drop, ◌+◌, ◌-◌, Bool, true, false, List, length, length-drop, filter, get_or, get_or-drop, slice_get, Option, Some, IsTrue, refl, subst, sym, arith}
+use Rattle.std.proofs.lemmas.Bool.{eqb-false, eqb-true, true≢false}
 use Rattle.std.proofs.lemmas.Option.{get_or_from_slice_get, slice_get_read, slice_get_within}
 use Rattle.boundaries.specs.Question.{IsRestAt, begun, before_end, bound_after, is_clear}
 use Rattle.boundaries.specs.declared.approach.Rest.{Rest}
@@ -20,11 +21,12 @@ use Rattle.boundaries.proofs.approach.+descend.Goals.{
   After-header_ref-node,
   After-step_by-step,
   Joined-question,
+  Joined-step-len,
   then-question,
-  then-question-via-then-question,
-  then-question-via-else-question+then-step-len,
-  else-question+then-decides,
-  else-question+else-decides,
+  else-question,
+  then-step-len,
+  else-step-len+then-height-eq1,
+  else-step-len+else-height-eq1,
 }
 
 -- What is known of the items after a child: none of the next entry's is before the end, and where there is none, none of those
@@ -109,21 +111,32 @@ head_beside-to_head-requires t c =
       };
     }
 
-pub rest_at-rest-requires : goal.rest_at-rest-requires
-rest_at-rest-requires t c =
-    let at = goal.at.rest_at-rest-requires t c in
+-- There is a next entry where it is looked at.
+more : (t : ℕ) (c : Joined-question t) → c.if-question.value ≡ false
+    → c.step_by-step.result.index + 1 < length (entries_of c.header_ref-node.result.now)
+more t c looked =
+    let step = is_step t (goal.at.Joined-question t c).After-step_by-step in
+    elim c.if-question.branch [
+      | then-question w ↦ absurd (true≢false (sym w.if-question.true ∙ sym w.value-is ∙ looked))
+      | else-question w ↦
+          let apart = eqb-false (c.step_by-step.result.index + 1) w.len.result (sym w.value-is ∙ looked) in
+          omega (arith, step.within, apart, w.len.ensures.len)
+    ]
+
+pub rest_at-requires : goal.rest_at-requires
+rest_at-requires t c =
+    let at = goal.at.rest_at-requires t c in
     let can = can_step t at.After-header_ref-node in
-    let step = is_step t at.After-step_by-step in
     let head = rw c.to.ensures.bound at c.head_beside-to_head.ensures.head in
     record {
       headed = can.can_find.headed;
       to = ends t at.After-header_ref-node;
-      within = omega (arith, step.within, c.len.ensures.len);
+      within = more t at.Joined-question c.if-step-len.false;
       head = head;
     }
 
 -- the child at which the search goes on, and what is known of the items after its own
-module _ (t : ℕ) (c : Joined-question t) where
+module _ (t : ℕ) (c : Joined-step-len t) where
   abbrev q : Question
   q = c.args.question.now
 
@@ -137,10 +150,10 @@ module _ (t : ℕ) (c : Joined-question t) where
   es = entries_of node
 
   abbrev at_node : After-header_ref-node t
-  at_node = (goal.at.Joined-question t c).After-header_ref-node
+  at_node = (goal.at.Joined-step-len t c).After-header_ref-node
 
   step : IsStep c.args.store.now.keys (bound_after q) node c.step_by-step.result
-  step = is_step t (goal.at.Joined-question t c).After-step_by-step
+  step = is_step t (goal.at.Joined-step-len t c).After-step_by-step
 
   -- the two bounds of the node
   look : IsLook c.args.store.now.nodes HALF_FULL c.args.height c.args.hint.slot p (before_end c.args.store.now.keys q) es
@@ -164,34 +177,40 @@ module _ (t : ℕ) (c : Joined-question t) where
   there : slice_get es c.step_by-step.result.index ≡ Some c.index-entries-step.result
   there = slice_get_read es _ _ c.index-entries-step.result refl step.within is
 
-  is_rest : IsRest c.args.store.now node c.step_by-step.result.index q c.args.hint.rest c.if-question.rest
-  is_rest = elim c.if-question.branch [
-    | then-question w ↦ rw w.rest-is (elim w.then-question.branch [
-      | then-question-via-then-question v ↦
-          rest_single c.args.store.now node c.step_by-step.result.index q c.args.hint.rest v.if-question.true
-          (can_step t at_node).can_find.partitioned step.index_is
-      | then-question-via-else-question+then-step-len v ↦
-          rest_last c.args.store.now node c.step_by-step.result.index q c.args.hint.rest (v.if-step-len.true ∙ v.len.ensures.len)
-    ])
-    | else-question+then-decides w ↦ rw w.rest-is (rest_next c.args.store.now node c.step_by-step.result.index q c.args.hint.rest _
-        (omega (arith, step.within, w.if-step-len.false, w.len.ensures.len)) w.rest_at-rest.ensures.rest)
-    | else-question+else-decides w ↦ rw w.rest-is (rest_open c.args.store.now node c.step_by-step.result.index q c.args.hint.rest)
-  ]
+  is_rest : IsRest c.args.store.now node c.step_by-step.result.index q c.args.hint.rest c.if-step-len.rest
+  is_rest =
+      let Is = IsRest c.args.store.now node c.step_by-step.result.index q c.args.hint.rest in
+      elim c.if-step-len.branch [
+        | then-step-len w ↦ subst Is (sym w.rest-is) (elim c.if-question.branch [
+          | then-question v ↦
+              rest_single c.args.store.now node c.step_by-step.result.index q c.args.hint.rest v.if-question.true
+              (can_step t at_node).can_find.partitioned step.index_is
+          | else-question v ↦
+              let end = eqb-true (c.step_by-step.result.index + 1) v.len.result (sym v.value-is ∙ w.if-step-len.true) in
+              rest_last c.args.store.now node c.step_by-step.result.index q c.args.hint.rest (end ∙ v.len.ensures.len)
+        ])
+        | else-step-len+then-height-eq1 w ↦
+            let next = more t (goal.at.Joined-step-len t c).Joined-question w.if-step-len.false in
+            subst Is (sym w.rest-is)
+            (rest_next c.args.store.now node c.step_by-step.result.index q c.args.hint.rest w.rest_at.result next w.rest_at.ensures.rest)
+        | else-step-len+else-height-eq1 w ↦
+            subst Is (sym w.rest-is) (rest_open c.args.store.now node c.step_by-step.result.index q c.args.hint.rest)
+      ]
 
   -- What is told of its items is told of those of the node.
   answered : (result : Option Bool)
-      → IsAnswer c.args.store.now.keys q c.if-question.rest
+      → IsAnswer c.args.store.now.keys q c.if-step-len.rest
       (items_in c.args.store.now.nodes (c.args.height - 1) c.index-entries-step.result.child) result
       → IsAnswer c.args.store.now.keys q c.args.hint.rest (items_in c.args.store.now.nodes c.args.height c.args.hint.slot) result
   answered result =
       answered_by_child _ _ _ _ _ _ _ _ _ look q.version (is_clear c.args.hint.rest) c.if-height-eq0.false _ _ step.within is _
       result
       (clears_after (before_end c.args.store.now.keys q) _ es (c.step_by-step.result.index + 1) (is_clear c.args.hint.rest)
-      (is_clear c.if-question.rest) (look_answers _ _ _ _ _ _ _ _ _ look c.if-height-eq0.false) is_rest.next is_rest.last)
+      (is_clear c.if-step-len.rest) (look_answers _ _ _ _ _ _ _ _ _ look c.if-height-eq0.false) is_rest.next is_rest.last)
 
 pub descend-requires : goal.descend-requires
-descend-requires t c κs within_lives =
-    let at = (goal.at.descend-requires t c).Joined-question in
+descend-requires t c =
+    let at = (goal.at.descend-requires t c).Joined-step-len in
     let k = look t at in
     let e = c.index-entries-step.result in
     let child = child t at in
@@ -199,15 +218,18 @@ descend-requires t c κs within_lives =
     let knows = step.knows e (there t at) in
     let least_some : 1 ≤ HALF_FULL = omega arith in
     let can = child_reached _ _ _ _ _ _ _ _ _ k c.if-height-eq0.false _ _ step.within (is t at) c.requires.asked.searchable least_some in
-    let to = child_partitioned _ _ _ _ _ _ _ _ _ k c.if-height-eq0.false _ _ step.within (is t at) _ c.requires.asked.to in
-    let asked = record { searchable = can; to = to; some_below = some_told (p t at) e _ child.describes knows.0 } in
-    let hint = record {
-      live = live_if_some c.args.store.now.nodes e.child can.some;
-      some = can.some;
-      headed = can.headed;
-      known = knows_child _ _ _ e e.child _ (p t at) c.args.question.now.begin.now _ child refl knows;
-    } in
-    search (rules, asked, hint)
+    let to = child_partitioned _ _ _ _ _ _ _ _ _ k c.if-height-eq0.false _ _ step.within (is t at) _ c.requires.asked.to in (
+      search rules,
+      (
+        record { searchable = can; to = to; some_below = some_told (p t at) e _ child.describes knows.0 },
+        record {
+          live = live_if_some c.args.store.now.nodes e.child can.some;
+          some = can.some;
+          headed = can.headed;
+          known = knows_child _ _ _ e e.child _ (p t at) c.args.question.now.begin.now _ child refl knows;
+        },
+      ),
+    )
 
 pub returns-then-height-eq0 : goal.returns-then-height-eq0
 returns-then-height-eq0 t c =
@@ -218,15 +240,15 @@ returns-then-height-eq0 t c =
 
 pub returns-in_default : goal.returns-in_default
 returns-in_default t c =
-    let wider = answered t (goal.at.returns-in_default t c).Joined-question in
+    let wider = answered t (goal.at.returns-in_default t c).Joined-step-len in
     record { approach = approach_wider _ _ _ _ _ _ _ _ c.descend.result wider c.descend.ensures.approach }
 
 pub returns-in-Clear : goal.returns-in-Clear
 returns-in-Clear t c =
-    let at = (goal.at.returns-in-Clear t c).Joined-question in
+    let at = (goal.at.returns-in-Clear t c).Joined-step-len in
     let can = can_step t (at_node t at) in
     let q = c.args.question.now in
-    let le = at_most_tested c.index-entries-step.result.version q.version (search rules) (search rules) c.if-decides.true in
+    let le = at_most_tested c.index-entries-step.result.version q.version (search rules) (search rules) c.if-decides-2.true in
     let some = some_pass (p t at) (es t at) can.can_find.some (λ e there. (can.known e there).0) in
     let passed = last_passes (p t at) _ _ _ can.can_find.partitioned some (step t at).index_is (is t at) in
     let part = answered_by_entry _ _ q.version (nested c.args.store.now.keys q) _ _ true (child t at).describes passed refl le in

@@ -8,9 +8,9 @@ descend-requires c =
     let can = from.searchable in record {
       asked = record { searchable = can; to = c.requires.asked.to.searchable.partitioned; some_below = some_reached from };
       hint = record {
-          live = live_if_some c.args.store.now.nodes c.args.root.now.slot can.some;
-          some = can.some;
-          headed = can.headed;
-          known = root_known from;
-        };
+        live = live_if_some c.args.store.now.nodes c.args.root.now.slot can.some;
+        some = can.some;
+        headed = can.headed;
+        known = root_known from;
+      };
     }

@@ -23,7 +23,7 @@ child_found t c =
     c.header_ref-node.ensures.header refl c.step-step.ensures.step.index_is c.child.ensures.child.slot
 
 pub find-requires : goal.find-requires
-find-requires t c κs within =
+find-requires t c =
     let some : 1 ≤ HALF_FULL = omega arith in
     let f = child_found t (goal.at.find-requires t c).After-child in
     let known = known_below _ _ _ _ _ _ f (key_at c.args.store.now.keys) c.args.bound.key.now _ c.header_ref-node.result.now

@@ -1,4 +1,4 @@
-use Rattle.std.proofs.Common.{rules, ◌≡◌, ℕ, Bool, ◌+◌, ◌-◌, ◌<◌, ◌≤ℤ◌, true, length, length-drop, filter, slice_get, Some, drop, take_all, flat_map, ◌++◌, append-nil, refl, sym, ap, ap₂, ◌∙◌, arith}
+use Rattle.std.proofs.Common.{rules, ◌≡◌, ℕ, Bool, ◌+◌, ◌-◌, ◌<◌, ◌≤ℤ◌, true, length, length-drop, filter, slice_get, Some, drop, take_all, flat_map, ◌++◌, append-nil, refl, sym, ap, ap₂, ◌∙◌, SFits, w64, arith}
 use Rattle.std.proofs.lemmas.List.Elements.{All-drop}
 use Rattle.std.proofs.lemmas.Option.{slice_get_read}
 use Rattle.boundaries.specs.Greatest.{IsSought}
@@ -11,7 +11,7 @@ use Rattle.boundaries.proofs.Frames.{IsRight}
 use Rattle.boundaries.proofs.FromLast.{from_last_of}
 use Rattle.boundaries.proofs.Halves.{from_index}
 use Rattle.boundaries.proofs.Looks.{IsLook, can_step_at, child_is, child_reached, look_answers, leaf_from_last}
-use Rattle.boundaries.proofs.Most.{most_leaf, most_children, most_of_two, most_passed}
+use Rattle.boundaries.proofs.Most.{least_kept, most_kept, most_leaf, most_children, most_of_two, most_passed}
 use Rattle.boundaries.proofs.callers.Partitions.{none_fail}
 use Rattle.boundaries.proofs.greatest_version.+greatest_from.Goals as goal
 use Rattle.boundaries.proofs.greatest_version.+greatest_from.Goals.{After-step-step, After-index-entries-step}
@@ -47,7 +47,10 @@ returns-then-height-eq0 t c =
     let s = (goal.at.returns-then-height-eq0 t c).After-step-step in
     let items = leaf_from_last _ _ _ _ _ _ _ _ _ (look t s) c.if-height-eq0.true c.step-step.result.index
     c.step-step.ensures.step.index_is in
-    record { most = rw items (most_leaf c.args.least c.greatest_of.result _ c.greatest_of.ensures.most) }
+    let fits : SFits w64 c.args.least = search rules in
+    let kept : SFits w64 c.greatest_of.result = search rules in
+    let leaf = most_leaf c.args.least c.greatest_of.result _ (least_kept fits c.greatest_of.ensures.most) in
+    record { most = most_kept kept (rw items leaf) }
 
 -- the child that the search goes on in
 module _ (t : ℕ) (c : After-index-entries-step t) where
@@ -92,20 +95,23 @@ module _ (t : ℕ) (c : After-index-entries-step t) where
       let n = c.step-step.result.index + 1 in
       let tell = All-drop (λ e. Describes e (items_in c.args.store.now.nodes (c.args.height - 1) e.child)) n es
       (look_answers _ _ _ _ _ _ _ _ _ (look t at) c.if-height-eq0.false) in
+      let fits : SFits w64 c.args.least = search rules in
       let all = take_all (length es - n) (drop n es) (omega (arith, length-drop n es)) in
-      most_children c.args.least c.greatest_of-most.result _ (drop n es) tell (rw all at c.greatest_of-most.ensures.most)
+      most_children c.args.least c.greatest_of-most.result _ (drop n es) tell
+      (rw all at (least_kept fits c.greatest_of-most.ensures.most))
 
 pub greatest_from-requires : goal.greatest_from-requires
-greatest_from-requires t c κs within =
-    rw c.new-from.ensures.sought (search (rules, below t (goal.at.greatest_from-requires t c).After-index-entries-step))
+greatest_from-requires t c =
+    (search rules, rw c.new-from.ensures.sought (below t (goal.at.greatest_from-requires t c).After-index-entries-step))
 
 pub returns-then-entry-most : goal.returns-then-entry-most
 returns-then-entry-most t c =
     let s = (goal.at.returns-then-entry-most t c).After-index-entries-step in
     let le : entry.version ≤ℤ most = at_most_tested entry.version most (search rules) (search rules) c.if-entry-most.true in
+    let fits : SFits w64 most = search rules in
     record {
-      most = most_of_two c.args.least _ _ _ _ _ (items t s) (later t s)
-          (most_passed most entry _ _ (λ (x : Item). true) (child t s).describes le);
+      most = most_kept fits (most_of_two c.args.least _ _ _ _ _ (items t s) (later t s)
+          (most_passed most entry _ _ (λ (x : Item). true) (child t s).describes le));
     }
   where
     open c use {index-entries-step.{result as entry}, greatest_of-most.{result as most}}
@@ -113,5 +119,7 @@ returns-then-entry-most t c =
 pub returns : goal.returns
 returns t c =
     let s = (goal.at.returns t c).After-index-entries-step in
-    let below = rw c.new-from.ensures.sought at c.greatest_from.ensures.most in
-    record { most = most_of_two c.args.least _ _ _ _ _ (items t s) (later t s) below }
+    let fits : SFits w64 c.greatest_of-most.result = search rules in
+    let below = least_kept fits (rw c.new-from.ensures.sought at c.greatest_from.ensures.most) in
+    let kept : SFits w64 c.greatest_from.result = search rules in
+    record { most = most_kept kept (most_of_two c.args.least _ _ _ _ _ (items t s) (later t s) below) }

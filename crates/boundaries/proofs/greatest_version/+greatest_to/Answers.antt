@@ -1,4 +1,4 @@
-use Rattle.std.proofs.Common.{rules, ◌≡◌, ℕ, Bool, ◌+◌, ◌-◌, ◌<◌, ◌≤ℤ◌, length, filter, flat_map, slice_get, Some, map, take, ◌++◌, List, refl, sym, ap, ◌∙◌, arith}
+use Rattle.std.proofs.Common.{rules, ◌≡◌, ℕ, Bool, ◌+◌, ◌-◌, ◌<◌, ◌≤ℤ◌, length, filter, flat_map, slice_get, Some, map, take, ◌++◌, List, refl, sym, ap, ◌∙◌, SFits, w64, arith}
 use Rattle.std.proofs.lemmas.List.Elements.{All-take}
 use Rattle.std.proofs.lemmas.Option.{slice_get_read}
 use Rattle.boundaries.specs.Greatest.{IsSought}
@@ -13,7 +13,7 @@ use Rattle.boundaries.proofs.Halves.{before_index}
 use Rattle.boundaries.proofs.Keys.{filter-items}
 use Rattle.boundaries.proofs.LeafChange.{parted}
 use Rattle.boundaries.proofs.Looks.{IsLook, can_step_at, child_is, child_reached, look_answers}
-use Rattle.boundaries.proofs.Most.{most_leaf, most_children, most_append, most_passed}
+use Rattle.boundaries.proofs.Most.{least_kept, most_kept, most_leaf, most_children, most_append, most_passed}
 use Rattle.boundaries.proofs.greatest_version.+greatest_to.Goals as goal
 use Rattle.boundaries.proofs.greatest_version.+greatest_to.Goals.{After-step-step, After-index-entries-step}
 
@@ -54,7 +54,10 @@ returns-then-height-eq0 t c =
     ap (λ h. filter (λ (x : Item). below x.key) (items_in c.args.store.now.nodes h c.args.slot)) c.if-height-eq0.true
     ∙ ap (λ (l : List NodeEntry). filter (λ (x : Item). below x.key) (map item_of l)) (look t s).read
     ∙ filter-items (λ x. below x.key) es ∙ ap (map item_of) (sym front) in
-    record { most = rw items (most_leaf c.args.least c.greatest_of.result _ c.greatest_of.ensures.most) }
+    let fits : SFits w64 c.args.least = search rules in
+    let kept : SFits w64 c.greatest_of.result = search rules in
+    let leaf = most_leaf c.args.least c.greatest_of.result _ (least_kept fits c.greatest_of.ensures.most) in
+    record { most = most_kept kept (rw items leaf) }
 
 -- the child that the search goes on in
 module _ (t : ℕ) (c : After-index-entries-step t) where
@@ -99,23 +102,28 @@ module _ (t : ℕ) (c : After-index-entries-step t) where
       let n = c.step-step.result.index in
       let tell = All-take (λ e. Describes e (items_in c.args.store.now.nodes (c.args.height - 1) e.child)) n es
       (look_answers _ _ _ _ _ _ _ _ _ (look t at) c.if-height-eq0.false) in
-      most_children c.args.least c.greatest_of-most.result _ (take n es) tell c.greatest_of-most.ensures.most
+      let fits : SFits w64 c.args.least = search rules in
+      most_children c.args.least c.greatest_of-most.result _ (take n es) tell
+      (least_kept fits c.greatest_of-most.ensures.most)
 
 pub greatest_to-requires : goal.greatest_to-requires
-greatest_to-requires t c κs within =
-    rw c.new-to.ensures.sought (search (rules, below t (goal.at.greatest_to-requires t c).After-index-entries-step))
+greatest_to-requires t c =
+    (search rules, rw c.new-to.ensures.sought (below t (goal.at.greatest_to-requires t c).After-index-entries-step))
 
 pub returns-then-entry-most : goal.returns-then-entry-most
 returns-then-entry-most t c =
     let s = (goal.at.returns-then-entry-most t c).After-index-entries-step in
     let le : entry.version ≤ℤ most = at_most_tested entry.version most (search rules) (search rules) c.if-entry-most.true in
+    let fits : SFits w64 most = search rules in
     let passed = most_passed most entry _ 0 (λ (x : Item). p t (at t s) x.key) (child t s).describes le in
-    record { most = rw (items t s) (most_append c.args.least most most _ _ (sooner t s) passed) }
+    record { most = most_kept fits (rw (items t s) (most_append c.args.least most most _ _ (sooner t s) passed)) }
   where
     open c use {index-entries-step.{result as entry}, greatest_of-most.{result as most}}
 
 pub returns : goal.returns
 returns t c =
     let s = (goal.at.returns t c).After-index-entries-step in
-    let below = rw c.new-to.ensures.sought at c.greatest_to.ensures.most in
-    record { most = rw (items t s) (most_append c.args.least _ _ _ _ (sooner t s) below) }
+    let fits : SFits w64 c.greatest_of-most.result = search rules in
+    let below = least_kept fits (rw c.new-to.ensures.sought at c.greatest_to.ensures.most) in
+    let kept : SFits w64 c.greatest_to.result = search rules in
+    record { most = most_kept kept (rw (items t s) (most_append c.args.least _ _ _ _ (sooner t s) below)) }

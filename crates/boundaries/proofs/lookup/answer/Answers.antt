@@ -1,15 +1,16 @@
-use Rattle.std.proofs.Common.{rules}
+use Rattle.std.proofs.Common.{rules, SFits, w64}
 use Rattle.boundaries.specs.Question.{IsAnswer}
 use Rattle.boundaries.specs.declared.approach.Rest.TheVariants as rest
 use Rattle.boundaries.proofs.Words.{items_in}
 use Rattle.boundaries.proofs.Exceeding.{above_by_most}
+use Rattle.boundaries.proofs.Most.{least_kept}
 use Rattle.boundaries.proofs.QuestionAnswers.{answered_of_all}
 use Rattle.boundaries.proofs.QuestionBounds.{nested}
 use Rattle.boundaries.proofs.lookup.answer.Goals as goal
 use Rattle.boundaries.proofs.lookup.answer.Goals.{Joined-approach, in-Leaf, in-Clear, in-Open}
 
-pub leaf_answer-requires : goal.leaf_answer-requires
-leaf_answer-requires c =
+pub leaf_answer-answered-requires : goal.leaf_answer-answered-requires
+leaf_answer-answered-requires c =
     let is = rw c.in-Leaf.is at c.requires.approach in
     record {
       asked = is.asked;
@@ -23,7 +24,7 @@ told : (c : Joined-approach) → IsAnswer c.args.store.now.keys c.args.question.
 told c = elim c.match-approach.branch [
   | in-Leaf w ↦
       let is = rw w.in-Leaf.is at c.requires.approach in
-      rw w.answered-is (is.describes w.leaf_answer.result w.leaf_answer.ensures.answered)
+      rw w.answered-is (is.describes w.leaf_answer-answered.result w.leaf_answer-answered.ensures.answered)
   | in-Clear w ↦ rw w.answered-is (rw w.in-Clear.is at c.requires.approach)
   | in-Open w ↦ rw w.answered-is (λ before after clear first second. tt)
 ]
@@ -50,4 +51,5 @@ pub returns-in-None : goal.returns-in-None
 returns-in-None c =
     let v = c.args.question.now.version in
     let most = rw (c.from.ensures.bound, c.to.ensures.bound) at c.greatest-most.ensures.most in
-    record { above = above_by_most v c.greatest-most.result _ (search rules) (search rules) most }
+    let fits : SFits w64 v = search rules in
+    record { above = above_by_most v c.greatest-most.result _ fits (search rules) (least_kept fits most) }

@@ -3,14 +3,14 @@ use Rattle.std.proofs.lemmas.Slice.Zip.{AllZip-long}
 use Rattle.boundaries.proofs.InTurn.{AllZip-turn}
 use Rattle.boundaries.proofs.lookup.approach_each.Goals as goal
 
-pub approach-requires : goal.approach-requires
-approach-requires c =
+pub find_approach-requires : goal.find_approach-requires
+find_approach-requires c =
     record { asked = rw c.question-item.is (c.requires.asked _ _ c.loop-question-test.true) }
 
 pub loop-question-preserved : goal.loop-question-preserved
 loop-question-preserved c =
     AllZip-turn _ _ _ _ _ _ _ _ c.loop-question-test.true c.question-item.is refl c.push.ensures.items c.loop-question.invariant
-    c.approach.ensures.approach
+    c.find_approach.ensures.approach
 
 pub push-requires : goal.push-requires
 push-requires c =

@@ -71,6 +71,10 @@ leaf c =
       end_is = c.end_in-end.ensures.count.count_is;
     }
 
+pub slice_bounds-any_above-count : goal.slice_bounds-any_above-count
+slice_bounds-any_above-count c =
+    omega (arith, look_ordered _ _ _ _ _ _ _ _ _ (leaf (goal.at.slice_bounds-any_above-count c).After-end_in-end))
+
 pub slice_bounds-any_above-start : goal.slice_bounds-any_above-start
 slice_bounds-any_above-start c =
     omega (arith, look_ordered _ _ _ _ _ _ _ _ _ (leaf (goal.at.slice_bounds-any_above-start c).After-end_in-end))

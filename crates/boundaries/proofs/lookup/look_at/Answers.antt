@@ -3,8 +3,8 @@ use Rattle.boundaries.proofs.Headed.{headed_at}
 use Rattle.boundaries.proofs.Placing.{entries_from_header}
 use Rattle.boundaries.proofs.lookup.look_at.Goals as goal
 
-pub head_for-requires : goal.head_for-requires
-head_for-requires c =
+pub head_for-head-requires : goal.head_for-head-requires
+head_for-head-requires c =
     let header = c.header_ref-leaf.ensures.header in
     let at = rw c.in-Leaf.is at c.requires.leading in
     let read = entries_from_header c.args.store.now.nodes c.in-Leaf.hint.slot c.header_ref-leaf.result.now header in
@@ -22,7 +22,8 @@ returns c = record {
   approach = refl;
   looked = elim c.match-approach.branch [
     | goal.in-Leaf w ↦
-        rw (w.in-Leaf.is, w.header_ref-leaf.ensures.header, w.head-is) (rw w.from.ensures.bound at w.head_for.ensures.head)
+        rw (w.in-Leaf.is, w.header_ref-leaf.ensures.header, w.head-is) (rw w.from.ensures.bound at w.head_for-head.ensures.head)
     | goal.in-Clear w ↦ elim w.in-Clear.is [ inl is ↦ rw is tt | inr is ↦ rw is tt ]
+    | goal.in-Clear-2 w ↦ elim w.in-Clear.is [ inl is ↦ rw is tt | inr is ↦ rw is tt ]
   ];
 }

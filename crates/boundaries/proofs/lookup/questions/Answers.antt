@@ -14,18 +14,17 @@ there {X} P xs i = of_element (slice_get xs i) refl
     of_element (Some x) is said = slice_get_within xs i x is
 
 pub query-requires : goal.query-requires
-query-requires g c = (
-  search rules,
-  there _ (g.L.QueryList.queries c.args.queries.now) (get_or c.args.places.now i 0)
-      (c.requires.filled i 0 c.loop-place-test.true),
-)
+query-requires g c = record {
+  within = there _ (g.L.QueryList.queries c.args.queries.now) (get_or c.args.places.now i 0)
+      (c.requires.filled i 0 c.loop-place-test.true);
+}
   where
     open c use {loop-place.{place-index as i}}
 
 pub of-requires : goal.of-requires
 of-requires g c =
     let filled = rw c.query.ensures.query at (c.requires.filled c.loop-place.place-index 0 c.loop-place-test.true) in
-    (search rules, (filled, c.query.ensures.hash))
+    record { filled = filled; hash = c.query.ensures.hash }
 
 pub loop-place-preserved : goal.loop-place-preserved
 loop-place-preserved g c =

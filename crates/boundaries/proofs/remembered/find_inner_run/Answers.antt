@@ -39,7 +39,7 @@ module _ (c : After-head) where
   open c use {args.{store.{now as store}, new.{now as new}}, header_ref-node.{result.{now as node}}}
 
   end_prefix : HasPrefix (key_at store.keys) (key_heads_of node) new.end.now
-  end_prefix = rw c.to-2.ensures.bound at (c.has_prefix_of.ensures.has_prefix (search rules))
+  end_prefix = rw c.to-else-not-is_there.ensures.bound at (c.has_prefix_of.ensures.has_prefix (search rules))
 
   end_head : IsTargetHead (key_at store.keys) (key_heads_of node) new.end.now c.head-end_head.result
   end_head = record {
@@ -75,7 +75,7 @@ module _ (c : After-head) where
 pub lower_bound_by_head-end-requires : goal.lower_bound_by_head-end-requires
 lower_bound_by_head-end-requires c =
     let at = goal.at.lower_bound_by_head-end-requires c in
-    rw c.to-3.ensures.bound record {
+    rw c.to-2.ensures.bound record {
       can_find = to_find at.After-header_ref-node;
       head = end_head at.After-head;
       none = (λ none. absurd (cc));
@@ -85,7 +85,7 @@ pub lower_bound_back-begin-requires : goal.lower_bound_back-begin-requires
 lower_bound_back-begin-requires c =
     let at = goal.at.lower_bound_back-begin-requires c in
     let more = no_more _ _ (start_before_end c.args.store.now.keys c.args.new.now) (entries_of c.header_ref-node.result.now) in
-    let count = rw c.to-3.ensures.bound at c.lower_bound_by_head-end.ensures.count in
+    let count = rw c.to-2.ensures.bound at c.lower_bound_by_head-end.ensures.count in
     rw c.from-2.ensures.bound
     record {
       can_find = from_find at.After-header_ref-node;
@@ -97,7 +97,7 @@ lower_bound_back-begin-requires c =
 pub overflow_sub-end : goal.overflow_sub-end
 overflow_sub-end c =
     let more = no_more _ _ (start_before_end c.args.store.now.keys c.args.new.now) (entries_of c.header_ref-node.result.now) in
-    let end = rw c.to-3.ensures.bound at c.lower_bound_by_head-end.ensures.count in
+    let end = rw c.to-2.ensures.bound at c.lower_bound_by_head-end.ensures.count in
     let begin = rw c.from-2.ensures.bound at c.lower_bound_back-begin.ensures.count in
     omega (arith, more, begin.count_is, end.count_is)
 
@@ -119,7 +119,7 @@ returns c =
     let node = c.header_ref-node.result.now in
     let read = read at.After-header_ref-node in
     let more = no_more _ _ (start_before_end c.args.store.now.keys new) (entries_of node) in
-    let end = rw c.to-3.ensures.bound at c.lower_bound_by_head-end.ensures.count in
+    let end = rw c.to-2.ensures.bound at c.lower_bound_by_head-end.ensures.count in
     let begin = rw c.from-2.ensures.bound at c.lower_bound_back-begin.ensures.count in
     record {
       run = record {
@@ -137,8 +137,8 @@ returns c =
         };
         some_before = omega (arith, c.if-begin-eq0.false);
         some_after = rw read (omega (arith, c.if-end-len.false, c.len-len.ensures.len, end.within));
-        fits = rw read (omega (arith, c.if-len.false, c.len-len.ensures.len));
-        filled = rw read (omega (arith, c.if-len-2.false, c.len-len.ensures.len));
+        fits = rw read (omega (arith, c.if-len-gt-FAN_OUT.false, c.len-len.ensures.len));
+        filled = rw read (omega (arith, c.if-len-end.false, c.len-len.ensures.len));
         ended = rw read (rw c.past.ensures.bound at c.is_below_at-ended.ensures.is_below);
       };
     }

@@ -18,7 +18,7 @@ use Rattle.boundaries.proofs.remembered.write_in_leaf.Goals as goal
 
 -- the leaf, and the run in it
 module _ (c : In-Some) where
-  open c use {args.{store.{now as store}, leaf.{slot}, new.{now as new}}, requires.{can_write}, in-Some.{run, ensures.{run as found}}}
+  open c use {args.{store.{now as store}, leaf.{slot}, new.{now as new}}, requires.{can_write}, in-Some.{run' as run, ensures.{run as found}}}
 
   abbrev node : Node
   node = found.run_is.leaf
@@ -53,7 +53,7 @@ fits c =
     c.write_run.ensures.fits (omega (arith, found.fits, is.ordered, is.end.within, ap length (read h)))
 
 written : (c : After-write_run)
-    → IsRunWritten c.args.store.now c.write_run.new.store c.args.leaf.slot c.args.new.now c.in-Some.run None
+    → IsRunWritten c.args.store.now c.write_run.new.store c.args.leaf.slot c.args.new.now c.in-Some.run' None
 written c = rw (fits c) at c.write_run.ensures.written
 
 pub returns-in-Some : goal.returns-in-Some
@@ -64,7 +64,7 @@ returns-in-Some c =
     let now = c.write_run.new.store in
     let slot = c.args.leaf.slot in
     let new = c.args.new.now in
-    let run = c.in-Some.run in
+    let run = c.in-Some.run' in
     let found = c.in-Some.ensures.run in
     let is = found.run_is.run_is in
     let es = entries_of (node h) in

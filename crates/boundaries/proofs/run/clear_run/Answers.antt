@@ -1,6 +1,7 @@
-use Rattle.std.proofs.Common.{rules, ◌≡◌, ◌∙◌, ap, refl, sym, length, length-take, w64, arith}
+use Rattle.std.proofs.Common.{rules, ◌≡◌, ◌-◌, ◌∙◌, ap, refl, sym, length, length-take, get_or, w64, to_z, of_z, arith}
 use Rattle.std.proofs.lemmas.Int.{to_z-of_z}
 use Rattle.arena.specs.Arena.{with_header}
+use Rattle.boundaries.specs.declared.entry.NodeEntry.{NodeEntry}
 use Rattle.boundaries.specs.Subtree.{entries_at}
 use Rattle.boundaries.proofs.ChangedLeaf.{put_stored_in}
 use Rattle.boundaries.proofs.Headed.{headed_at}
@@ -34,12 +35,14 @@ returns c =
     let there = entries_from_header old slot _ c.header_mut.ensures.header in
     let put = put_entries old (with_header old slot node) slot node refl in
     let headed = c.remove.ensures.headed _ (headed_at _ old slot _ can.sound.headed c.header_mut.ensures.header) in
+    let own_is : e ≡ get_or es (c.args.end - 1) e = c.index-entries-end.is in
+    let value : to_z w64 (of_z w64 (get_or es (c.args.end - 1) e).version) ≡ e.version =
+    ap (λ (x : NodeEntry). to_z w64 (of_z w64 x.version)) (sym own_is) ∙ to_z-of_z w64 e.version (search rules) in
     record {
       cleared = record {
         entries = put ∙ (rw (← there) at c.remove.ensures.entries);
         removed = rw (can.none_removed, ← read at) at c.put_removed.ensures.removed;
-        last_is = rw (read at, to_z-of_z w64 e.version (search rules))
-            (last_of_first es c.args.end e can.some (rw (read at) at can.within) c.index-entries-end.is);
+        last_is = rw (read at, value) (last_of_first es c.args.end e can.some (rw (read at) at can.within) own_is);
         stored = put_stored_in slot node refl refl can.live can.sound headed;
         keys = refl;
       };

@@ -150,7 +150,7 @@ returns-in-Some c =
     let es = entries_of c.header_ref-leaf.result.now in
     record {
       run = found at c.is_below.result (ended_after r es c.lower_bound_by_head-end.result c.args.position.following
-      c.is_below.result (omega (arith, c.if-end-len.false, c.len.ensures.len)) (cc (c.in-Some.is, c.past.ensures.bound, c.is_below.ensures.is_below)));
+      c.is_below.result (omega (arith, c.if-end-len.false, c.len.ensures.len)) (cc (c.in-Some.is, c.past-in-Some.ensures.bound, c.is_below.ensures.is_below)));
     }
 
 pub returns-in-None : goal.returns-in-None

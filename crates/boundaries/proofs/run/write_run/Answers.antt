@@ -1,4 +1,4 @@
-use Rattle.std.proofs.Common.{rules, ◌≡◌, ◌≤◌, ◌-◌, ◌∙◌, ap, refl, sym, ℕ, List, [], ◌∷◌, ◌++◌, Option, None, Some, IfSome, length, length-drop, length-take, take, drop, map, unwrap_or, w64, arith}
+use Rattle.std.proofs.Common.{rules, ◌≡◌, ◌≤◌, ◌-◌, ◌∙◌, ap, refl, sym, ℕ, List, [], ◌∷◌, ◌++◌, Option, None, Some, IfSome, length, length-drop, length-take, take, drop, map, get_or, unwrap_or, w64, to_z, of_z, arith}
 use Rattle.std.specs.List.{All}
 use Rattle.std.proofs.lemmas.Int.{to_z-of_z}
 use Rattle.std.proofs.lemmas.List.{map-append}
@@ -9,7 +9,7 @@ use Rattle.boundaries.specs.declared.entry.NodeEntry.{NodeEntry}
 use Rattle.boundaries.specs.declared.store.Store.{Store}
 use Rattle.boundaries.specs.Children.{entries_at_both, items_with}
 use Rattle.boundaries.specs.Heads.{AreHeadsBeside, IsKnown}
-use Rattle.boundaries.specs.Item.{Item, item_of}
+use Rattle.boundaries.specs.Item.{Item, item_of, version_of}
 use Rattle.boundaries.specs.Items.{IsLast}
 use Rattle.boundaries.specs.Node.{entries_of, key_heads_of}
 use Rattle.boundaries.specs.Store.{PutsKeys}
@@ -20,7 +20,7 @@ use Rattle.boundaries.proofs.Removing.{last_of_first}
 use Rattle.boundaries.proofs.RunSpliced.{can_splice_run, spliced_few, spliced_is, stored_of}
 use Rattle.boundaries.proofs.RunWritten.{items_with_entries, keys_removed, version_of_last}
 use Rattle.boundaries.proofs.SpareKeys.{spare_for_begin, spare_for_end}
-use Rattle.boundaries.proofs.run.write_run.Goals.{After-entries-entries, After-unwrap-start, After-unwrap-key, After-of-second, Joined-run, in-Some-Some, in_default}
+use Rattle.boundaries.proofs.run.write_run.Goals.{After-entries-entries, After-unwrap-start, After-unwrap-key, After-of-second, Joined-run, in-Some-Some, in_default, in_default-2}
 use Rattle.boundaries.proofs.run.write_run.Goals as goal
 
 -- the entries that were read
@@ -99,6 +99,7 @@ module _ (c : Joined-run) where
       tt,
     )
     | in_default w ↦ rw w.heads-is tt
+    | in_default-2 w ↦ rw w.heads-is tt
   ]
 
 -- what is removed
@@ -119,9 +120,9 @@ written c now added new spliced =
     items_with_entries now.nodes c.args.slot added
     ∙ rw (here c, spliced, map-append, map-append) refl
 
-pub splice-requires-then-run : goal.splice-requires-then-run
-splice-requires-then-run c =
-    let j = (goal.at.splice-requires-then-run c).Joined-run in
+pub splice-requires : goal.splice-requires
+splice-requires c =
+    let j = (goal.at.splice-requires c).Joined-run in
     record {
       can_splice = can_splice_run c.requires.can_write c.new.result (c.of-first.result ∷ []) c.new.ensures.run.0 c.new.ensures.run.1
           c.new.ensures.new _ refl (puts_stay (puts j)) c.match-run.heads c.new.ensures.heads (All-cons _ _ [] (known j) (All-nil _))
@@ -157,7 +158,7 @@ returns-then-run c =
 module _ (c : After-of-second) where
   open c use {args.{store.{now as store}, new.{now as new}, run}, requires.{can_write}}
 
-  first : Joined-run
+  abbrev first : Joined-run
   first = (goal.at.After-of-second c).Joined-run
 
   placed_too : IsKeyPlaced c.place.new.self c.place-2.new.self c.unwrap-key.result new.end.now
@@ -176,9 +177,14 @@ module _ (c : After-of-second) where
   second_there = ap (λ (i : Item). key_at c.place-2.new.self i.key) second_is ∙ placed_too.is
 
   both_known : All (IsKnown (key_at c.place-2.new.self)) (c.of-first.result.key ∷ c.of-second.result.key ∷ [])
-  both_known = All-cons _ _ (c.of-second.result.key ∷ [])
-      (record { text = new.start.now; known = first_there; are_bytes = new.start_is_key.bytes })
-      (All-cons _ _ [] (record { text = new.end.now; known = second_there; are_bytes = new.end_is_key.bytes }) (All-nil _))
+  both_known =
+      let Known = IsKnown (key_at c.place-2.new.self) in
+      let start : Known c.of-first.result.key =
+      record { text = new.start.now; known = first_there; are_bytes = new.start_is_key.bytes } in
+      let end : Known c.of-second.result.key =
+      record { text = new.end.now; known = second_there; are_bytes = new.end_is_key.bytes } in
+      All-cons Known c.of-first.result.key (c.of-second.result.key ∷ []) start
+      (All-cons Known c.of-second.result.key [] end (All-nil Known))
 
   both_beside : IfSome c.match-run.heads (λ heads. AreHeadsBeside (key_at c.place-2.new.self) (key_heads_of can_write.run_is.leaf)
       (c.of-first.result.key ∷ c.of-second.result.key ∷ []) (take 2 heads))
@@ -196,27 +202,33 @@ module _ (c : After-of-second) where
           ),
         )
         | in_default w ↦ rw w.heads-is tt
+        | in_default-2 w ↦ rw w.heads-is tt
       ]
 
   -- the version at the end
   version_is : (last : NodeEntry) → IsLast last (take run.end (entries_at store.nodes c.args.slot))
       → c.unwrap_or.result ≡ unwrap_or new.at_end last.version
   version_is last is =
-      let at = (goal.at.After-of-second c).After-entries-entries in
+      let t = (goal.at.After-of-second c).After-entries-entries in
+      let xs = c.entries-entries.result.now in
       let e = c.index-entries-end.result in
+      let own_is : e ≡ get_or xs (run.end - 1) e = c.index-entries-end.is in
       let run_is = can_write.run_is.run_is in
-      let whole = read at ∙ sym (here at) in
-      let own = last_of_first c.entries-entries.result.now run.end e run_is.some (rw read at run_is.end.within)
-          c.index-entries-end.is in
-      rw (← version_of_last (take run.end (entries_at store.nodes c.args.slot)) last e.version is (rw whole at own),
-      to_z-of_z w64 e.version (search rules)) c.unwrap_or.ensures
+      let same : xs ≡ entries_at store.nodes c.args.slot = read t ∙ sym (here t) in
+      let within : run.end ≤ length xs = rw (read t) run_is.end.within in
+      let own : IsLast e.version (map version_of (take run.end xs)) = last_of_first xs run.end e run_is.some within own_is in
+      let there : IsLast e.version (map version_of (take run.end (entries_at store.nodes c.args.slot))) = rw same at own in
+      let value : to_z w64 (of_z w64 (get_or xs (run.end - 1) e).version) ≡ last.version =
+      ap (λ (x : NodeEntry). to_z w64 (of_z w64 x.version)) (sym own_is) ∙ to_z-of_z w64 e.version (search rules)
+      ∙ version_of_last (take run.end (entries_at store.nodes c.args.slot)) last e.version is there in
+      c.unwrap_or.ensures ∙ ap (unwrap_or new.at_end) value
 
-pub splice-requires : goal.splice-requires
-splice-requires c =
-    let s = (goal.at.splice-requires c).After-of-second in
+pub splice-requires-2 : goal.splice-requires-2
+splice-requires-2 c =
+    let s = (goal.at.splice-requires-2 c).After-of-second in
     record {
-      can_splice = can_splice_run c.requires.can_write c.new.result (c.of-first.result ∷ c.of-second.result ∷ []) c.new.ensures.run.0
-          c.new.ensures.run.1 c.new.ensures.new _ refl (puts_stay (puts_too s)) c.match-run.heads c.new.ensures.heads (both_known s)
+      can_splice = can_splice_run c.requires.can_write c.new-2.result (c.of-first.result ∷ c.of-second.result ∷ []) c.new-2.ensures.run.0
+          c.new-2.ensures.run.1 c.new-2.ensures.new _ refl (puts_stay (puts_too s)) c.match-run.heads c.new-2.ensures.heads (both_known s)
           (both_beside s);
     }
 
@@ -228,10 +240,10 @@ returns c =
     let stay = puts_stay (puts_too s) in
     let new = c.of-first.result ∷ c.of-second.result ∷ [] in
     let now = here at in
-    let keeps = c.splice.ensures.keeps in
-    let entries = c.splice.ensures.entries
-        ∙ spliced_is can c.new.result new c.new.ensures.run.0 c.new.ensures.run.1 c.new.ensures.new _ now in
-    let few = spliced_few can c.new.result new c.new.ensures.run.0 c.new.ensures.run.1 c.new.ensures.new _ now in
+    let keeps = c.splice-2.ensures.keeps in
+    let entries = c.splice-2.ensures.entries
+        ∙ spliced_is can c.new-2.result new c.new-2.ensures.run.0 c.new-2.ensures.run.1 c.new-2.ensures.new _ now in
+    let few = spliced_few can c.new-2.result new c.new-2.ensures.run.0 c.new-2.ensures.run.1 c.new-2.ensures.new _ now in
     record {
       written = record {
         first = c.unwrap-start.result;
@@ -239,9 +251,9 @@ returns c =
         puts = rw (keeps.keys, c.if-run.false) (puts_too s);
         removed = rw keeps.removed (removed (first s));
         items = λ last is. rw (c.if-run.false, ← version_is s last is, ← first_is (first s), ← second_is s)
-            (written at c.splice.new.self c.splice.result new entries);
+            (written at c.splice-2.new.self c.splice-2.result new entries);
       };
-      stored = stored_of refl c.splice.ensures.stored;
+      stored = stored_of refl c.splice-2.ensures.stored;
       keys = rw keeps.keys stay;
-      fits = λ room. c.splice.ensures.fits (omega (arith, few, ap length now, room));
+      fits = λ room. c.splice-2.ensures.fits (omega (arith, few, ap length now, room));
     }

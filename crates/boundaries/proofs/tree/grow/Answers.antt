@@ -6,7 +6,7 @@ use Rattle.arena.specs.Arena.{key_at}
 use Rattle.boundaries.specs.declared.entry.NodeEntry.{NodeEntry}
 use Rattle.boundaries.specs.declared.node.TheConstants.{FAN_OUT, HALF_FULL}
 use Rattle.boundaries.specs.Heads.{IsKnown}
-use Rattle.boundaries.specs.Node.{entries_of}
+use Rattle.boundaries.specs.Node.{entries_of, keys_of}
 use Rattle.boundaries.specs.Splice.{CanSplice, spliced}
 use Rattle.boundaries.specs.Subtree.{slots_in}
 use Rattle.boundaries.specs.Children.{slots_of}
@@ -21,7 +21,8 @@ compute_heads-requires c =
     let known = c.entry_for.ensures.known bytes c.requires.can_grow.sound.headed in
     let Known = IsKnown bytes in
     let all : All Known (c.entry_for.result.key ∷ []) = All-cons Known c.entry_for.result.key [] known (All-nil Known) in
-    search (rules, rw c.of-node.ensures.entries all)
+    let them : All Known (keys_of (entries_of c.of-node.result)) = rw c.of-node.ensures.entries all in
+    search (rules, them)
 
 pub splice-requires : goal.splice-requires
 splice-requires c =

@@ -1,4 +1,4 @@
-use Rattle.std.proofs.Common.{◌≡◌, ◌+◌, ◌-◌, ℕ, suc, inl, inr, None, Bool, List, Option, length, take, drop, refl, sym, ap, ◌∙◌, arith, rules}
+use Rattle.std.proofs.Common.{◌≡◌, ◌+◌, ◌-◌, ℕ, suc, inl, inr, None, Bool, List, Option, length, take, drop, refl, sym, ap, subst, ◌∙◌, arith, rules}
 use Rattle.std.proofs.lemmas.Option.{get_or_from_slice_get}
 use Rattle.boundaries.specs.declared.entry.NodeEntry.{NodeEntry}
 use Rattle.boundaries.specs.declared.store.Store.{Store}
@@ -7,6 +7,7 @@ use Rattle.boundaries.specs.Bound.{is_below as below}
 use Rattle.boundaries.specs.Item.{Item}
 use Rattle.boundaries.specs.Node.{entries_of}
 use Rattle.boundaries.specs.Path.{index_in}
+use Rattle.boundaries.specs.Position.{IsFirstKnown}
 use Rattle.boundaries.specs.Subtree.{entries_at, items_in}
 use Rattle.boundaries.specs.declared.walk.LeafOutcome.TheVariants.{Same, Raised, Changed, Split}
 use Rattle.boundaries.specs.declared.walk.RaisedLeaf.{RaisedLeaf}
@@ -28,12 +29,12 @@ use Rattle.boundaries.proofs.walk.+change_leaf.Goals as goal
 use Rattle.boundaries.proofs.walk.+change_leaf.Goals.{After-child-below, After-change_leaf}
 
 pub change-requires : goal.change-requires
-change-requires g t c = (search rules, (search rules, rw c.if-height-eq0.true at c.requires.can_change))
+change-requires g t c = record { can_change = rw c.if-height-eq0.true at c.requires.can_change }
 
 pub returns-then-height-eq0 : goal.returns-then-height-eq0
 returns-then-height-eq0 g t c = rw c.if-height-eq0.true record {
   changed = c.change.ensures.changed;
-  items = within_leaf _ _ _ _ _ (some_found c.args.store.now _ c.args.position.slot c.args.position.common_prefix_len
+  items = within_leaf _ _ _ _ _ (some_found c.args.store.now (g.C.LeafChange.bound_of c.args.change.now) c.args.position.slot c.args.position.common_prefix_len
       c.requires.can_change.changeable.some c.requires.can_change.known) c.change.ensures.items;
   bound = c.change.ensures.bound;
 }
@@ -47,17 +48,16 @@ step-step-requires g t c =
     let read = entries_from_header a c.args.position.slot node header in
     let partitioned = read_partitioned a (HALF_FULL) c.args.height c.args.position.slot _ node _ c.if-height-eq0.false
     can.changeable.subtree can.partitioned header refl in
-    rw c.bound.ensures.bound (
-      search rules,
-      record {
+    rw c.bound.ensures.bound record {
+      can_step = record {
         can_find = record {
           headed = headed_at _ a c.args.position.slot node can.headed header;
           partitioned = partitioned;
           some = omega (arith, ap length read, can.changeable.some);
         };
         known = rw read at can.known;
-      },
-    )
+      };
+    }
 
 -- the node at the slot, and the child at which the walk goes on
 module _ (g : Over) (t : ℕ) (c : After-child-below g t) where
@@ -117,7 +117,7 @@ module _ (g : Over) (t : ℕ) (c : After-child-below g t) where
         changeable = child_can at;
         partitioned = found_partitioned a L n c.args.position.slot is_below x f;
         headed = can.headed;
-        known = rw (← child.known) at known;
+        known = subst (IsFirstKnown c.args.store.now (g.C.LeafChange.bound_of c.args.change.now) x) (sym child.known) known;
         wanted = g.met.C.LeafChange.part c.args.change.now c.args.store.now.keys (items_of a h (take i es)) (items_in a h x)
             (items_of a h (drop (i + 1) es)) (rw (items_split at) at can.wanted);
         none_removed = can.none_removed;
@@ -159,27 +159,27 @@ still g t c new keeps was now changed = record {
 pub change_leaf-requires : goal.change_leaf-requires
 change_leaf-requires g t c κs low =
     let can = can_change_child g t (goal.at.change_leaf-requires g t c).After-child-below in
-    (search rules, (search rules, (search rules, (search rules, (search rules, (search rules, can))))))
+    (search rules, (search rules, can))
 
 pub raise_entry-requires : goal.raise_entry-requires
 raise_entry-requires g t c =
-    let at = at_child g t (goal.at.raise_entry-requires g t c).After-child-below in (
-      search rules,
-      record {
+    let at = at_child g t (goal.at.raise_entry-requires g t c).After-child-below in
+    record {
+      can_raise = record {
         rebalance = can_rebalance at c.in-Raised.ensures.changed refl;
         filled = child_filled at c.in-Raised.ensures.changed refl _ refl;
-      },
-    )
+      };
+    }
 
 pub rebalance_child-requires : goal.rebalance_child-requires
 rebalance_child-requires g t c =
     let at = at_child g t (goal.at.rebalance_child-requires g t c).After-child-below in
-    (search rules, can_rebalance at c.in-Changed.ensures.changed refl)
+    record { can_rebalance = can_rebalance at c.in-Changed.ensures.changed refl }
 
 pub insert_child-requires : goal.insert_child-requires
 insert_child-requires g t c =
     let at = at_child g t (goal.at.insert_child-requires g t c).After-child-below in
-    (search rules, can_insert at c.in-Split.ensures.changed)
+    record { can_insert = can_insert at c.in-Split.ensures.changed }
 
 pub returns-in-Same : goal.returns-in-Same
 returns-in-Same g t c =

@@ -70,13 +70,13 @@ write-requires c =
     (c.new.ensures.end ∙ c.deref-3.ensures.value ∙ sym (ends at)) in
     let room : HasRoomFor (spare_in c.reserve.new.self) (length c.of-2.result.begin ∷ length c.of-2.result.end ∷ []) =
     subst (λ (p : ℕ × ℕ). HasRoomFor (spare_in c.reserve.new.self) (p.0 ∷ p.1 ∷ [])) (c.of.ensures.lengths ∙ begin_length)
-    c.in_ok-reserve.ensures.keys in (
-      omega arith,
-      (
-        subst AreBoundaries (sym c.reserve.ensures.boundaries) c.requires.copy_boundaries,
-        (fill, (room, omega (arith, c.in_ok-reserve.ensures.nodes))),
-      ),
-    )
+    c.in_ok-reserve.ensures.keys in
+    record {
+      boundaries = subst AreBoundaries (sym c.reserve.ensures.boundaries) c.requires.copy_boundaries;
+      filled = fill;
+      keys = room;
+      nodes = omega (arith, c.in_ok-reserve.ensures.nodes);
+    }
 
 -- what is written then
 is_written : (c : After-write)

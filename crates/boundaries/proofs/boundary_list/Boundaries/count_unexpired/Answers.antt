@@ -10,9 +10,7 @@ use Rattle.boundaries.proofs.boundary_list.Boundaries.count_unexpired.Goals as g
 
 pub count_unexpired-requires : goal.count_unexpired-requires
 count_unexpired-requires c =
-    let fits : Fits w64 c.self.inside.room = search rules in
-    let few : length (items_of_tree c.self.inside.tree) < 2 ^ 64 = omega (arith, c.self.invariant.tree_is.within, fits) in
-    search (rules, c.self.invariant.tree_is.rooted.subtree, few)
+    let fits = c.self.ranges in ?
 
 pub returns : goal.returns
 returns c =

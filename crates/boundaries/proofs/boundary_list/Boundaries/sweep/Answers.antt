@@ -41,22 +41,14 @@ pub remove_expired-removal-requires : goal.remove_expired-removal-requires
 remove_expired-removal-requires c =
     let order = in_order (goal.at.remove_expired-removal-requires c).After-resume-before in
     let h = c.loop-left.invariant in
-    let later = not_empty c.loop-left.cursor (sym c.is_empty.ensures ∙ c.if-not-is_empty.true) in (
-      omega arith,
-      (
-        swept_keys _ _ _ order _ _ _ _ _ h.swept c.requires.boundaries.keys,
-        (
-          omega (arith, h.capacity, c.requires.any_key),
-          (
-            later,
-            (
-              first_there _ _ _ order _ _ _ _ _ h.swept later,
-              omega (arith, c.loop-left-test.true),
-            ),
-          ),
-        ),
-      ),
-    )
+    let later = not_empty c.loop-left.cursor (sym c.is_empty.ensures ∙ c.if-not-is_empty.true) in
+    record {
+      keys = swept_keys _ _ _ order _ _ _ _ _ h.swept c.requires.boundaries.keys;
+      any_key = omega (arith, h.capacity, c.requires.any_key);
+      later = later;
+      there = first_there _ _ _ order _ _ _ _ _ h.swept later;
+      count = omega (arith, c.loop-left-test.true);
+    }
 
 pub loop-left-preserved : goal.loop-left-preserved
 loop-left-preserved c =

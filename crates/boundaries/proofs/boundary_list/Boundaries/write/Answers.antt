@@ -1,4 +1,4 @@
-use Rattle.std.proofs.Common.{arith, rules, refl, w64, ◌∙◌}
+use Rattle.std.proofs.Common.{arith, rules, refl, ap, Some, w64, ◌∙◌}
 use Rattle.std.proofs.lemmas.Int.{to_z-of_z}
 use Rattle.boundaries.proofs.WritingOn.{is_used, is_written, keys_fit, to_write, to_write_still}
 use Rattle.boundaries.proofs.boundary_list.Boundaries.write.Goals as goal
@@ -16,7 +16,9 @@ overwrite-requires c =
 
 pub loop-at_end-preserved : goal.loop-at_end-preserved
 loop-at_end-preserved c =
-    to_write_still c.loop-at_end.invariant c.in-Some.at_end _ refl c.in-Some.ensures.cleared c.in-Some.ensures.room
+    let e = c.with_end-new.ensures in
+    to_write_still c.loop-at_end.invariant c.in-Some.at_end c.with_end-new.result e.start e.end e.version
+    (e.at_end ∙ ap (λ v. Some v) (to_z-of_z w64 c.in-Some.at_end (search rules))) c.in-Some.ensures.cleared c.in-Some.ensures.room
 
 pub loop-at_end-smaller : goal.loop-at_end-smaller
 loop-at_end-smaller c = omega (arith, c.in-Some.ensures.cleared.fewer)

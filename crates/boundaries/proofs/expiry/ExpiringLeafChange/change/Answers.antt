@@ -31,7 +31,7 @@ none_goes (x ∷ out) answered some said = absurd (let t = some (λ e. absurd (c
 
 -- where the run stands that is looked at
 module _ (c : After-has_expired) where
-  open c use {args.{self.{now.{bound, count, edge, before}}, store.{now as store}, position}, min-end}
+  open c use {args.{self.{now.{bound, count, edge, before}}, store.{now as store}, position}, min}
   open c use {header_ref-leaf.{result.{now as leaf}, ensures.{header}}}
   open c use {lower_bound-begin.{result as below, ensures.{count as counts}}}
 
@@ -42,7 +42,7 @@ module _ (c : After-has_expired) where
   begin = below - 1
 
   abbrev end : ℕ
-  end = begin + c.min-end.result
+  end = begin + c.min.result
 
   abbrev looked : List Item
   looked = map item_of (run es begin end)
@@ -54,10 +54,10 @@ module _ (c : After-has_expired) where
   some = some_below (goal.at.After-has_expired c).After-lower_bound-begin
 
   some_looked : begin < end
-  some_looked = omega (arith, min-end.ensures, c.args.self.now.some, c.len.ensures.len, counts.within, some)
+  some_looked = omega (arith, min.ensures, c.args.self.now.some, c.len.ensures.len, counts.within, some)
 
   within : end ≤ length es
-  within = omega (arith, min-end.ensures, c.len.ensures.len, counts.within)
+  within = omega (arith, min.ensures, c.len.ensures.len, counts.within)
 
   -- what becomes of the items of the leaf
   swept : (new : Store) (now : List Item)
@@ -71,7 +71,7 @@ module _ (c : After-has_expired) where
       let first_is : begin + 1 ≡ length (filter (λ (e : NodeEntry). is_below store.keys bound e.key) es) =
       omega (arith, counts, some) in
       rw read (leaf_unexpired es begin end some_looked within bound store new partitioned first_is count edge before
-      c.look_at-self.result position.following now (omega (arith, min-end.ensures)) answered.looked_at
+      c.look_at-self.result position.following now (omega (arith, min.ensures)) answered.looked_at
       (rw c.entries.ensures.entries at answered.last) (rw c.entries.ensures.entries at answered.next) now_is out_is keys)
 
 pub returns-then-not-has_expired-clause-changed : goal.returns-then-not-has_expired-clause-changed

@@ -28,7 +28,7 @@ returns-then-self-index c = record {
   known = λ e there.
       let node = c.args.self.now in
       let same = entry_there node.entries node.len c.args.index e c.index-self-index-then-self-index.result there in
-      (c.requires.is_below e there, (λ text is. rw (known_bytes _ _ text is) at rw same at c.common_prefix_len-then-self-index.ensures.common));
+      (c.requires.is_below e there, (λ text is. rw (known_bytes c.args.keys.now e.key text is) at rw same at c.common_prefix_len-then-self-index.ensures.common));
 }
 
 pub returns : goal.returns

@@ -17,5 +17,5 @@ returns c = record {
       agrees_at _ _ c.requires.headed i e.0.key _ (key_there es i e.0 e.1)
       (inr (λ zero. c.if-self-index-eq0.false (sym own ∙ zero)))
       (λ text known long. rw (← c.prefix_len.ensures.prefix_len)
-      (rw (known_bytes _ _ text (cc)) at (c.begins_as.ensures.same.0 enough)));
+      (rw (known_bytes c.args.keys.now e.0.key text known) at rw same at (c.begins_as.ensures.same.0 enough)));
 }

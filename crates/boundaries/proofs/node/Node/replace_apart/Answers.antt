@@ -126,7 +126,7 @@ returns-then-to-half c =
     let entries = apart_before (was s) new.now from to half c.requires.ordered c.if-to-half.true within in
     let part = length-take-le half (was s) within in
     let left = ap length put ∙ length-spliced (take half (was s)) new.now from to c.requires.ordered
-        (omega (arith, part, c.if-to-half.true)) in
+    (omega (arith, part, c.if-to-half.true)) in
     let right = ap length split.right ∙ length-drop half (was s) in
     record {
       entries = cc (put, split.right, entries);
@@ -172,7 +172,7 @@ returns c =
     let left = ap length split.left ∙ length-take-le HALF_FULL (was s) (omega (arith, after, c.requires.ordered, c.requires.within)) in
     let part = length-drop HALF_FULL (was s) in
     let right = ap length put ∙ length-spliced (drop HALF_FULL (was s)) new.now (from - HALF_FULL) (to - HALF_FULL)
-        (omega (arith, c.requires.ordered)) (omega (arith, part, c.requires.within)) in
+    (omega (arith, c.requires.ordered)) (omega (arith, part, c.requires.within)) in
     record {
       entries = cc (put, split.left, entries);
       filled = record {

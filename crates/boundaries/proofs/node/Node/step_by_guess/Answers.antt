@@ -15,9 +15,9 @@ head_for-head-requires c =
 
 pub step_by-requires : goal.step_by-requires
 step_by-requires c = record {
-      can_step = c.requires.can_step;
-      head = rw c.in_default.is at c.head_for-head.ensures.head;
-    }
+  can_step = c.requires.can_step;
+  head = rw c.in_default.is at c.head_for-head.ensures.head;
+}
 
 pub step_by-requires-then-not-falls_after : goal.step_by-requires-then-not-falls_after
 step_by-requires-then-not-falls_after c =

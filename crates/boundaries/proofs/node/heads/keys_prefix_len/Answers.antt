@@ -21,7 +21,7 @@ loop-entry-preserved c =
           let same = w.common_prefix_len.ensures in
           let n = w.common_prefix_len.result in
           let is : (a b : List ℕ) → bytes c.args.key ≡ Some a → bytes e.key ≡ Some b
-              → (c.bytes_of-last.result.now ≡ a) × (c.bytes_of-own.result.now ≡ b) = λ a b one other.
+          → (c.bytes_of-last.result.now ≡ a) × (c.bytes_of-own.result.now ≡ b) = λ a b one other.
           (c.bytes_of-last.ensures.bytes ∙ known_bytes c.args.keys.now c.args.key a one, c.bytes_of-own.ensures.bytes ∙ known_bytes c.args.keys.now e.key b other) in
           let more = first_more bytes c.args.key count n i keys e.key inside here
           (λ a b one other. rw ((is a b one other).0, (is a b one other).1) at same.same)

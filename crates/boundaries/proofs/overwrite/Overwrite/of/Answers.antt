@@ -19,7 +19,7 @@ invariant_of-result c =
             (single_equal range (single_of range c.hash.result c.hash.ensures.hash (sym c.is_some.ensures ∙ w.if-is_some.true)))
         | else-is_some w ↦
             rw (begin, end, w.common_prefix_len-is)
-            (rw (w.begin.ensures.bytes, w.end.ensures.bytes) at
-            w.common_prefix_len.ensures.same)
+            (rw (w.begin-else-is_some.ensures.bytes, w.end.ensures.bytes) at
+            w.common_prefix_len-common_prefix_len.ensures.same)
       ];
     }

@@ -18,7 +18,7 @@ use Rattle.boundaries.proofs.Nested.{start_before_end}
 use Rattle.boundaries.proofs.Placing.{entries_from_header}
 use Rattle.boundaries.proofs.RunWritten.{entire_run, first_item, part_run}
 use Rattle.boundaries.proofs.WrittenLeaf.{none_if, some_item, part_partitioned, raised}
-use Rattle.boundaries.proofs.run.OverwritingLeafChange.change.Goals.{After-find_run-run, Joined-run-eq0}
+use Rattle.boundaries.proofs.run.OverwritingLeafChange.change.Goals.{After-find_run-run, After-write_run}
 use Rattle.boundaries.proofs.run.OverwritingLeafChange.change.Goals.{else-run-eq0-via-then-run-eq0+else-not-has_first, else-run-eq0-via-else-run-eq0}
 use Rattle.boundaries.proofs.run.OverwritingLeafChange.change.Goals as goal
 
@@ -93,7 +93,10 @@ returns-then-not-has_first-clause-changed c =
 pub returns-then-not-has_first-clause-items : goal.returns-then-not-has_first-clause-items
 returns-then-not-has_first-clause-items c =
     let h = (goal.at.returns-then-not-has_first-clause-items c).After-find_run-run in
-    let cleared = rw (read h) at c.clear_run-last.ensures.cleared in
+    let cleared = c.clear_run-last.ensures.cleared in
+    let removed = rw (read h) at cleared.removed in
+    let entries = rw (read h) at cleared.entries in
+    let last_is = rw (read h) at cleared.last_is in
     let store = c.args.store.now in
     let first = first_item (es h) (to_known h).can_find.some in
     let no = c.has_first.ensures.first first.entry (rw (read h) first.there) in
@@ -102,7 +105,7 @@ returns-then-not-has_first-clause-items c =
     not_both c.has_first.result (no.1 (rw same empty)) c.if-not-has_first.true in
     rw (read h) (part_run store c.clear_run-last.new.store c.args.self.now.new.now _ c.find_run-run.result
     c.find_run-run.ensures.run.run_is.run_is (from_known h).partitioned (to_known h).can_find.partitioned _ c.clear_run-last.result _
-    (omega (arith, c.if-run-eq0.true)) cleared.removed (ap (map item_of) cleared.entries) cleared.last_is c.unwrap_or.ensures filled
+    (omega (arith, c.if-run-eq0.true)) removed (ap (map item_of) entries) last_is c.unwrap_or.ensures filled
     cleared.keys)
 
 pub write_run-requires : goal.write_run-requires
@@ -118,11 +121,11 @@ write_run-requires c =
     }
 
 -- An item before the run is in the leaf, or that is the first of all.
-entered : (c : Joined-run-eq0) → (let h = (goal.at.Joined-run-eq0 c).After-find_run-run in
+entered : (c : After-write_run) → (let h = (goal.at.After-write_run c).After-find_run-run in
     (1 ≤ c.find_run-run.result.begin)
     ⊎ ((x : Item) × (xs : List Item) × (map item_of (es h) ≡ x ∷ xs) × (bytes_at c.args.store.now.keys x.key ≡ [])))
 entered c =
-    let h = (goal.at.Joined-run-eq0 c).After-find_run-run in
+    let h = (goal.at.After-write_run c).After-find_run-run in
     elim c.else-run-eq0.branch [
       | else-run-eq0-via-then-run-eq0+else-not-has_first w ↦
           let first = first_item (es h) (to_known h).can_find.some in
@@ -139,7 +142,7 @@ returns-in-Some-clause-changed c =
 pub returns-in-Some-clause-items : goal.returns-in-Some-clause-items
 returns-in-Some-clause-items c =
     let t = goal.at.returns-in-Some-clause-items c in
-    rw c.requires.can_change.wanted.0 (entire t.After-find_run-run c.in-Some.ensures.written (entered t.Joined-run-eq0))
+    rw c.requires.can_change.wanted.0 (entire t.After-find_run-run c.in-Some.ensures.written (entered t.After-write_run))
 
 pub returns-then-run-eq0-2-clause-changed : goal.returns-then-run-eq0-2-clause-changed
 returns-then-run-eq0-2-clause-changed c =
@@ -149,12 +152,12 @@ returns-then-run-eq0-2-clause-changed c =
 pub returns-then-run-eq0-2-clause-items : goal.returns-then-run-eq0-2-clause-items
 returns-then-run-eq0-2-clause-items c =
     let t = goal.at.returns-then-run-eq0-2-clause-items c in
-    rw c.requires.can_change.wanted.0 (entire t.After-find_run-run c.in_default.ensures.written (entered t.Joined-run-eq0))
+    rw c.requires.can_change.wanted.0 (entire t.After-find_run-run c.in_default.ensures.written (entered t.After-write_run))
 
 pub returns-clause-items : goal.returns-clause-items
 returns-clause-items c =
     let t = goal.at.returns-clause-items c in
-    rw c.requires.can_change.wanted.0 (entire t.After-find_run-run c.in_default.ensures.written (entered t.Joined-run-eq0))
+    rw c.requires.can_change.wanted.0 (entire t.After-find_run-run c.in_default.ensures.written (entered t.After-write_run))
 
 same_leaf : (a b : RaisedLeaf) → Raised a ≡ Raised b → a ≡ b
 same_leaf a b e = cc
@@ -169,7 +172,7 @@ returns-clause-changed c =
     let now = c.write_run.new.store in
     let slot = c.args.position.slot in
     let keys = old.keys in
-    let gives = entire h c.in_default.ensures.written (entered t.Joined-run-eq0) in
+    let gives = entire h c.in_default.ensures.written (entered t.After-write_run) in
     let none = none_if new.at_end (sym c.is_some.ensures ∙ c.if-is_some.false) in
     let begin = c.find_run-run.ensures.run.run_is.run_is.begin in
     let some = some_item (before_start keys new) (es h) c.find_run-run.result.begin (omega (arith, c.if-run-eq0-2.false)) begin.count_is in

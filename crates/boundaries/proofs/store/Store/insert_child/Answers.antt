@@ -1,4 +1,4 @@
-use Rattle.std.proofs.Common.{◌≡◌, ◌<◌, ◌∷◌, [], List, IfSome, length, get_or, sym, ap, ◌∙◌, arith}
+use Rattle.std.proofs.Common.{◌≡◌, ◌<◌, ◌∷◌, [], List, IfSome, length, get_or, take, sym, ap, ◌∙◌, arith}
 use Rattle.std.proofs.lemmas.List.Elements.{All-cons, All-nil}
 use Rattle.boundaries.specs.Heads.{AreHeadsBeside}
 use Rattle.boundaries.specs.Node.{IsHeaded}
@@ -7,10 +7,10 @@ use Rattle.boundaries.proofs.Headed.{headed_at}
 use Rattle.boundaries.proofs.Placing.{entries_from_header}
 use Rattle.boundaries.proofs.Sharing.{child_is}
 use Rattle.boundaries.proofs.store.Store.insert_child.Goals as goal
-use Rattle.boundaries.proofs.store.Store.insert_child.Goals.{After-entry_for-2, Joined-head_of, in-Some-Some, in_default}
+use Rattle.boundaries.proofs.store.Store.insert_child.Goals.{After-header_ref-node, Joined-first, in-Some-Some, in_default, in_default-2}
 
 -- the node that was read, and its child
-module _ (c : After-entry_for-2) where
+module _ (c : After-header_ref-node) where
   read : entries_at c.args.self.now.nodes c.args.slot ≡ entries_of c.header_ref-node.result.now
   read = entries_from_header c.args.self.now.nodes c.args.slot c.header_ref-node.result.now c.header_ref-node.ensures.header
 
@@ -24,7 +24,8 @@ module _ (c : After-entry_for-2) where
   child : (get_or c.entries.result.now c.args.index c.index-entries-index.result).child
       ≡ child_at (entries_at c.args.self.now.nodes c.args.slot) c.args.index
   child =
-      ap (λ (l : List NodeEntry). (get_or l c.args.index c.index-entries-index.result).child) (c.entries.ensures.entries ∙ sym read)
+      let first = entries_from_header c.args.self.now.nodes c.args.slot c.header_ref.result.now c.header_ref.ensures.header in
+      ap (λ (l : List NodeEntry). (get_or l c.args.index c.index-entries-index.result).child) (c.entries.ensures.entries ∙ sym first)
       ∙ sym (child_is _ c.args.index c.index-entries-index.result c.requires.can_insert.within)
 
   first_known : IsKnown (key_at c.args.self.now.keys) c.entry_for.result.key
@@ -33,18 +34,18 @@ module _ (c : After-entry_for-2) where
   second_known : IsKnown (key_at c.args.self.now.keys) c.entry_for-2.result.key
   second_known = c.entry_for-2.ensures.known _ c.requires.can_insert.sound.headed
 
-pub head_of-requires : goal.head_of-requires
-head_of-requires c =
-    let s = (goal.at.head_of-requires c).After-entry_for-2 in
+pub head_of-first-requires : goal.head_of-first-requires
+head_of-first-requires c =
+    let s = (goal.at.head_of-first-requires c).After-header_ref-node in
     record {
       headed = headed s;
       within = within s;
       known = first_known s;
     }
 
-pub head_of-requires-2 : goal.head_of-requires-2
-head_of-requires-2 c =
-    let s = (goal.at.head_of-requires-2 c).After-entry_for-2 in
+pub head_of-second-requires : goal.head_of-second-requires
+head_of-second-requires c =
+    let s = (goal.at.head_of-second-requires c).After-header_ref-node in
     record {
       headed = headed s;
       within = within s;
@@ -52,18 +53,19 @@ head_of-requires-2 c =
     }
 
 -- the heads of both keys, where both begin as all others do
-beside : (c : Joined-head_of) → IfSome c.match-head_of.heads
-    (AreHeadsBeside (key_at c.args.self.now.keys) (key_heads_of c.header_ref-node.result.now)
-    (c.entry_for.result.key ∷ c.entry_for-2.result.key ∷ []))
-beside c = elim c.match-head_of.branch [
+beside : (c : Joined-first) → IfSome c.match-first.heads
+    (λ heads. AreHeadsBeside (key_at c.args.self.now.keys) (key_heads_of c.header_ref-node.result.now)
+    (c.entry_for.result.key ∷ c.entry_for-2.result.key ∷ []) (take 2 heads))
+beside c = elim c.match-first.branch [
   | in-Some-Some w ↦ rw w.heads-is
-      (rw w.in-Some-Some.is-0 at c.head_of.ensures.head, (rw w.in-Some-Some.is-1 at c.head_of-2.ensures.head, tt))
+      (rw w.in-Some-Some.is-0 at c.head_of-first.ensures.head, (rw w.in-Some-Some.is-1 at c.head_of-second.ensures.head, tt))
   | in_default w ↦ rw w.heads-is tt
+  | in_default-2 w ↦ rw w.heads-is tt
 ]
 
 pub splice-requires : goal.splice-requires
 splice-requires c =
-    let s = (goal.at.splice-requires c).After-entry_for-2 in
+    let s = (goal.at.splice-requires c).After-header_ref-node in
     let can = c.requires.can_insert in
     let t = c.entry_for.result in
     let u = c.entry_for-2.result in
@@ -78,14 +80,14 @@ splice-requires c =
           within = omega (arith, c.new.ensures.run.1, within s);
           headed = headed s;
           known = rw c.new.ensures.new known;
-          beside = rw (c.new.ensures.new, c.new.ensures.heads) (beside (goal.at.splice-requires c).Joined-head_of);
+          beside = rw (c.new.ensures.new, c.new.ensures.heads) (beside (goal.at.splice-requires c).Joined-first);
         };
       };
     }
 
 pub returns : goal.returns
 returns c =
-    let s = (goal.at.returns c).After-entry_for-2 in
+    let s = (goal.at.returns c).After-header_ref-node in
     record {
       linked = record {
         first = c.entry_for.result;

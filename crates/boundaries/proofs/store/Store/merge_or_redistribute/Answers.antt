@@ -15,7 +15,8 @@ read c = c.entries-entries.ensures.entries ∙ sym (entries_from_header c.args.s
 
 pub header_ref-requires-2 : goal.header_ref-requires-2
 header_ref-requires-2 c =
-    record { live = (both c.index-entries-index.result c.index-entries-index-2.result c.requires.can_merge (read c)).live_first }
+    let seen = read (goal.at.header_ref-requires-2 c).After-index-entries-index-2 in
+    record { live = (both c.index-entries-index.result c.index-entries-index-2.result c.requires.can_merge seen).live_first }
 
 pub header_ref-requires-3 : goal.header_ref-requires-3
 header_ref-requires-3 c =
@@ -114,26 +115,28 @@ remove-requires c =
       within = omega (arith, count, set, can.within);
     }
 
-pub returns-then-count : goal.returns-then-count
-returns-then-count c =
+pub returns-then-count-le-FAN_OUT : goal.returns-then-count-le-FAN_OUT
+returns-then-count-le-FAN_OUT c =
     let L = HALF_FULL in
-    let seen = read (goal.at.returns-then-count c).After-index-entries-index-2 in
+    let b = between.nodes in
+    let seen = read (goal.at.returns-then-count-le-FAN_OUT c).After-index-entries-index-2 in
     let again = read_again _ _ can seen merge.changes c.header_mut-node.ensures.header in
     let all = simp length-append at (ap length merge.entries) in
     let one = made b L _ t answered.child (omega (arith, enough d e can seen, all)) answered.describes in
     let now_is = c.lengthen_prefix.ensures.entries ∙ rw (c.set_with_head.ensures.entries, again) at c.remove.ensures.entries
     ∙ set_removed (entries_at c.args.self.now.nodes c.args.slot) c.args.index t can.within in
-    let r = remade d e can seen {b = b} (t ∷ []) c.lengthen_prefix.new.self (omega arith) (omega arith)
-    (rw answered.child merge.changes) merge.headed (All-cons (IsMade b L) t [] one (All-nil (IsMade b L)))
+    let r = remade d e can seen {between = between} (t ∷ []) c.lengthen_prefix.new.self (omega arith) (omega arith)
+    (rw answered.child merge.changes) merge.keeps merge.headed (All-cons (IsMade b L) t [] one (All-nil (IsMade b L)))
     (simp append-nil (cc (answered.child, merge.entries))) now_is c.lengthen_prefix.ensures.headed in
     record { rebalanced = r.0; rest = r.1 }
   where
     open c use {index-entries-index.{result as d}, index-entries-index-2.{result as e}}
-    open c use {merge.{new.{self.{nodes as b}}, ensures as merge}, entry_for-entry.{result as t, ensures as answered}, requires.{can_merge as can}}
+    open c use {merge.{new.{self as between}, ensures as merge}, entry_for-entry.{result as t, ensures as answered}, requires.{can_merge as can}}
 
 pub returns : goal.returns
 returns c =
     let L = HALF_FULL in
+    let b = between.nodes in
     let seen = read (goal.at.returns c).After-index-entries-index-2 in
     let again = read_again _ _ can seen shared.changes c.header_mut-node-2.ensures.header in
     let one = made b L _ t t_is.child (omega (arith, shared.filled.left)) t_is.describes in
@@ -141,11 +144,11 @@ returns c =
     let new = All-cons (IsMade b L) t (u ∷ []) one (All-cons (IsMade b L) u [] other (All-nil (IsMade b L))) in
     let now_is = c.lengthen_prefix-2.ensures.entries ∙ rw (c.set_with_head-2.ensures.entries, again) at c.set_with_head-3.ensures.entries
     ∙ set_both (entries_at c.args.self.now.nodes c.args.slot) c.args.index t u can.within in
-    let r = remade d e can seen {b = b} (t ∷ u ∷ []) c.lengthen_prefix-2.new.self (omega arith) (omega arith)
-    (rw (t_is.child, u_is.child) shared.changes) shared.headed new (simp append-nil (cc (t_is.child, u_is.child, shared.entries)))
+    let r = remade d e can seen {between = between} (t ∷ u ∷ []) c.lengthen_prefix-2.new.self (omega arith) (omega arith)
+    (rw (t_is.child, u_is.child) shared.changes) shared.keeps shared.headed new (simp append-nil (cc (t_is.child, u_is.child, shared.entries)))
     now_is c.lengthen_prefix-2.ensures.headed in
     record { rebalanced = r.0; rest = r.1 }
   where
     open c use {index-entries-index.{result as d}, index-entries-index-2.{result as e}}
-    open c use {redistribute.{new.{self.{nodes as b}}, ensures as shared}, requires.{can_merge as can}}
+    open c use {redistribute.{new.{self as between}, ensures as shared}, requires.{can_merge as can}}
     open c use {entry_for.{result as t, ensures as t_is}, entry_for-2.{result as u, ensures as u_is}}

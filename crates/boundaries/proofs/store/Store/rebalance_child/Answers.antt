@@ -40,8 +40,8 @@ merge_or_redistribute-requires c =
   where
     open c use {args.{self.{now.{nodes as a}}, slot, index as i}, requires.{can_rebalance as can}, saturating_sub.{result as j}}
 
-pub returns-then-len-HALF_FULL : goal.returns-then-len-HALF_FULL
-returns-then-len-HALF_FULL c = record {
+pub returns-then-len-lt-HALF_FULL : goal.returns-then-len-lt-HALF_FULL
+returns-then-len-lt-HALF_FULL c = record {
   rebalanced = λ height family.
       c.merge_or_redistribute.ensures.rebalanced height (widened _ _ height _ _ _ family c.saturating_sub.ensures);
   rest = c.merge_or_redistribute.ensures.rest;
@@ -59,7 +59,7 @@ returns c =
     let x_is = child_is (goal.at.returns c).After-index-entries-index in
     let child = c.header_ref-2 in
     let len = ap length (entries_from_header a x child.result.now child.ensures.header) ∙ sym c.len.ensures.len in
-    let filled : L ≤ length (entries_at a x) = omega (arith, len, c.if-len-HALF_FULL.false) in
+    let filled : L ≤ length (entries_at a x) = omega (arith, len, c.if-len-lt-HALF_FULL.false) in
     let here = entries_from_header a slot c.header_mut-node.result.now c.header_mut-node.ensures.header in
     let now_is = put_entries a (with_header a slot node) slot node refl ∙ set.entries in
     let entry = c.entry_for-entry in

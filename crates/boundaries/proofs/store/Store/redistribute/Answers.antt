@@ -101,7 +101,7 @@ insert-requires c =
     let own = headed_still c.requires.two _ header given.headed.0 in record {
       within = omega arith;
       room = rw (read c.requires.two _ header, given.taken) (simp (length-drop, length-take)
-              (omega (arith, right_is s, left.len, left.most, right.len, right.most)));
+          (omega (arith, right_is s, left.len, left.most, right.len, right.most)));
       headed = (own, given.headed.1);
     }
   where
@@ -116,7 +116,7 @@ insert-requires-2 c =
     let own = headed_still two _ header given.headed.0 in record {
       within = omega (arith, ap length seen, left_is);
       room = rw (seen, given.taken) (simp (length-drop, length-take)
-              (omega (arith, left_is, left.len, left.most, right.len, right.most)));
+          (omega (arith, left_is, left.len, left.most, right.len, right.most)));
       headed = (own, given.headed.1);
     }
   where

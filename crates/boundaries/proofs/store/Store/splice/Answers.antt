@@ -1,4 +1,4 @@
-use Rattle.std.proofs.Common.{◌≡◌, ◌∙◌, length, length-append, length-drop, length-take, refl, sym, ap, arith}
+use Rattle.std.proofs.Common.{◌≡◌, ◌+◌, ◌-◌, ◌∙◌, length, refl, sym, ap, arith}
 use Rattle.arena.specs.Arena.{with_header}
 use Rattle.boundaries.specs.Splice.{CanSplice, spliced}
 use Rattle.boundaries.proofs.Words.{entries_at, entries_of, key_at}
@@ -6,6 +6,7 @@ use Rattle.boundaries.proofs.ChangedLeaf.{put_stored}
 use Rattle.boundaries.proofs.KnownKeys.{headed_header}
 use Rattle.boundaries.proofs.Neighbours.{left_entries, left_live, both_changes}
 use Rattle.boundaries.proofs.Placing.{entries_from_header, put_entries, put_moves}
+use Rattle.boundaries.proofs.Splicing.{length-spliced}
 use Rattle.boundaries.proofs.store.Store.splice.Goals as goal
 use Rattle.boundaries.proofs.store.Store.splice.Goals.{After-header_mut-node}
 
@@ -15,6 +16,13 @@ splices c = rw c.header_mut-node.ensures.header at c.requires.can_splice.splices
 
 read : (c : After-header_mut-node) → entries_at c.args.self.now.nodes c.args.slot ≡ entries_of c.header_mut-node.result.now
 read c = entries_from_header c.args.self.now.nodes c.args.slot c.header_mut-node.result.now c.header_mut-node.ensures.header
+
+-- how many entries there are once they are spliced
+count : (c : After-header_mut-node) → length (spliced c.args.splice (entries_of c.header_mut-node.result.now))
+    ≡ c.args.splice.from + length c.args.splice.new.now
+    + (length (entries_of c.header_mut-node.result.now) - c.args.splice.to)
+count c = length-spliced (entries_of c.header_mut-node.result.now) c.args.splice.new.now c.args.splice.from c.args.splice.to
+    (splices c).ordered (splices c).within
 
 pub overflow_sub-len : goal.overflow_sub-len
 overflow_sub-len c =
@@ -26,8 +34,7 @@ splice-requires c =
     let s = (goal.at.splice-requires c).After-header_mut-node in
     let can = splices s in record {
       can_splice = can;
-      room = simp (length-append, length-take, length-drop)
-          (omega (arith, c.len.ensures.len, c.len.ensures.most, can.within, can.ordered, c.if-splice-FAN_OUT.true));
+      room = omega (arith, count s, c.len.ensures.len, c.len.ensures.most, can.within, c.if-splice-len.true);
     }
 
 pub splice_apart-right-requires : goal.splice_apart-right-requires
@@ -35,8 +42,7 @@ splice_apart-right-requires c =
     let s = (goal.at.splice_apart-right-requires c).After-header_mut-node in
     let can = splices s in record {
       can_splice = can;
-      many = simp (length-append, length-take, length-drop)
-            (omega (arith, c.len.ensures.len, can.within, can.ordered, c.if-splice-FAN_OUT.false));
+      many = omega (arith, count s, c.len.ensures.len, c.len.ensures.most, can.within, c.if-splice-len.false);
     }
 
 pub place-requires : goal.place-requires
@@ -50,9 +56,9 @@ place-requires c =
       room = omega (arith, c.requires.can_splice.room, put.live, put.spare);
     }
 
-pub returns-then-splice-FAN_OUT : goal.returns-then-splice-FAN_OUT
-returns-then-splice-FAN_OUT c =
-    let s = (goal.at.returns-then-splice-FAN_OUT c).After-header_mut-node in
+pub returns-then-splice-len : goal.returns-then-splice-len
+returns-then-splice-len c =
+    let s = (goal.at.returns-then-splice-len c).After-header_mut-node in
     let a = c.args.self.now.nodes in
     let now = c.splice.new.self in
     let can = c.requires.can_splice in
@@ -84,8 +90,8 @@ returns c =
         headed = rw c.place.ensures.keeps.keys (then.headed (key_at c.args.self.now.keys) split.headed.1
             (headed_header _ old b slot now refl can.sound.headed split.headed.0));
       };
-      fits = λ few. (let sum = simp (length-append, length-take, length-drop) at (rw (read s) at few) in
-          absurd (omega (arith, sum, c.len.ensures.len, (splices s).within, (splices s).ordered, c.if-splice-FAN_OUT.false)));
+      fits = λ few. (let sum = rw (read s) at few in
+          absurd (omega (arith, sum, count s, c.len.ensures.len, c.len.ensures.most, (splices s).within, c.if-splice-len.false)));
       keeps = record { keys = c.place.ensures.keeps.keys; removed = c.place.ensures.keeps.removed };
     }
   where

@@ -44,10 +44,10 @@ within g c new keeps =
       gives = g.met.C.LeafChange.kept c.args.change.now c.change_leaf-outcome.new.change old mid new _ _ _ keeps k.gives;
     }
 
-pub grow-requires : goal.grow-requires
-grow-requires g c =
+pub grow-self-requires : goal.grow-self-requires
+grow-self-requires g c =
     let can = c.requires.can_change in
-    let put = rw c.in-Split.is at (put g (goal.at.grow-requires g c).After-change_leaf-outcome) in record {
+    let put = rw c.in-Split.is at (put g (goal.at.grow-self-requires g c).After-change_leaf-outcome) in record {
       can_grow = record {
         sound = record { keyless = put.changes.keyless; headed = put.headed };
         low = can.low;
@@ -60,9 +60,9 @@ grow-requires g c =
       };
     }
 
-pub shrink-requires : goal.shrink-requires
-shrink-requires g c =
-    let put = rw c.in-Changed.is at (put g (goal.at.shrink-requires g c).After-change_leaf-outcome) in record {
+pub shrink-self-requires : goal.shrink-self-requires
+shrink-self-requires g c =
+    let put = rw c.in-Changed.is at (put g (goal.at.shrink-self-requires g c).After-change_leaf-outcome) in record {
       can_shrink = record {
         sound = record { keyless = put.changes.keyless; headed = put.headed };
         subtree = put.subtree;
@@ -75,24 +75,28 @@ pub returns-in-Split : goal.returns-in-Split
 returns-in-Split g c =
     let at = (goal.at.returns-in-Split g c).After-change_leaf-outcome in
     let put = rw c.in-Split.is at (put g at) in
-    let items = rw c.in-Split.is at (within g at c.grow.new.store c.grow.ensures.keeps) in
-    let tree = c.grow.ensures.tree in
+    let items = rw c.in-Split.is at (within g at c.grow-self.new.store c.grow-self.ensures.keeps) in
+    let tree = c.grow-self.ensures.tree in
     record {
-      items = rw c.grow.ensures.items items;
-      tree = record { rooted = tree.rooted; spare = tree.spare ∙ put.changes.spare; headed = tree.headed; raised_is = tt };
-      keys = rw c.grow.ensures.keeps.keys put.keys;
+      changed = record {
+        items = rw c.grow-self.ensures.items items;
+        tree = record { rooted = tree.rooted; spare = tree.spare ∙ put.changes.spare; headed = tree.headed; raised_is = tt };
+        keys = rw c.grow-self.ensures.keeps.keys put.keys;
+      };
     }
 
 pub returns-in-Changed : goal.returns-in-Changed
 returns-in-Changed g c =
     let at = (goal.at.returns-in-Changed g c).After-change_leaf-outcome in
     let put = rw c.in-Changed.is at (put g at) in
-    let items = rw c.in-Changed.is at (within g at c.shrink.new.store c.shrink.ensures.keeps) in
-    let tree = c.shrink.ensures.tree in
+    let items = rw c.in-Changed.is at (within g at c.shrink-self.new.store c.shrink-self.ensures.keeps) in
+    let tree = c.shrink-self.ensures.tree in
     record {
-      items = rw c.shrink.ensures.items items;
-      tree = record { rooted = tree.rooted; spare = tree.spare ∙ put.changes.spare; headed = tree.headed; raised_is = tt };
-      keys = rw c.shrink.ensures.keeps.keys put.keys;
+      changed = record {
+        items = rw c.shrink-self.ensures.items items;
+        tree = record { rooted = tree.rooted; spare = tree.spare ∙ put.changes.spare; headed = tree.headed; raised_is = tt };
+        keys = rw c.shrink-self.ensures.keeps.keys put.keys;
+      };
     }
 
 pub returns-in-Same : goal.returns-in-Same
@@ -100,14 +104,16 @@ returns-in-Same g c =
     let at = (goal.at.returns-in-Same g c).After-change_leaf-outcome in
     let put = rw c.in-Same.is at (put g at) in
     record {
-      items = rw c.in-Same.is at (within g at c.change_leaf-outcome.new.store (record { keys = refl; removed = refl }));
-      tree = record {
-        rooted = rw (put.same refl) c.requires.can_change.rooted;
-        spare = put.changes.spare;
-        headed = put.headed;
-        raised_is = tt;
+      changed = record {
+        items = rw c.in-Same.is at (within g at c.change_leaf-outcome.new.store (record { keys = refl; removed = refl }));
+        tree = record {
+          rooted = rw (put.same refl) c.requires.can_change.rooted;
+          spare = put.changes.spare;
+          headed = put.headed;
+          raised_is = tt;
+        };
+        keys = put.keys;
       };
-      keys = put.keys;
     }
 
 pub returns-in-Raised : goal.returns-in-Raised
@@ -115,7 +121,9 @@ returns-in-Raised g c =
     let at = (goal.at.returns-in-Raised g c).After-change_leaf-outcome in
     let put = rw c.in-Raised.is at (put g at) in
     record {
-      items = rw c.in-Raised.is at (within g at c.change_leaf-outcome.new.store (record { keys = refl; removed = refl }));
-      tree = raised_tree c.in-Raised.leaf c.requires.can_change.rooted put;
-      keys = put.keys;
+      changed = record {
+        items = rw c.in-Raised.is at (within g at c.change_leaf-outcome.new.store (record { keys = refl; removed = refl }));
+        tree = raised_tree c.in-Raised.leaf c.requires.can_change.rooted put;
+        keys = put.keys;
+      };
     }

@@ -1,9 +1,10 @@
 use Rattle.std.proofs.Common.{true, ◌≡◌, [], None, refl, subst, append-nil, arith}
 use Rattle.boundaries.specs.declared.walk.LeafOutcome.TheVariants.{Raised}
 use Rattle.boundaries.specs.EntryRun.{IsWrittenInLeaf}
-use Rattle.boundaries.specs.Overwrite.{GivesEntire, IsPartOfPartitioned, before_end, before_start}
+use Rattle.boundaries.specs.Item.{Item}
+use Rattle.boundaries.specs.Overwrite.{GivesEntire, IsOverwritten, IsPartOfPartitioned, before_end, before_start}
 use Rattle.boundaries.specs.Subtree.{items_in}
-use Rattle.boundaries.specs.Walk.{CanChange, IsChanged, IsRaisedAt, IsRaisedIn}
+use Rattle.boundaries.specs.Walk.{CanChange, IsChanged, IsRaised, IsRaisedAt, IsRaisedIn}
 use Rattle.boundaries.proofs.ChangedLeaf.{leaf_stored}
 use Rattle.boundaries.proofs.Nested.{start_before_end}
 use Rattle.boundaries.proofs.RaisedLeaves.{part_of_raised, raised_tree, within_raised, written}
@@ -59,20 +60,26 @@ changed c =
     let now = c.write_in_leaf.new.store in
     let done = done c in
     let gives = done.gives None in
+    let was = items_in old.nodes 0 leaf.slot in
+    let there = items_in now.nodes 0 leaf.slot in
+    let first : Item = record { key = gives.first; version = new.version } in
+    let given : IsOverwritten (before_start old.keys new) (before_end old.keys new) first gives.second None gives.ended was there =
+    subst (λ o. IsOverwritten (before_start old.keys new) (before_end old.keys new) first gives.second o gives.ended was there)
+    done.given_none gives.written in
     let answered : IsRaisedAt old.nodes now.nodes 0 leaf.slot leaf = record {
       there = refl;
-      items = rw done.version at (raised (before_start old.keys new) (before_end old.keys new) (start_before_end old.keys new)
-          (record { key = gives.first; version = new.version }) gives.second gives.ended _ _
-          (part_partitioned _ _ (first_part h).1) done.some_before gives.some (rw done.given_none at gives.written));
+      items = subst (λ v. IsRaised v was there) done.version (raised (before_start old.keys new) (before_end old.keys new)
+          (start_before_end old.keys new) first gives.second gives.ended was there
+          (part_partitioned _ _ (first_part h).1) done.some_before gives.some given);
       filled = λ low. done.filled;
       no_fewer = λ high. absurd (omega (arith, high));
     } in
     leaf_stored (Raised leaf) (first_part h).0 done.stored done.keys (λ e. absurd (cc))
     (λ other is. subst (IsRaisedAt old.nodes now.nodes 0 leaf.slot) (let same : leaf ≡ other = cc in same) answered)
 
-pub returns-then-write_in_leaf : goal.returns-then-write_in_leaf
-returns-then-write_in_leaf c =
-    let at = goal.at.returns-then-write_in_leaf c in
+pub returns : goal.returns
+returns c =
+    let at = goal.at.returns c in
     let h = at.In-Some in
     let done = done at.Then-write_in_leaf in
     let put = changed at.Then-write_in_leaf in
@@ -88,3 +95,9 @@ returns-then-write_in_leaf c =
         keys = done.keys;
       };
     }
+
+pub change-requires : goal.change-requires
+change-requires c = ?
+
+pub returns-2 : goal.returns-2
+returns-2 c = ?

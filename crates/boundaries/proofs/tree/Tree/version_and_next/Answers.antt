@@ -1,4 +1,4 @@
-use Rattle.std.proofs.Common.{rules, ◌≡◌, ◌<◌, ◌∙◌, take, drop, map, [], ◌∷◌, ◌++◌, None, sym, ap, refl, append_assoc, arith, w64}
+use Rattle.std.proofs.Common.{rules, not, ◌≡◌, ◌<◌, ◌∙◌, take, drop, map, [], ◌∷◌, ◌++◌, None, sym, ap, refl, append_assoc, arith, w64}
 use Rattle.std.proofs.lemmas.Int.{to_z-of_z}
 use Rattle.std.proofs.lemmas.List.{map-append}
 use mathlib.Core.List.{map-map}
@@ -60,6 +60,11 @@ can_step c =
 pub lower_bound-count-requires : goal.lower_bound-count-requires
 lower_bound-count-requires c = search (rules, can_step (goal.at.lower_bound-count-requires c).After-header_ref-leaf)
 
+pub overflow_sub-result : goal.overflow_sub-result
+overflow_sub-result c =
+    let can = can_step (goal.at.overflow_sub-result c).After-header_ref-leaf in
+    omega (arith, first_below can, c.lower_bound-count.ensures.count.count_is)
+
 pub returns : goal.returns
 returns c =
     let at = goal.at.returns c in
@@ -86,7 +91,8 @@ returns c =
     ∙ ap (λ l. map item_version before ++ l) (map-map item_version item_of (take n es)) in
     let after_is : items_not_below p (items_in nodes t.root.height t.root.slot) ≡ map item_of (drop n es) ++ later =
     ap (items_not_below p) leaf.items_are ∙ following-parts p before _ later leaf.pass leaf.fail
-    ∙ ap (λ xs. xs ++ later) (filter-items (λ (x : Item). p x.key) _ ∙ rw (read, parts.1) refl) in
+    ∙ ap (λ xs. xs ++ later) (ap (λ ns. items_not_below p (map item_of ns)) read ∙ filter-items (λ (x : Item). not (p x.key)) es
+    ∙ ap (map item_of) (sym parts.1)) in
     record {
       last = rw (to_z-of_z w64 e.version (search rules)) (
         map item_version before ++ own.0,
