@@ -235,7 +235,7 @@ module _ (old mid : Store) (new : Overwrite) (was now : List Item) (stored : Are
           placed.live placed.distinct placed.counted gone (subst AreInOrder (sym entire_boundaries) in_order)
         where
           in_order : AreInOrder (overwritten new w bs)
-                    in_order = written_in_order (range_of new) (not_empty new) new.version w bs stored.in_order
+          in_order = written_in_order (range_of new) (not_empty new) new.version w bs stored.in_order
 
       pub entire_record : (s : ℕ) → 1 ≤ times s (slots_of now) → record_at final s ≡ record_at mid.keys s
       entire_record =
@@ -294,7 +294,7 @@ module _ (old mid : Store) (new : Overwrite) (was now : List Item) (stored : Are
       none_fresh = All-nil (λ (x : Item). record_at old.keys x.key ≡ None)
 
       part_left : boundaries_in final now ≡ left (range_of new) (not_empty new) bs stored.in_order kept out inside_is
-            part_left =
+      part_left =
           ap (boundaries_in final) left_are
           ∙ around_added old.keys old.keys final was ((front ++ h.kept) ++ rest) h.run [] stored
           (subst (λ xs. AreParted was xs h.run) left_are part_parts) (λ s live. refl) released none_fresh (front ++ h.kept) rest refl
@@ -313,7 +313,7 @@ module _ (old mid : Store) (new : Overwrite) (was now : List Item) (stored : Are
 
       -- the range can be written then as before, with the version that they tell for its end
       pub part_written : overwritten new at_end (boundaries_in final now) ≡ overwritten new (version_at_end new bs) bs
-            part_written =
+      part_written =
           ap (overwritten new at_end) part_left
           ∙ left_written (range_of new) (not_empty new) bs stored.in_order kept out inside_is new.version at_end
           (version_at_end new bs) (λ gap. h.at_end_is ∙ ap (unwrap_or new.at_end) (last_value gap))

@@ -126,6 +126,7 @@ stored_again old mid store room s same none new kept records some within =
       tree_is = rw same t;
       raised = rw same new.raised_is;
       none_removed = none;
+      few = s.few;
     }
 
 -- what the release of the removed keys does
@@ -241,14 +242,15 @@ stored_one tree store slot key version store_is root_is raised none items empty 
       tree_is = rw (items_are, store_is, root_is) rooted;
       raised = rw raised tt;
       none_removed = rw store_is none;
+      few = omega arith;
     }
 
 -- the same boundaries, with memory for more
 pub stored_with : (tree : Tree) (store : Store) (room more : ℕ) → AreStored tree room → store.keys.records ≡ tree.store.keys.records
     → store.nodes.records ≡ tree.store.nodes.records → store.removed.items ≡ [] → room ≤ more
     → more + (HALF_FULL - 1) * LONGEST_PATH ≤ (HALF_FULL - 1) * (finite.len tree.store.nodes.records + spare_of store.nodes 0)
-    → AreStored (record tree { store = store }) more
-stored_with tree store room more s keys nodes none wider enough =
+    → more < 2 ^ 64 → AreStored (record tree { store = store }) more
+stored_with tree store room more s keys nodes none wider enough few =
     let a = tree.store.nodes in
     let b = store.nodes in
     let agree : Agree a b (slots_in a tree.root.height tree.root.slot) = λ k some. rw nodes refl in
@@ -262,6 +264,7 @@ stored_with tree store room more s keys nodes none wider enough =
       tree_is = rw items (tree_stays a b tree.root.slot tree.root.height _ room more nodes s.tree_is wider enough);
       raised = raised_stays a b tree.root.slot tree.root.height tree.raised nodes s.raised;
       none_removed = none;
+      few = few;
     }
 
 -- what is told where a call went well
@@ -278,16 +281,16 @@ module _ (tree : Tree) (store : Store) (room : ℕ) (s : AreStored tree room) (k
           ≤ finite.len tree.store.nodes.records + spare_of store.nodes 0 =
       omega (arith, kept) in
       stored_with tree store room room s keys nodes none (omega arith)
-      (omega (arith, mul-le-mul_left (HALF_FULL - 1) more, s.tree_is.reserved))
+      (omega (arith, mul-le-mul_left (HALF_FULL - 1) more, s.tree_is.reserved)) s.few
 
   -- with nodes for more boundaries
-  pub stored_wider : (more : ℕ) → room ≤ more
+  pub stored_wider : (more : ℕ) → room ≤ more → more < 2 ^ 64
       → more / (HALF_FULL - 1) + LONGEST_PATH + 1 ≤ finite.len tree.store.nodes.records + spare_of store.nodes 0
       → AreStored (record tree { store = store }) more
-  stored_wider more wider enough =
+  stored_wider more wider few enough =
       let total = finite.len tree.store.nodes.records + spare_of store.nodes 0 in
       stored_with tree store room more s keys nodes none wider
-      (enough_nodes (HALF_FULL - 1) more total (omega arith) (omega (arith, enough)))
+      (enough_nodes (HALF_FULL - 1) more total (omega arith) (omega (arith, enough))) few
 
 module _ (old mid : Tree) (new : Overwrite) {room : ℕ} (s : AreStored old room) where
   -- What is removed may be released.

@@ -1,5 +1,5 @@
 -- How boundaries are stored: their versions in a tree of items, and their keys in an arena. This project's own.
-use Rattle.std.specs.Prelude.{◌≡◌, ◌≤◌, ◌+◌, ℕ, ℤ, List, [], ◌∷◌, length, map, nat_eq, slice_index, unwrap_or}
+use Rattle.std.specs.Prelude.{◌≡◌, ◌≤◌, ◌<◌, ◌+◌, ◌^◌, ℕ, ℤ, List, [], ◌∷◌, length, map, nat_eq, slice_index, unwrap_or}
 use Rattle.std.specs.List.{All, IsDistinct, flat_map}
 use Rattle.std.specs.FinMap as finite
 use Rattle.arena.specs.Arena.{IsLive, wanted_of}
@@ -52,6 +52,7 @@ pub record AreStored (tree : Tree) (room : ℕ) : Type 0 where
   pub tree_is : IsTree tree.store.nodes tree.root.slot tree.root.height (length (items_of_tree tree)) room
   pub raised : IsRaisedInTree tree.store.nodes tree.root.slot tree.root.height tree.raised
   pub none_removed : tree.store.removed.items ≡ []
+  pub few : room < 2 ^ 64
 
 -- the version at the end of what is written
 abbrev pub version_at_end : Overwrite → List Boundary → ℤ

@@ -2,7 +2,7 @@ use Rattle.std.proofs.Common.{◌≡◌, ◌∙◌, inl, ap, sym, [], None, ◌+
 use Rattle.std.proofs.lemmas.Int.{ints}
 use Rattle.std.proofs.lemmas.List.{length-drop, length-map, length-take-le}
 use Rattle.boundaries.specs.declared.node.Node.{Node}
-use Rattle.boundaries.specs.EntryRun.{IsRunWritten}
+use Rattle.boundaries.specs.EntryRun.{IsFoundRun, IsRunWritten}
 use Rattle.boundaries.specs.Item.{item_of}
 use Rattle.boundaries.specs.Items.{ended_by}
 use Rattle.boundaries.specs.Node.{entries_of}
@@ -18,7 +18,10 @@ use Rattle.boundaries.proofs.remembered.write_in_leaf.Goals as goal
 
 -- the leaf, and the run in it
 module _ (c : In-Some) where
-  open c use {args.{store.{now as store}, leaf.{slot}, new.{now as new}}, requires.{can_write}, in-Some.{run' as run, ensures.{run as found}}}
+  open c use {args.{store.{now as store}, leaf.{slot}, new.{now as new}}, requires.{can_write}, in-Some.{run' as run}}
+
+  abbrev found : IsFoundRun store slot new run
+  found = c.in-Some.ensures.run
 
   abbrev node : Node
   node = found.run_is.leaf

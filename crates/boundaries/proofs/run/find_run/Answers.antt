@@ -1,4 +1,4 @@
-use Rattle.std.proofs.Common.{rules, ◌≡◌, Bool, false, sym, drop, map, arith}
+use Rattle.std.proofs.Common.{rules, ◌≡◌, ◌∙◌, Bool, false, ap, sym, drop, map, arith}
 use Rattle.boundaries.specs.EntryRun.{IsRunBefore}
 use Rattle.boundaries.specs.Overwrite.{before_start, bound_from, bound_to, first_is_below, up_to_end}
 use Rattle.boundaries.proofs.Words.{CanFind, CanStep, IsHeadFor, entries_of, first_key, item_of, order}
@@ -150,7 +150,8 @@ returns-in-Some c =
     let es = entries_of c.header_ref-leaf.result.now in
     record {
       run = found at c.is_below.result (ended_after r es c.lower_bound_by_head-end.result c.args.position.following
-      c.is_below.result (omega (arith, c.if-end-len.false, c.len.ensures.len)) (cc (c.in-Some.is, c.past-in-Some.ensures.bound, c.is_below.ensures.is_below)));
+      c.is_below.result (omega (arith, c.if-end-len.false, c.len.ensures.len)) ((rw c.past-in-Some.ensures.bound at c.is_below.ensures.is_below)
+      ∙ ap (first_is_below r) (sym c.in-Some.is)));
     }
 
 pub returns-in-None : goal.returns-in-None

@@ -123,9 +123,11 @@ written c now added new spliced =
 pub splice-requires : goal.splice-requires
 splice-requires c =
     let j = (goal.at.splice-requires c).Joined-run in
+    let Known = IsKnown (key_at c.place.new.self) in
+    let them = All-cons Known c.of-first.result.key [] (known j) (All-nil Known) in
     record {
       can_splice = can_splice_run c.requires.can_write c.new.result (c.of-first.result ∷ []) c.new.ensures.run.0 c.new.ensures.run.1
-          c.new.ensures.new _ refl (puts_stay (puts j)) c.match-run.heads c.new.ensures.heads (All-cons _ _ [] (known j) (All-nil _))
+          c.new.ensures.new _ refl (puts_stay (puts j)) c.match-run.heads c.new.ensures.heads them
           (beside j);
     }
 

@@ -1,4 +1,4 @@
-use Rattle.std.proofs.Common.{rules, ◌<◌, ◌^◌, length, sym, ap, ◌∙◌, arith, w64, Fits}
+use Rattle.std.proofs.Common.{rules, ◌<◌, ◌^◌, length, sym, ap, ◌∙◌, arith, w64}
 use Rattle.std.proofs.lemmas.Int.{to_z-of_z}
 use Rattle.std.proofs.lemmas.List.{length-map}
 use Rattle.boundaries.specs.Items.{unexpired_items}
@@ -10,7 +10,9 @@ use Rattle.boundaries.proofs.boundary_list.Boundaries.count_unexpired.Goals as g
 
 pub count_unexpired-requires : goal.count_unexpired-requires
 count_unexpired-requires c =
-    let fits = c.self.ranges in ?
+    let few : length (items_of_tree c.self.inside.tree) < 2 ^ 64 =
+    omega (arith, c.self.invariant.tree_is.within, c.self.invariant.few) in
+    search (rules, c.self.invariant.tree_is.rooted.subtree, few)
 
 pub returns : goal.returns
 returns c =

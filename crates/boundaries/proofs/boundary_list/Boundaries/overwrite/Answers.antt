@@ -1,4 +1,4 @@
-use Rattle.std.proofs.Common.{rules, ◌<◌, ◌≤◌, ◌+◌, ◌^◌, None, Option, Some, length, arith, w64, Fits}
+use Rattle.std.proofs.Common.{rules, ◌<◌, ◌≤◌, ◌+◌, ◌^◌, None, Option, Some, length, arith}
 use Rattle.std.specs.Prelude.{ℤ, IfSome}
 use Rattle.std.proofs.lemmas.List.{length-map}
 use Rattle.boundaries.specs.Boundary.{AreBoundaries}
@@ -11,8 +11,7 @@ use Rattle.boundaries.proofs.boundary_list.Boundaries.overwrite.Goals as goal
 
 pub overwrite-at_end-requires : goal.overwrite-at_end-requires
 overwrite-at_end-requires c =
-    let fits : Fits w64 c.self.inside.room = search rules in
-    let few : length (items_of_tree c.self.inside.tree) < 2 ^ 64 = omega (arith, c.self.invariant.tree_is.within, fits) in
+    let few : length (items_of_tree c.self.inside.tree) < 2 ^ 64 = omega (arith, c.self.invariant.tree_is.within, c.self.invariant.few) in
     let keys : HasKeyRoom c.self.inside.tree.store.keys c.args.new.now = rw (← c.self.view_is) at c.requires.keys in
     search (rules, can_overwrite c.self.invariant c.args.new.now few keys)
 

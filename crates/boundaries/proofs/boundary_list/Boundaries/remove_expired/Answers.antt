@@ -1,4 +1,4 @@
-use Rattle.std.proofs.Common.{arith, ◌≡◌, ℕ, ◌+◌, ◌≤◌, ◌<◌, ◌^◌, List, [], length, All, Any, true, sym, ◌∙◌, ap, unwrap_or, option_map, w64, Fits, SFits, rules, vec_capacity}
+use Rattle.std.proofs.Common.{arith, ◌≡◌, ℕ, ◌+◌, ◌≤◌, ◌<◌, ◌^◌, List, [], length, All, Any, true, sym, ◌∙◌, ap, unwrap_or, option_map, w64, SFits, rules, vec_capacity}
 use Rattle.std.proofs.lemmas.Int.{to_z-of_z}
 use Rattle.std.proofs.lemmas.List.Elements.{All-weaker}
 use Rattle.std.specs.List.{Contains}
@@ -24,8 +24,7 @@ use Rattle.boundaries.proofs.boundary_list.Boundaries.remove_expired.Goals as go
 
 pub change-requires : goal.change-requires
 change-requires c =
-    let fits : Fits w64 c.self.inside.room = search rules in
-    let few : length (items_of_tree c.self.inside.tree) < 2 ^ 64 = omega (arith, c.self.invariant.tree_is.within, fits) in
+    let few : length (items_of_tree c.self.inside.tree) < 2 ^ 64 = omega (arith, c.self.invariant.tree_is.within, c.self.invariant.few) in
     let up = ap (λ b. b.up_to) (c.new-expiring.ensures.bound ∙ c.after.ensures.bound) in
     search (rules, can_change c.self.invariant.tree_is few (can_reach_after c.self.invariant c.new-expiring.result.bound up) tt
     c.self.invariant.none_removed)

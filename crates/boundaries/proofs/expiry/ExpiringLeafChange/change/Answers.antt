@@ -93,7 +93,8 @@ pub remove_expired-requires : goal.remove_expired-requires
 remove_expired-requires c =
     let t = (goal.at.remove_expired-requires c).After-has_expired in
     let there = sym (entries_from_header c.args.store.now.nodes c.args.position.slot _ c.header_mut-leaf.ensures.header) ∙ read t in
-    search (rules, c.requires.can_change.none_removed, some_looked t, rw (← there) at within t)
+    let fits : end t ≤ length (entries_of c.header_mut-leaf.result.now) = rw there (within t) in
+    search (rules, c.requires.can_change.none_removed, some_looked t, fits)
 
 pub lengthen_prefix-requires : goal.lengthen_prefix-requires
 lengthen_prefix-requires c = search (rules, c.remove_expired.ensures.headed _ (headed_at _ c.args.store.now.nodes c.args.position.slot

@@ -1,4 +1,5 @@
-use Rattle.std.proofs.Common.{ℕ, ◌≡◌, ◌≢◌, ◌≤◌, ◌∙◌, ap, sym, refl, subst, true, List, [], ◌∷◌, Option, length, drop, map, inl, inr, ◌⊎◌, arith}
+use Rattle.std.proofs.Common.{rules, w64, None, unwrap_or, ℕ, ◌≡◌, ◌≢◌, ◌≤◌, ◌∙◌, ap, sym, refl, subst, true, List, [], ◌∷◌, Option, length, drop, map, inl, inr, ◌⊎◌, arith}
+use Rattle.std.proofs.lemmas.Int.{to_z-of_z}
 use Rattle.boundaries.specs.declared.entry.NodeEntry.{NodeEntry}
 use Rattle.boundaries.specs.declared.store.Store.{Store}
 use Rattle.boundaries.specs.declared.walk.RaisedLeaf.{RaisedLeaf}
@@ -9,7 +10,7 @@ use Rattle.boundaries.specs.EntryRun.{IsRunWritten}
 use Rattle.boundaries.specs.Finding.{CanFind, CanStep}
 use Rattle.boundaries.specs.Item.{Item, item_of}
 use Rattle.boundaries.specs.Node.{entries_of}
-use Rattle.boundaries.specs.Overwrite.{GivesEntire, before_end, before_start, bound_from, bound_to}
+use Rattle.boundaries.specs.Overwrite.{GivesEntire, IsOverwritten, before_end, before_start, bound_from, bound_to}
 use Rattle.boundaries.specs.Subtree.{entries_at, items_in}
 use Rattle.boundaries.specs.Walk.{IsRaisedAt}
 use Rattle.boundaries.proofs.callers.Partitions.{not_both}
@@ -97,15 +98,17 @@ returns-then-not-has_first-clause-items c =
     let removed = rw (read h) at cleared.removed in
     let entries = rw (read h) at cleared.entries in
     let last_is = rw (read h) at cleared.last_is in
+    let given = c.unwrap_or.ensures
+        ∙ ap (unwrap_or c.args.self.now.new.now.at_end) (to_z-of_z w64 c.clear_run-last.result (search rules)) in
     let store = c.args.store.now in
     let first = first_item (es h) (to_known h).can_find.some in
     let no = c.has_first.ensures.first first.entry (rw (read h) first.there) in
     let filled : (x : Item) (xs : List Item) → map item_of (es h) ≡ x ∷ xs → bytes_at store.keys x.key ≢ [] =
     λ x xs are empty. let same : item_of first.entry ≡ x = cc (first.items, are) in
-    not_both c.has_first.result (no.1 (rw same empty)) c.if-not-has_first.true in
+    not_both c.has_first.result (no.1 (ap (λ (i : Item). bytes_at store.keys i.key) same ∙ empty)) c.if-not-has_first.true in
     rw (read h) (part_run store c.clear_run-last.new.store c.args.self.now.new.now _ c.find_run-run.result
     c.find_run-run.ensures.run.run_is.run_is (from_known h).partitioned (to_known h).can_find.partitioned _ c.clear_run-last.result _
-    (omega (arith, c.if-run-eq0.true)) removed (ap (map item_of) entries) last_is c.unwrap_or.ensures filled
+    (omega (arith, c.if-run-eq0.true)) removed (ap (map item_of) entries) last_is given filled
     cleared.keys)
 
 pub write_run-requires : goal.write_run-requires
@@ -130,7 +133,7 @@ entered c =
       | else-run-eq0-via-then-run-eq0+else-not-has_first w ↦
           let first = first_item (es h) (to_known h).can_find.some in
           let yes = w.has_first.ensures.first first.entry (rw (read h) first.there) in
-          inr (item_of first.entry, (map item_of (drop 1 (es h)), (first.items, yes.0 w.if-not-has_first.false)))
+          inr (item_of first.entry, map item_of (drop 1 (es h)), first.items, yes.0 w.if-not-has_first.false)
       | else-run-eq0-via-else-run-eq0 w ↦ inl (omega (arith, w.if-run-eq0.false))
     ]
 
@@ -176,14 +179,17 @@ returns-clause-changed c =
     let none = none_if new.at_end (sym c.is_some.ensures ∙ c.if-is_some.false) in
     let begin = c.find_run-run.ensures.run.run_is.run_is.begin in
     let some = some_item (before_start keys new) (es h) c.find_run-run.result.begin (omega (arith, c.if-run-eq0-2.false)) begin.count_is in
+    let was = items_in old.nodes 0 slot in
+    let there = items_in now.nodes 0 slot in
+    let first : Item = record { key = gives.first; version = new.version } in
+    let given : IsOverwritten (before_start keys new) (before_end keys new) first gives.second None gives.ended was there =
+    subst (λ o. IsOverwritten (before_start keys new) (before_end keys new) first gives.second o gives.ended was there) none gives.written in
     let size = ap length (entries_from_header now.nodes slot _ c.header_ref.ensures.header) in
     leaf_stored (Raised _) c.requires.can_change.changeable c.in_default.ensures.stored c.in_default.ensures.keys (λ e. absurd (cc))
     (λ leaf e. subst (IsRaisedAt old.nodes now.nodes 0 slot) (same_leaf _ leaf e) (record {
       there = refl;
-      items = raised (before_start keys new) (before_end keys new) (start_before_end keys new)
-          (record { key = gives.first; version = new.version }) gives.second gives.ended _ _
-          (part_partitioned (before_start keys new) _ c.requires.can_change.wanted.1.part) (rw (read h) some) gives.some
-          (rw none at gives.written);
+      items = raised (before_start keys new) (before_end keys new) (start_before_end keys new) first gives.second gives.ended was there
+          (part_partitioned (before_start keys new) _ c.requires.can_change.wanted.1.part) (rw (read h) some) gives.some given;
       filled = λ _. omega (arith, size, c.len.ensures.len, c.if-is_short.false);
       no_fewer = λ high. absurd (omega (arith, high));
     }))

@@ -1,4 +1,5 @@
-use Rattle.std.proofs.Common.{true, ◌≡◌, [], None, refl, subst, append-nil, arith}
+use Rattle.std.proofs.Common.{true, ◌≡◌, ◌∙◌, ap, [], None, refl, subst, append-nil, arith}
+use Rattle.boundaries.specs.declared.store.Store.{Store}
 use Rattle.boundaries.specs.declared.walk.LeafOutcome.TheVariants.{Raised}
 use Rattle.boundaries.specs.EntryRun.{IsWrittenInLeaf}
 use Rattle.boundaries.specs.Item.{Item}
@@ -10,7 +11,7 @@ use Rattle.boundaries.proofs.Nested.{start_before_end}
 use Rattle.boundaries.proofs.RaisedLeaves.{part_of_raised, raised_tree, within_raised, written}
 use Rattle.boundaries.proofs.Roots.{root_can}
 use Rattle.boundaries.proofs.WrittenLeaf.{part_partitioned, raised}
-use Rattle.boundaries.proofs.tree.Tree.overwrite.Goals.{In-Some, Then-write_in_leaf}
+use Rattle.boundaries.proofs.tree.Tree.overwrite.Goals.{In-Some, Then-write_in_leaf, in_default-via-in-None-1, in_default-via-in-Some+else-write_in_leaf}
 use Rattle.boundaries.proofs.tree.Tree.overwrite.Goals as goal
 
 -- the leaf of the last write, in the tree as it is
@@ -97,7 +98,33 @@ returns c =
     }
 
 pub change-requires : goal.change-requires
-change-requires c = ?
+change-requires c =
+    let old = c.args.self.now in
+    let can = c.requires.can_overwrite.can_change in
+    let same : c.in_default.self ≡ old = elim c.in_default.branch [
+      | in_default-via-in-None-1 w ↦ w.self-is
+      | in_default-via-in-Some+else-write_in_leaf w ↦
+          let kept = rw w.if-write_in_leaf.false at w.write_in_leaf.ensures.written in
+          w.self-is ∙ ap (λ (s : Store). record old { store = s }) kept
+    ] in
+    record {
+      can_change = rw same record {
+        low = can.low;
+        rooted = can.rooted;
+        room = can.room;
+        reach = can.reach;
+        wanted = (refl, can.wanted);
+        none_removed = can.none_removed;
+      };
+    }
 
 pub returns-2 : goal.returns-2
-returns-2 c = ?
+returns-2 c =
+    let old = c.args.self.now in
+    let same : c.in_default.self ≡ old = elim c.in_default.branch [
+      | in_default-via-in-None-1 w ↦ w.self-is
+      | in_default-via-in-Some+else-write_in_leaf w ↦
+          let kept = rw w.if-write_in_leaf.false at w.write_in_leaf.ensures.written in
+          w.self-is ∙ ap (λ (s : Store). record old { store = s }) kept
+    ] in
+    record { written = rw same at c.change.ensures.changed }

@@ -1,10 +1,10 @@
-use Rattle.std.proofs.Common.{rules, not, ◌≡◌, ◌<◌, ◌∙◌, take, drop, map, [], ◌∷◌, ◌++◌, None, sym, ap, refl, append_assoc, arith, w64}
+use Rattle.std.proofs.Common.{rules, not, ◌≡◌, ◌<◌, ◌∙◌, take, drop, map, [], ◌∷◌, ◌++◌, None, sym, ap, refl, append_assoc, get_or, ◌-◌, arith, w64, to_z, of_z}
 use Rattle.std.proofs.lemmas.Int.{to_z-of_z}
 use Rattle.std.proofs.lemmas.List.{map-append}
 use mathlib.Core.List.{map-map}
 use Rattle.boundaries.specs.Item.{item_version}
 use Rattle.boundaries.specs.Position.{IsFoundLeaf as IsFoundAt}
-use Rattle.boundaries.proofs.Words.{CanStep, HALF_FULL, Item, after_leaf, before_leaf, entries_at, entries_of, first_key, items_not_below, is_below, item_of, items_below, items_in}
+use Rattle.boundaries.proofs.Words.{CanStep, HALF_FULL, Item, NodeEntry, after_leaf, before_leaf, entries_at, entries_of, first_key, items_not_below, is_below, item_of, items_below, items_in}
 use Rattle.boundaries.proofs.ChangedLeaf.{first_below}
 use Rattle.boundaries.proofs.Found.{entries_read}
 use Rattle.boundaries.proofs.Headed.{headed_at}
@@ -93,8 +93,10 @@ returns c =
     ap (items_not_below p) leaf.items_are ∙ following-parts p before _ later leaf.pass leaf.fail
     ∙ ap (λ xs. xs ++ later) (ap (λ ns. items_not_below p (map item_of ns)) read ∙ filter-items (λ (x : Item). not (p x.key)) es
     ∙ ap (map item_of) (sym parts.1)) in
+    let value : to_z w64 (of_z w64 (get_or c.entries-entries.result.now (n - 1) e).version) ≡ e.version =
+    ap (λ (x : NodeEntry). to_z w64 (of_z w64 x.version)) (sym c.index-entries-count.is) ∙ to_z-of_z w64 e.version (search rules) in
     record {
-      last = rw (to_z-of_z w64 e.version (search rules)) (
+      last = rw value (
         map item_version before ++ own.0,
         versions ∙ ap (λ l. map item_version before ++ l) own.1 ∙ sym (append_assoc (map item_version before) own.0 (e.version ∷ [])),
       );
