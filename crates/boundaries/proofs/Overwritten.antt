@@ -66,11 +66,11 @@ record AreAdded (old mid : Keys) (added : List Item) (boundaries : List Boundary
   counted : finite.len mid.records ≡ finite.len old.records + length added
   are : boundaries_in mid added ≡ boundaries
 
-are_added : {old mid : Keys} {start end : List ℕ} {first second : ℕ} (v w : ℤ) (ended : Bool)
+are_added : {old mid : Keys} {start end : List ℕ} {first : ℕ} (second : ℕ) (v w : ℤ) (ended : Bool)
     → PutsKeys old mid start end first (if ended then None else Some second)
     → AreAdded old mid (record { key = first; version = v } ∷ ended_by ended (record { key = second; version = w }))
     (record { key = start; version = v } ∷ closed_by ended (record { key = end; version = w }))
-are_added {old} {mid} {start} {end} {first} {second} v w true p =
+are_added {old} {mid} {start} {end} {first} second v w true p =
     let x : Item = record { key = first; version = v } in
     let Fresh = λ (x : Item). record_at old x.key ≡ None in
     let Live = λ (x : Item). IsLive mid x.key in
@@ -81,7 +81,7 @@ are_added {old} {mid} {start} {end} {first} {second} v w true p =
       counted = p.counted;
       are = ap (λ k. record { key = k; version = v } ∷ []) (known_bytes mid first start p.start_is);
     }
-are_added {old} {mid} {start} {end} {first} {second} v w false p =
+are_added {old} {mid} {start} {end} {first} second v w false p =
     let x : Item = record { key = first; version = v } in
     let y : Item = record { key = second; version = w } in
     let Fresh = λ (x : Item). record_at old x.key ≡ None in
@@ -178,12 +178,12 @@ module _ (old mid : Store) (new : Overwrite) (was now : List Item) (stored : Are
         let around : boundaries_in old.keys xs ≡ standing_at end bs = between_bounds old.keys was stored false true end end in
         let by = answered_by_first (before_end old.keys new) (up_to_end old.keys new) was h.ended
         (stored_partitioned old.keys was stored false end).partitioned (stored_partitioned old.keys was stored true end).partitioned h.ended_is in (
-          λ yes. some_at end bs (λ none. by.0 yes (no_items old.keys xs (around ∙ none))),
-          λ no. none_at end bs (sym around ∙ ap (boundaries_in old.keys) (none_of xs (λ some. not_true (by.1 some) no))),
+          λ there. some_at end bs (λ none. by.0 there (no_items old.keys xs (around ∙ none))),
+          λ gap. none_at end bs (sym around ∙ ap (boundaries_in old.keys) (none_of xs (λ some. not_true (by.1 some) gap))),
         )
       where
         not_true : {t : Bool} → t ≡ true → t ≡ false → ⊥
-        not_true yes no = cc
+        not_true there gap = cc
 
         none_of : (xs : List Item) → ¬ (xs ≢ []) → xs ≡ []
         none_of [] n = refl
@@ -205,7 +205,7 @@ module _ (old mid : Store) (new : Overwrite) (was now : List Item) (stored : Are
             (ap (unwrap_or new.at_end) (value_before last is (gap refl)))
 
     placed : AreAdded old.keys mid.keys added (record { key = start; version = new.version } ∷ closed_by h.ended (record { key = end; version = w }))
-    placed = are_added new.version w h.ended h.puts
+    placed = are_added h.second new.version w h.ended h.puts
 
     pub parts : AreParted was (front ++ rest) middle
     parts = subst (λ items. AreParted items (front ++ rest) middle) (sym items_are) (middle_goes front middle rest)
@@ -290,7 +290,7 @@ module _ (old mid : Store) (new : Overwrite) (was now : List Item) (stored : Are
         (subst (λ items. AreParted items ((front ++ h.kept) ++ rest) h.run) (sym all_are) (middle_goes (front ++ h.kept) h.run rest))
 
     module _ (final : Keys) (released : (slot : ℕ) → ¬ Contains (slots_of h.run) slot → record_at final slot ≡ record_at old.keys slot) where
-      abbrev none_fresh : All (λ x. record_at old.keys x.key ≡ None) []
+      abbrev none_fresh : All (λ (x : Item). record_at old.keys x.key ≡ None) []
       none_fresh = All-nil (λ (x : Item). record_at old.keys x.key ≡ None)
 
       part_left : boundaries_in final now ≡ left (range_of new) (not_empty new) bs stored.in_order kept out inside_is

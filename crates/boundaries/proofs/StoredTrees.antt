@@ -14,7 +14,7 @@ use Rattle.boundaries.specs.declared.overwrite.Overwrite.{Overwrite}
 use Rattle.boundaries.specs.declared.store.Store.{Store}
 use Rattle.boundaries.specs.declared.tree.Tree.{Tree}
 use Rattle.boundaries.specs.Bound.{Keys, bytes_at, is_below, is_below_at}
-use Rattle.boundaries.specs.Boundary.{AreBoundaries, AreInOrder}
+use Rattle.boundaries.specs.Boundary.{AreBoundaries, AreInOrder, RiseFrom}
 use Rattle.boundaries.specs.Item.{Item, item_of}
 use Rattle.boundaries.specs.Store.{AreHeaded, IsTree}
 use Rattle.boundaries.specs.declared.boundary_list.TheConstants.{LONGEST_PATH}
@@ -52,8 +52,9 @@ alone_empty : (keys : Keys) (front : List Item) (x : Item) (rest items : List It
     → items ≡ front ++ x ∷ rest → bytes_at keys x.key ≡ [] → front ≡ []
 alone_empty keys [] x rest items order is empty = refl
 alone_empty keys (y ∷ ys) x rest items order is empty =
-    let o = rw (is, map-append) at order in
-    let m = rise_middle (bytes_at keys y.key) (boundaries_in keys ys) (boundary_of keys x) (boundaries_in keys rest) o.1 in
+    let o = rw is at order in
+    let rising = subst (RiseFrom (bytes_at keys y.key)) (map-append (boundary_of keys) ys (x ∷ rest)) o.1 in
+    let m = rise_middle (bytes_at keys y.key) (boundaries_in keys ys) (boundary_of keys x) (boundaries_in keys rest) rising in
     absurd (not_empty_if_after (bytes_at keys x.key) (bytes_at keys y.key) m.first empty)
 
 module _ {tree : Tree} {room : ℕ} (s : AreStored tree room) where
@@ -188,7 +189,10 @@ module _ (old mid : Tree) (new : Overwrite) {room : ℕ} (s : AreStored old room
     cut = clears new old.store mid.store was now from at_end c.items (λ x xs is. first_empty old.store.keys x xs was s.in_order is)
 
     pub part_live : All (IsLive mid.store.keys) mid.store.removed.items
-    part_live = rw (cut.removed, cut.keys) (gone_live stored (part_parts old.store mid.store new was now stored at_end cut))
+    part_live =
+        let gone : All (IsLive old.store.keys) (slots_of cut.run) =
+        gone_live stored (part_parts old.store mid.store new was now stored at_end cut) in
+        rw cut.removed (subst (λ (ks : Keys). All (IsLive ks) (slots_of cut.run)) (sym cut.keys) gone)
 
     pub part_distinct : IsDistinct nat_eq mid.store.removed.items
     part_distinct = rw cut.removed (gone_distinct stored (part_parts old.store mid.store new was now stored at_end cut))
@@ -199,9 +203,10 @@ module _ (old mid : Tree) (new : Overwrite) {room : ℕ} (s : AreStored old room
 
       pub part_stored : AreStored (record mid { store = store }) room
       part_stored =
+          let less = (rw cut.removed at r.counted) ∙ ap (λ (ks : Keys). finite.len ks.records) cut.keys in
           let few = part_few old.store mid.store new was now stored at_end cut in
           stored_again old mid store room s r.nodes r.none c.tree
-          (part_kept old.store mid.store new was now stored at_end cut store.keys released_part (rw (cut.removed, cut.keys) at r.counted))
+          (part_kept old.store mid.store new was now stored at_end cut store.keys released_part less)
           (λ k here. part_record old.store mid.store new was now stored at_end cut store.keys released_part k here
           ∙ sym (ap (λ ks. record_at ks k) cut.keys)) few.0 (omega (arith, few.1, s.tree_is.within))
 

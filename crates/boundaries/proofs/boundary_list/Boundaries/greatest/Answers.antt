@@ -1,4 +1,4 @@
-use Rattle.std.proofs.Common.{arith, true, refl, rules, w64}
+use Rattle.std.proofs.Common.{ap, arith, true, rules, w64}
 use Rattle.std.specs.Prelude.{FitsSigned}
 use Rattle.std.proofs.lemmas.Int.{to_z-of_z}
 use Rattle.keys.specs.Key.{IsBefore}
@@ -20,9 +20,11 @@ greatest-requires c =
     let end = c.as_bytes-2.result.now in
     let rises : IsBefore begin end =
     rw (c.as_bytes.ensures.bytes, c.as_bytes-2.ensures.bytes) (begins_before_end c.args.range.now c.requires.filled) in
-    rw (c.after-from.ensures.bound, c.before-to.ensures.bound)
-    (search (rules, can_reach_after c.self.invariant _ refl, can_reach c.self.invariant _ (after_empty begin end rises),
-    nested tree.store.keys true begin end rises))
+    record {
+      from = can_reach_after c.self.invariant c.after-from.result (ap (λ b. b.up_to) c.after-from.ensures.bound);
+      to = can_reach c.self.invariant c.before-to.result (rw c.before-to.ensures.bound (after_empty begin end rises));
+      nested = rw (c.after-from.ensures.bound, c.before-to.ensures.bound) (nested tree.store.keys true begin end rises);
+    }
 
 pub returns-clause-bound : goal.returns-clause-bound
 returns-clause-bound c =

@@ -1,4 +1,4 @@
-use Rattle.std.proofs.Common.{arith, rules, ◌≤◌, ℕ, true, [], length, not, refl, All, IfSome, unwrap_or, option_map, ◌∙◌, ap, sym, subst, w64, vec_capacity}
+use Rattle.std.proofs.Common.{arith, rules, ◌≤◌, ℕ, true, [], length, not, All, IfSome, unwrap_or, option_map, ◌∙◌, ap, sym, subst, w64, vec_capacity}
 use Rattle.std.specs.Prelude.{FitsSigned}
 use Rattle.std.proofs.lemmas.Int.{to_z-of_z}
 use Rattle.std.proofs.lemmas.List.Elements.{All-filter, All-weaker}
@@ -19,7 +19,9 @@ use Rattle.boundaries.proofs.StoredTrees.{can_reach_after}
 use Rattle.boundaries.proofs.boundary_list.Boundaries.look_past.Goals as goal
 
 pub version_and_next-version-requires : goal.version_and_next-version-requires
-version_and_next-version-requires c = rw c.after.ensures.bound (search (rules, can_reach_after c.self.invariant _ refl))
+version_and_next-version-requires c = record {
+  can_reach = can_reach_after c.self.invariant c.after.result (ap (λ b. b.up_to) c.after.ensures.bound);
+}
 
 pub move_to-requires-clause-live : goal.move_to-requires-clause-live
 move_to-requires-clause-live c =

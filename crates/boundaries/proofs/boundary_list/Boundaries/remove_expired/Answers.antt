@@ -1,4 +1,5 @@
-use Rattle.std.proofs.Common.{arith, ◌≡◌, ℕ, ◌+◌, ◌≤◌, ◌<◌, ◌^◌, List, [], length, All, Any, true, sym, ◌∙◌, ap, unwrap_or, option_map, w64, SFits, rules, vec_capacity}
+use Rattle.std.proofs.Common.{arith, ◌≡◌, ℕ, ◌+◌, ◌≤◌, ◌<◌, ◌^◌, Bool, List, [], length, All, Any, true, sym, ◌∙◌, ap, subst, unwrap_or, option_map, w64, rules, vec_capacity}
+use Rattle.std.specs.Prelude.{ℤ}
 use Rattle.std.proofs.lemmas.Int.{to_z-of_z}
 use Rattle.std.proofs.lemmas.List.Elements.{All-weaker}
 use Rattle.std.specs.List.{Contains}
@@ -10,6 +11,7 @@ use Rattle.boundaries.specs.Boundary.{Boundary}
 use Rattle.boundaries.specs.Bound.{Keys, bytes_at, slot_is_below}
 use Rattle.boundaries.specs.Stored.{boundaries_of}
 use Rattle.boundaries.specs.Walk.{items_of_tree}
+use Rattle.boundaries.specs.declared.expiry.Removal.{Removal}
 use Rattle.boundaries.specs.declared.store.Store.{Store}
 use Rattle.boundaries.specs.declared.tree.Tree.{Tree}
 use Rattle.boundaries.proofs.Inserting.{can_change}
@@ -26,8 +28,18 @@ pub change-requires : goal.change-requires
 change-requires c =
     let few : length (items_of_tree c.self.inside.tree) < 2 ^ 64 = omega (arith, c.self.invariant.tree_is.within, c.self.invariant.few) in
     let up = ap (λ b. b.up_to) (c.new-expiring.ensures.bound ∙ c.after.ensures.bound) in
-    search (rules, can_change c.self.invariant.tree_is few (can_reach_after c.self.invariant c.new-expiring.result.bound up) tt
-    c.self.invariant.none_removed)
+    record {
+      can_change = can_change {Wants = λ (keys : Keys) (items : List Item). Unit {0}} c.self.invariant.tree_is few
+          (can_reach_after c.self.invariant c.new-expiring.result.bound up) tt c.self.invariant.none_removed;
+    }
+
+-- the same run, where numbers are given in another way
+run_of_same : {p : ℕ → Bool} {count many : ℕ} {edge edge_is before last : ℤ} {removal : Removal} {out : List ℕ} {was now : List Item}
+    → count ≡ many → edge ≡ edge_is → before ≡ last → RunExpired p count edge before removal out was now
+    → RunExpired p many edge_is last removal out was now
+run_of_same {p} {count} {many} {edge} {edge_is} {before} {last} {removal} {out} {was} {now} counts edges befores r =
+    subst (λ n. RunExpired p n edge_is last removal out was now) counts (subst (λ v. RunExpired p count v last removal out was now) edges
+    (subst (λ v. RunExpired p count edge v removal out was now) befores r))
 
 -- the run that was looked at, and what is gone of it
 module _ (c : After-change) where
@@ -62,7 +74,7 @@ module _ (c : After-change) where
       let is = e.bound ∙ c.after.ensures.bound in
       let edge = e.versions.0 ∙ to_z-of_z w64 c.args.edge c.ranges.edge in
       let before = e.versions.1 ∙ to_z-of_z w64 c.args.before c.ranges.before in
-      rw (e.count, edge, before) at (run_expired key (ap (λ b. b.up_to) is) (ap (λ b. b.key.now) is ∙ c.deref.ensures.value)
+      run_of_same e.count edge before (run_expired key (ap (λ b. b.up_to) is) (ap (λ b. b.key.now) is ∙ c.deref.ensures.value)
       (unexpired_all c.change.ensures.changed.items))
 
   same_keys : mid.store.keys ≡ keys
@@ -108,7 +120,9 @@ module _ (c : After-release_removed) where
       c.release_removed.ensures.others slot (rw (run_of at).gone_is without) ∙ ap (λ k. record_at k slot) (same_keys at)
 
   less : finite.len store.keys.records + length (slots_of (gone at)) ≡ finite.len (keys at).records
-  less = rw ((run_of at).gone_is, same_keys at) at c.release_removed.ensures.counted
+  less =
+      let gone_is = (run_of at).gone_is in
+      (rw gone_is at c.release_removed.ensures.counted) ∙ ap (λ (ks : Keys). finite.len ks.records) (same_keys at)
 
 pub invariant_of-self : goal.invariant_of-self
 invariant_of-self c =
@@ -140,9 +154,7 @@ returns-clause-within c =
 pub returns-clause-last : goal.returns-clause-last
 returns-clause-last c =
     let h = (goal.at.returns-clause-last c).After-change in
-    let last = c.change.new.change.removal.last in
-    let fits : SFits w64 last = search rules in
-    rw (← c.self.view_is) (to_z-of_z w64 last fits ∙ last_looked (keys h) (items h) (kept h) (key h) c.requires.later (there h) c.args.count
+    rw (← c.self.view_is) (last_looked (keys h) (items h) (kept h) (key h) c.requires.later (there h) c.args.count
     c.args.edge c.args.before c.change.new.change.removal _ (next h) (run_of h))
 
 pub returns-clause-boundaries : goal.returns-clause-boundaries

@@ -3,6 +3,7 @@ use Rattle.std.proofs.lemmas.Int.{to_z-of_z}
 use Rattle.std.proofs.lemmas.List.Elements.{All-filter, All-weaker}
 use Rattle.arena.specs.Arena.{IsLive}
 use Rattle.keys.specs.Key.{IsKey}
+use Rattle.boundaries.specs.declared.key_bound.KeyBound.{KeyBound}
 use Rattle.boundaries.specs.Item.{Item}
 use Rattle.boundaries.specs.Path.{items_below, items_not_below}
 use Rattle.boundaries.specs.Boundary.{first_key, last_version}
@@ -13,11 +14,11 @@ use Rattle.boundaries.specs.Walk.{items_of_tree}
 use Rattle.boundaries.proofs.Passed.{ArePassed, are_passed, first_bytes, first_has, keys_have, last_of_versions, passes_empty}
 use Rattle.boundaries.proofs.StoredItems.{kept_items}
 use Rattle.boundaries.proofs.StoredTrees.{can_reach}
-use Rattle.boundaries.proofs.boundary_list.Boundaries.resume.Goals.{After-is_empty}
+use Rattle.boundaries.proofs.boundary_list.Boundaries.resume.Goals.{After-version_and_next-version}
 use Rattle.boundaries.proofs.boundary_list.Boundaries.resume.Goals as goal
 
 -- what the bound does
-passed : (c : After-is_empty)
+passed : (c : After-version_and_next-version)
     → ArePassed c.self.inside.tree.store.keys (items_of_tree c.self.inside.tree) c.is_empty.result c.deref.result.now c.args.cursor.now.items
 passed c =
     are_passed c.self.inside.tree.store.keys (items_of_tree c.self.inside.tree) (kept_items c.self.invariant) c.is_empty.result
@@ -25,8 +26,11 @@ passed c =
 
 pub version_and_next-version-requires : goal.version_and_next-version-requires
 version_and_next-version-requires c =
-    search (rules, can_reach c.self.invariant _ (passes_empty c.is_empty.result c.deref.result.now c.args.cursor.now.items _
-    c.deref.ensures.value c.deref.ensures.len c.is_empty.ensures))
+    let bound : KeyBound = record { key = c.deref.result; up_to = c.is_empty.result } in
+    record {
+      can_reach = can_reach c.self.invariant bound (passes_empty c.is_empty.result c.deref.result.now c.args.cursor.now.items _
+          c.deref.ensures.value c.deref.ensures.len c.is_empty.ensures);
+    }
 
 pub move_to-requires-clause-live : goal.move_to-requires-clause-live
 move_to-requires-clause-live c =
@@ -54,7 +58,7 @@ returns-clause-version c =
     let keys = c.self.inside.tree.store.keys in
     let cursor = c.args.cursor.now.items in
     let v = c.version_and_next-version.result.0 in
-    let p = passed (goal.at.returns-clause-version c).After-is_empty in
+    let p = passed (goal.at.returns-clause-version c).After-version_and_next-version in
     let items = items_below (slot_is_below keys c.is_empty.result c.deref.result.now) (items_of_tree c.self.inside.tree) in
     let last = c.version_and_next-version.ensures.last in
     let fits : SFits w64 v = search rules in
@@ -65,7 +69,7 @@ pub returns-clause-cursor : goal.returns-clause-cursor
 returns-clause-cursor c =
     let keys = c.self.inside.tree.store.keys in
     let cursor = c.args.cursor.now.items in
-    let p = passed (goal.at.returns-clause-cursor c).After-is_empty in
+    let p = passed (goal.at.returns-clause-cursor c).After-version_and_next-version in
     let items = items_not_below (slot_is_below keys c.is_empty.result c.deref.result.now) (items_of_tree c.self.inside.tree) in
     c.move_to.ensures.cursor ∙ ap (λ o. unwrap_or (option_map (bytes_at keys) o) []) c.version_and_next-version.ensures.next
     ∙ first_bytes keys items ∙ ap first_key (p.left ∙ ap (λ v. left_from cursor v.boundaries) c.self.view_is)

@@ -1,4 +1,4 @@
-use Rattle.std.proofs.Common.{rules, ◌∙◌, ap, refl, w64}
+use Rattle.std.proofs.Common.{rules, ◌∙◌, ap, w64}
 use Rattle.std.specs.Prelude.{FitsSigned}
 use Rattle.std.proofs.lemmas.Int.{to_z-of_z}
 use Rattle.boundaries.specs.Boundary.{value_at}
@@ -10,7 +10,9 @@ use Rattle.boundaries.proofs.StoredTrees.{can_reach_after}
 use Rattle.boundaries.proofs.boundary_list.Boundaries.version_at.Goals as goal
 
 pub version_and_next-version-requires : goal.version_and_next-version-requires
-version_and_next-version-requires c = rw c.after.ensures.bound (search (rules, can_reach_after c.self.invariant _ refl))
+version_and_next-version-requires c = record {
+  can_reach = can_reach_after c.self.invariant c.after.result (ap (λ b. b.up_to) c.after.ensures.bound);
+}
 
 pub returns : goal.returns
 returns c =

@@ -1,4 +1,4 @@
-use Rattle.std.proofs.Common.{rules, w64, None, unwrap_or, ℕ, ◌≡◌, ◌≢◌, ◌≤◌, ◌∙◌, ap, sym, refl, subst, true, List, [], ◌∷◌, Option, length, drop, map, inl, inr, ◌⊎◌, arith}
+use Rattle.std.proofs.Common.{rules, w64, to_z, of_z, None, unwrap_or, ℕ, ◌≡◌, ◌≢◌, ◌≤◌, ◌∙◌, ap, sym, refl, subst, true, List, [], ◌∷◌, Option, length, drop, map, inl, inr, ◌⊎◌, arith}
 use Rattle.std.proofs.lemmas.Int.{to_z-of_z}
 use Rattle.boundaries.specs.declared.entry.NodeEntry.{NodeEntry}
 use Rattle.boundaries.specs.declared.store.Store.{Store}
@@ -12,7 +12,7 @@ use Rattle.boundaries.specs.Item.{Item, item_of}
 use Rattle.boundaries.specs.Node.{entries_of}
 use Rattle.boundaries.specs.Overwrite.{GivesEntire, IsOverwritten, before_end, before_start, bound_from, bound_to}
 use Rattle.boundaries.specs.Subtree.{entries_at, items_in}
-use Rattle.boundaries.specs.Walk.{IsRaisedAt}
+use Rattle.boundaries.specs.Walk.{IsRaised, IsRaisedAt}
 use Rattle.boundaries.proofs.callers.Partitions.{not_both}
 use Rattle.boundaries.proofs.ChangedLeaf.{leaf_can_find, leaf_can_step, leaf_stored}
 use Rattle.boundaries.proofs.Nested.{start_before_end}
@@ -98,7 +98,7 @@ returns-then-not-has_first-clause-items c =
     let removed = rw (read h) at cleared.removed in
     let entries = rw (read h) at cleared.entries in
     let last_is = rw (read h) at cleared.last_is in
-    let given = c.unwrap_or.ensures
+    let given = to_z-of_z w64 c.unwrap_or.result (search rules) ∙ c.unwrap_or.ensures
         ∙ ap (unwrap_or c.args.self.now.new.now.at_end) (to_z-of_z w64 c.clear_run-last.result (search rules)) in
     let store = c.args.store.now in
     let first = first_item (es h) (to_known h).can_find.some in
@@ -185,11 +185,15 @@ returns-clause-changed c =
     let given : IsOverwritten (before_start keys new) (before_end keys new) first gives.second None gives.ended was there =
     subst (λ o. IsOverwritten (before_start keys new) (before_end keys new) first gives.second o gives.ended was there) none gives.written in
     let size = ap length (entries_from_header now.nodes slot _ c.header_ref.ensures.header) in
-    leaf_stored (Raised _) c.requires.can_change.changeable c.in_default.ensures.stored c.in_default.ensures.keys (λ e. absurd (cc))
-    (λ leaf e. subst (IsRaisedAt old.nodes now.nodes 0 slot) (same_leaf _ leaf e) (record {
+    let version : to_z w64 (of_z w64 new.version) ≡ new.version = to_z-of_z w64 new.version (search rules) in
+    let own : RaisedLeaf =
+    record { slot = slot; version = to_z w64 (of_z w64 new.version); index = c.find_run-run.result.begin } in
+    leaf_stored (Raised own) c.requires.can_change.changeable c.in_default.ensures.stored c.in_default.ensures.keys (λ e. absurd (cc))
+    (λ leaf e. subst (IsRaisedAt old.nodes now.nodes 0 slot) (same_leaf own leaf e) (record {
       there = refl;
-      items = raised (before_start keys new) (before_end keys new) (start_before_end keys new) first gives.second gives.ended was there
-          (part_partitioned (before_start keys new) _ c.requires.can_change.wanted.1.part) (rw (read h) some) gives.some given;
-      filled = λ _. omega (arith, size, c.len.ensures.len, c.if-is_short.false);
+      items = subst (λ v. IsRaised v was there) (sym version) (raised (before_start keys new) (before_end keys new)
+          (start_before_end keys new) first gives.second gives.ended was there
+          (part_partitioned (before_start keys new) _ c.requires.can_change.wanted.1.part) (rw (read h) some) gives.some given);
+      filled = λ _. omega (arith, size, c.len-is_short.ensures.len, c.if-is_short.false);
       no_fewer = λ high. absurd (omega (arith, high));
     }))
