@@ -29,8 +29,8 @@ returns-then-not-is_streamed-clause-none c = λ streamed.
           (subst (HoldsStream (rows_of (found_of c.args.matches.now))) off streamed),
     )
 
-pub returns-then-names-files-clause-none : goal.returns-then-names-files-clause-none
-returns-then-names-files-clause-none c = λ streamed.
+pub returns-then-names-file_count-clause-none : goal.returns-then-names-file_count-clause-none
+returns-then-names-file_count-clause-none c = λ streamed.
     let found = sym (raw_values-rows (found_of c.args.matches.now) (codes "replies")) ∙ sym c.get_strs.ensures
     ∙ ap (option_map (λ s. map (λ v. v.now) s.now)) c.in-Some.is in (
       ap is_some found,

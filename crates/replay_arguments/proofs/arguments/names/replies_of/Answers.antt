@@ -11,8 +11,8 @@ returns-in_default-clause-none c = (
       ∙ ap (option_map (λ s. map (λ v. v.now) s.now)) c.in_default.is),
 )
 
-pub returns-then-replies-files-clause-none : goal.returns-then-replies-files-clause-none
-returns-then-replies-files-clause-none c = (
+pub returns-then-replies-file_count-clause-none : goal.returns-then-replies-file_count-clause-none
+returns-then-replies-file_count-clause-none c = (
   search rules,
   other_replies c.args.file_count _ c.in-Some.replies.now
       (sym (raw_values-rows (found_of c.args.matches.now) (codes "check")) ∙ sym c.get_strs.ensures
