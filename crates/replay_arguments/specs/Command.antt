@@ -102,6 +102,10 @@ file_rule = words_rule (codes "FILE")
 abbrev pub plain_app : App
 plain_app = new_app (codes "replay")
 
+-- `replay` with `--help` and `--version`
+abbrev pub program_app : App
+program_app = record plain_app { top = record plain_app.top { has_version = true } }
+
 -- the options that say how batches are resolved
 abbrev pub with_resolving : App → App
 with_resolving app =
@@ -124,6 +128,4 @@ with_files app =
 -- [--only VERDICT] [--versions A..B] [--explain] [--summary] [--check REPLIES].. [--stream] [--replies OUT].. [--output FILE]
 -- [--summary-to FILE] [--top N] [--verbose] FILE..`, with `--help` and `--version`
 unfoldable pub replay_app : App
-replay_app =
-    with_rule (with_files (with_printing (with_resolving (record plain_app { top = record plain_app.top { has_version = true } }))))
-    file_rule
+replay_app = with_rule (with_files (with_printing (with_resolving program_app))) file_rule

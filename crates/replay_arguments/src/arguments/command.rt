@@ -5,8 +5,8 @@ ghost use Rattle.clap.specs.Words.{app_of, rule_of};
 ghost use Rattle.replay_arguments.specs.Command.{capacity_rule, check_rule, explain_rule};
 ghost use Rattle.replay_arguments.specs.Command.{file_rule, frames_rule, json_rule, limit_rule};
 ghost use Rattle.replay_arguments.specs.Command.{flag_rule, number_rule, valued_rule, words_rule};
-ghost use Rattle.replay_arguments.specs.Command.{only_rule, output_rule, quiet_rule, replay_app};
-ghost use Rattle.replay_arguments.specs.Command.{replies_rule, report_all_rule, resolvers_rule};
+ghost use Rattle.replay_arguments.specs.Command.{only_rule, output_rule, program_app, quiet_rule};
+ghost use Rattle.replay_arguments.specs.Command.{replay_app, replies_rule, report_all_rule, resolvers_rule};
 ghost use Rattle.replay_arguments.specs.Command.{split_points_rule, stream_rule, summary_rule};
 ghost use Rattle.replay_arguments.specs.Command.{summary_to_rule, top_rule};
 ghost use Rattle.replay_arguments.specs.Command.{verbose_rule, versions_rule, window_rule};
@@ -29,14 +29,20 @@ const EXAMPLE: &str =
 pub fn command<'a>(alloc: Global) -> Result<Command<'a>, AllocError>
     ensures app { IfOk result (λ command. app_of command ≡ replay_app) }
 {
-    let command = Command::new(alloc, "replay")
-        .version(VERSION)
-        .about("Resolves recorded batches of transactions and prints the verdicts")
-        .after_long_help(EXAMPLE);
-    let resolving = add_resolving(alloc, command)?;
+    let resolving = add_resolving(alloc, program(alloc))?;
     let printing = add_printing(alloc, resolving)?;
     let complete = add_files(alloc, printing)?;
     complete.arg(file(alloc))
+}
+
+// Returns the command without its arguments.
+fn program<'a>(alloc: Global) -> Command<'a>
+    ensures app { app_of result ≡ program_app }
+{
+    Command::new(alloc, "replay")
+        .version(VERSION)
+        .about("Resolves recorded batches of transactions and prints the verdicts")
+        .after_long_help(EXAMPLE)
 }
 
 // Adds the options that say how batches are resolved.
