@@ -1,6 +1,6 @@
 //! The outlet of one proxy's answers: to standard output, and to its recorder.
 
-ghost use Rattle.std.specs.Prelude.{◌≡◌, [], ◌∷◌, true, false, None};
+ghost use Rattle.std.specs.Prelude.{◌≡◌, [], ◌∷◌, true, false, IfOk, None};
 ghost use Rattle.replay_output.specs.Lines.{line};
 ghost use Rattle.replay_stream.specs.Outlet.{HasPassedAll, IsClosed, PassesOn, PassesSome};
 ghost use Rattle.replay_stream.specs.Outlet.{TookText, is_complete};
@@ -11,7 +11,7 @@ use keyspace::Answer;
 use lane::{Intake, Port, Refused, Taken};
 use replay_output::{AnswerError, Style, print_line};
 use replay_workers::Gatekeeper;
-use std::alloc::Global;
+use std::alloc::{AllocError, Global};
 use std::sync::Arc;
 use wire::Sink;
 
@@ -91,6 +91,24 @@ impl Printer {
 }
 
 impl Outlet {
+    /// Creates the outlet of a proxy that has got no answer, without a recorder.
+    pub fn new(alloc: Global, proxy: usize, replies: Intake<Answer>) -> Result<Self, AllocError>
+        ensures replies { IfOk result (λ outlet. outlet.replies ≡ replies) }
+        ensures alone { IfOk result (λ outlet. outlet.records ≡ None) }
+        ensures none_waits { IfOk result (λ outlet. outlet.waiting ≡ None) }
+        ensures proxy { IfOk result (λ outlet. outlet.proxy ≡ proxy) }
+        ensures not_lost { IfOk result (λ outlet. outlet.lost ≡ false) }
+    {
+        Ok(Outlet {
+            replies,
+            records: None,
+            waiting: None,
+            proxy,
+            lost: false,
+            progress: Arc::new(alloc, AnswerProgress::new())?,
+        })
+    }
+
     /// Takes an answer, if one has come and the recorder isn't lagging, prints it and passes it on.
     pub fn pass<O: Sink, G: Gatekeeper>(
         &mut self,

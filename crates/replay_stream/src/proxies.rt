@@ -1,16 +1,15 @@
 //! The proxies of a stream: their lanes, outlets and threads.
 
 ghost use Rattle.std.specs.Prelude.{◌≡◌, ◌≤◌, List, [], map, option_map, vec_len, vec_capacity};
-ghost use Rattle.std.specs.Prelude.{IfOk};
+ghost use Rattle.std.specs.Prelude.{IfOk, None};
 ghost use Rattle.std.specs.List.{All, AllZip};
 ghost use Rattle.replay_stream.specs.Outlet.{HavePassedAll, IsClosed};
-ghost use Rattle.replay_stream.specs.Proxies.{AreEnds, IsJoined, IsNewOutlet, IsStreamedOf};
-ghost use Rattle.replay_stream.specs.Proxies.{Joined, JoinsRecorder, given_proxies, given_with};
-ghost use Rattle.replay_stream.specs.Proxies.{outlets_of, threads_by, threads_of};
+ghost use Rattle.replay_stream.specs.Proxies.{AreEnds, AreNewEnds, IsJoined, IsNewOutlet};
+ghost use Rattle.replay_stream.specs.Proxies.{IsStreamedOf, Joined, JoinsRecorder, given_proxies};
+ghost use Rattle.replay_stream.specs.Proxies.{given_with, outlets_of, threads_by, threads_of};
 ghost use Rattle.replay_stream.specs.Sinks.{state_by};
 
 use crate::outlet::Outlet;
-use crate::progress::AnswerProgress;
 use crate::recorder::Recorder;
 use crate::streamed::Streamed;
 use crate::threads::{
@@ -76,7 +75,6 @@ pub fn connect_all<S: Drop, W: Drop, G: Drop>(
             share,
             style: options.style,
         };
-        let gatekeeper = Arc::try_clone(gatekeeper)?;
         let task = connect(alloc, options, assignment, client, reader, out, gatekeeper)?;
         tasks.push_reserved(task);
     }
@@ -91,7 +89,7 @@ fn connect<S: Drop, W: Drop, G: Drop>(
     client: Client,
     reader: S,
     out: Option<W>,
-    gatekeeper: Arc<G, Global>,
+    gatekeeper: &Arc<G, Global>,
 ) -> Result<ProxyTask<S, W, G>, AllocError>
     ensures given { IfOk result (λ task. given_with task.outlet (threads_by task) ≡ record {
       proxy = assignment.proxy;
@@ -103,42 +101,50 @@ fn connect<S: Drop, W: Drop, G: Drop>(
     ensures new { IfOk result (λ task. IsNewOutlet task.outlet (threads_by task).answers) }
 {
     let Client { requests, replies } = client;
-    let progress = Arc::new(alloc, AnswerProgress::new())?;
-    let mut outlet = Outlet {
-        replies,
-        records: None,
-        waiting: None,
-        proxy: assignment.proxy,
-        lost: false,
-        progress: Arc::try_clone(&progress)?,
-    };
-    let recorder = match out {
-        None => None,
-        Some(out) => {
-            let Ok((port, answers)) = lane(alloc, options.capacity) else {
-                return Err(AllocError);
-            };
-            outlet.records = Some(port);
-            Some(RecorderTask {
-                answers,
-                out,
-                progress: Arc::try_clone(&progress)?,
-            })
-        }
-    };
+    let mut outlet = Outlet::new(alloc, assignment.proxy, replies)?;
+    let recorder = add_recorder(alloc, options, &mut outlet, out)?;
     let sender = SenderTask {
         assignment,
         requests,
         reader,
         reports: options.reports,
-        gatekeeper,
-        progress,
+        gatekeeper: Arc::try_clone(gatekeeper)?,
+        progress: Arc::try_clone(&outlet.progress)?,
     };
     Ok(ProxyTask {
         outlet,
         sender,
         recorder,
     })
+}
+
+// If there is a writer of records, connects the outlet with its recorder by a new lane. Returns
+// what the recorder is started with.
+fn add_recorder<W: Drop>(
+    alloc: Global,
+    options: Options,
+    outlet: &mut Outlet,
+    out: Option<W>,
+) -> Result<Option<RecorderTask<W>>, AllocError>
+    requires alone { outlet.old.records ≡ None }
+    ensures others { outlet.new ≡ record outlet.old { records = outlet.new.records } }
+    ensures ends { IfOk result (λ recorder.
+        AreNewEnds outlet.new.records (option_map (λ r. r.answers) recorder)) }
+    ensures out { IfOk result (λ recorder. option_map (λ r. r.out) recorder ≡ out) }
+{
+    let Some(out) = out else {
+        return Ok(None);
+    };
+    let Ok((port, answers)) = lane(alloc, options.capacity) else {
+        return Err(AllocError);
+    };
+    let progress = Arc::try_clone(&outlet.progress)?;
+    outlet.records = Some(port);
+    Ok(Some(RecorderTask {
+        answers,
+        out,
+        progress,
+    }))
 }
 
 /// Starts the threads of all proxies. After an error the threads that were started are not joined.

@@ -11,12 +11,15 @@ word_rule name = record (new_rule name) { required = true }
 abbrev pub plain_app : App
 plain_app = new_app (codes "workload")
 
+-- `workload` with `--help` and `--version`
+abbrev pub program_app : App
+program_app = record plain_app { top = record plain_app.top { has_version = true } }
+
 -- `workload SHAPE BATCHES TRANSACTIONS`, with `--help` and `--version`
 unfoldable pub workload_app : App
 workload_app =
-    with_rule (with_rule (with_rule (record plain_app {
-      top = record plain_app.top { has_version = true };
-    }) (word_rule (codes "SHAPE"))) (word_rule (codes "BATCHES"))) (word_rule (codes "TRANSACTIONS"))
+    with_rule (with_rule (with_rule program_app (word_rule (codes "SHAPE"))) (word_rule (codes "BATCHES")))
+    (word_rule (codes "TRANSACTIONS"))
 
 -- what `clap` finds at fault in the words
 unfoldable pub faults_of : List (List ℕ) → Kinds

@@ -2,7 +2,7 @@
 
 ghost use Rattle.std.specs.Prelude.{◌≡◌, IfOk, false};
 ghost use Rattle.clap.specs.Words.{app_of, rule_of};
-ghost use Rattle.workload_program.specs.Command.{word_rule, workload_app};
+ghost use Rattle.workload_program.specs.Command.{program_app, word_rule, workload_app};
 
 use clap::{Arg, Command};
 use std::alloc::{AllocError, Global};
@@ -13,11 +13,7 @@ const EXAMPLE: &str = "Example:\n  workload skiplisttest 100 2500 > batches && r
 pub fn command<'a>(alloc: Global) -> Result<Command<'a>, AllocError>
     ensures app { IfOk result (λ command. app_of command ≡ workload_app) }
 {
-    let command = Command::new(alloc, "workload")
-        .version("0.2.0")
-        .about("Writes the frames of one chain of batches; the same words give the same bytes")
-        .after_long_help(EXAMPLE);
-    command
+    program(alloc)
         .arg(word(alloc, "SHAPE", "skiplisttest or points"))?
         .arg(word(alloc, "BATCHES", "How many batches, 1 to 65536"))?
         .arg(word(
@@ -25,6 +21,16 @@ pub fn command<'a>(alloc: Global) -> Result<Command<'a>, AllocError>
             "TRANSACTIONS",
             "How many transactions in each batch, 1 to 2500",
         ))
+}
+
+// Returns the command without its words.
+fn program<'a>(alloc: Global) -> Command<'a>
+    ensures app { app_of result ≡ program_app }
+{
+    Command::new(alloc, "workload")
+        .version("0.2.0")
+        .about("Writes the frames of one chain of batches; the same words give the same bytes")
+        .after_long_help(EXAMPLE)
 }
 
 // A word that is wanted.

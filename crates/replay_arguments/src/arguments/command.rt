@@ -4,9 +4,9 @@ ghost use Rattle.std.specs.Prelude.{◌≡◌, IfOk, false};
 ghost use Rattle.clap.specs.Words.{app_of, rule_of};
 ghost use Rattle.replay_arguments.specs.Command.{capacity_rule, check_rule, explain_rule};
 ghost use Rattle.replay_arguments.specs.Command.{file_rule, frames_rule, json_rule, limit_rule};
-ghost use Rattle.replay_arguments.specs.Command.{number_rule};
-ghost use Rattle.replay_arguments.specs.Command.{only_rule, output_rule, quiet_rule, replay_app};
-ghost use Rattle.replay_arguments.specs.Command.{replies_rule, report_all_rule, resolvers_rule};
+ghost use Rattle.replay_arguments.specs.Command.{flag_rule, number_rule, valued_rule, words_rule};
+ghost use Rattle.replay_arguments.specs.Command.{only_rule, output_rule, program_app, quiet_rule};
+ghost use Rattle.replay_arguments.specs.Command.{replay_app, replies_rule, report_all_rule, resolvers_rule};
 ghost use Rattle.replay_arguments.specs.Command.{split_points_rule, stream_rule, summary_rule};
 ghost use Rattle.replay_arguments.specs.Command.{summary_to_rule, top_rule};
 ghost use Rattle.replay_arguments.specs.Command.{verbose_rule, versions_rule, window_rule};
@@ -29,14 +29,20 @@ const EXAMPLE: &str =
 pub fn command<'a>(alloc: Global) -> Result<Command<'a>, AllocError>
     ensures app { IfOk result (λ command. app_of command ≡ replay_app) }
 {
-    let command = Command::new(alloc, "replay")
-        .version(VERSION)
-        .about("Resolves recorded batches of transactions and prints the verdicts")
-        .after_long_help(EXAMPLE);
-    let resolving = add_resolving(alloc, command)?;
+    let resolving = add_resolving(alloc, program(alloc))?;
     let printing = add_printing(alloc, resolving)?;
     let complete = add_files(alloc, printing)?;
     complete.arg(file(alloc))
+}
+
+// Returns the command without its arguments.
+fn program<'a>(alloc: Global) -> Command<'a>
+    ensures app { app_of result ≡ program_app }
+{
+    Command::new(alloc, "replay")
+        .version(VERSION)
+        .about("Resolves recorded batches of transactions and prints the verdicts")
+        .after_long_help(EXAMPLE)
 }
 
 // Adds the options that say how batches are resolved.
@@ -114,10 +120,9 @@ fn report_all<'a>(alloc: Global) -> Arg<'a>
     ensures rule { rule_of result ≡ report_all_rule }
     ensures local { result.global ≡ false }
 {
-    Arg::new(alloc, "report-all")
-        .long("report-all")
-        .action(ArgAction::SetTrue)
-        .help("Resolves every transaction as if it asked for its conflicting read ranges")
+    flag(alloc, "report-all").help(
+        "Resolves every transaction as if it asked for its conflicting read ranges",
+    )
 }
 
 fn resolvers<'a>(alloc: Global) -> Arg<'a>
@@ -134,10 +139,9 @@ fn split_points<'a>(alloc: Global) -> Arg<'a>
     ensures rule { rule_of result ≡ split_points_rule }
     ensures local { result.global ≡ false }
 {
-    Arg::new(alloc, "split-points")
-        .long("split-points")
-        .value_name("POINTS")
-        .help("With --resolvers, a file of the keys between their shards, one per line")
+    valued(alloc, "split-points", "POINTS").help(
+        "With --resolvers, a file of the keys between their shards, one per line",
+    )
 }
 
 // An option `--name N`.
@@ -145,9 +149,7 @@ fn number<'a>(alloc: Global, name: &'a str, default: &'a str, parser: ValueParse
     ensures rule { rule_of result ≡ number_rule name.entry.now default.entry.now parser.entry }
     ensures local { result.global ≡ false }
 {
-    Arg::new(alloc, name)
-        .long(name)
-        .value_name("N")
+    valued(alloc, name, "N")
         .default_value(default)
         .value_parser(parser)
 }
@@ -156,79 +158,62 @@ fn frames<'a>(alloc: Global) -> Arg<'a>
     ensures rule { rule_of result ≡ frames_rule }
     ensures local { result.global ≡ false }
 {
-    Arg::new(alloc, "frames")
-        .long("frames")
-        .action(ArgAction::SetTrue)
-        .help("Prints each reply as its frame in hexadecimal, instead of words")
+    flag(alloc, "frames").help("Prints each reply as its frame in hexadecimal, instead of words")
 }
 
 fn json<'a>(alloc: Global) -> Arg<'a>
     ensures rule { rule_of result ≡ json_rule }
     ensures local { result.global ≡ false }
 {
-    Arg::new(alloc, "json")
-        .long("json")
-        .action(ArgAction::SetTrue)
-        .help("Prints each answer as a line of JSON")
+    flag(alloc, "json").help("Prints each answer as a line of JSON")
 }
 
 fn quiet<'a>(alloc: Global) -> Arg<'a>
     ensures rule { rule_of result ≡ quiet_rule }
     ensures local { result.global ≡ false }
 {
-    Arg::new(alloc, "quiet")
-        .long("quiet")
-        .action(ArgAction::SetTrue)
-        .help("Prints no lines of answers")
+    flag(alloc, "quiet").help("Prints no lines of answers")
 }
 
 fn only<'a>(alloc: Global) -> Arg<'a>
     ensures rule { rule_of result ≡ only_rule }
     ensures local { result.global ≡ false }
 {
-    Arg::new(alloc, "only")
-        .long("only")
-        .value_name("VERDICT")
-        .help("Prints only replies that have this verdict: committed, conflict or tooold")
+    valued(alloc, "only", "VERDICT").help(
+        "Prints only replies that have this verdict: committed, conflict or tooold",
+    )
 }
 
 fn versions<'a>(alloc: Global) -> Arg<'a>
     ensures rule { rule_of result ≡ versions_rule }
     ensures local { result.global ≡ false }
 {
-    Arg::new(alloc, "versions")
-        .long("versions")
-        .value_name("A..B")
-        .help("Prints only versions from A to below B; each can be omitted")
+    valued(alloc, "versions", "A..B").help(
+        "Prints only versions from A to below B; each can be omitted",
+    )
 }
 
 fn explain<'a>(alloc: Global) -> Arg<'a>
     ensures rule { rule_of result ≡ explain_rule }
     ensures local { result.global ≡ false }
 {
-    Arg::new(alloc, "explain")
-        .long("explain")
-        .action(ArgAction::SetTrue)
-        .help("Prints with each line why its transactions were rejected")
+    flag(alloc, "explain").help("Prints with each line why its transactions were rejected")
 }
 
 fn summary<'a>(alloc: Global) -> Arg<'a>
     ensures rule { rule_of result ≡ summary_rule }
     ensures local { result.global ≡ false }
 {
-    Arg::new(alloc, "summary")
-        .long("summary")
-        .action(ArgAction::SetTrue)
-        .help("Prints a summary instead of the answers: per proxy, of all, and of the resolver")
+    flag(alloc, "summary").help(
+        "Prints a summary instead of the answers: per proxy, of all, and of the resolver",
+    )
 }
 
 fn check<'a>(alloc: Global) -> Arg<'a>
     ensures rule { rule_of result ≡ check_rule }
     ensures local { result.global ≡ false }
 {
-    Arg::new(alloc, "check")
-        .long("check")
-        .value_name("REPLIES")
+    valued(alloc, "check", "REPLIES")
         .action(ArgAction::Append)
         .help("Compares with the reply frames of another resolver; once per FILE, in order")
 }
@@ -237,19 +222,14 @@ fn stream<'a>(alloc: Global) -> Arg<'a>
     ensures rule { rule_of result ≡ stream_rule }
     ensures local { result.global ≡ false }
 {
-    Arg::new(alloc, "stream")
-        .long("stream")
-        .action(ArgAction::SetTrue)
-        .help("Prints each answer as it comes, in the order of each proxy")
+    flag(alloc, "stream").help("Prints each answer as it comes, in the order of each proxy")
 }
 
 fn replies<'a>(alloc: Global) -> Arg<'a>
     ensures rule { rule_of result ≡ replies_rule }
     ensures local { result.global ≡ false }
 {
-    Arg::new(alloc, "replies")
-        .long("replies")
-        .value_name("OUT")
+    valued(alloc, "replies", "OUT")
         .action(ArgAction::Append)
         .help("With --stream, writes the records of answers to a file; once per FILE, in order")
 }
@@ -258,10 +238,8 @@ fn output<'a>(alloc: Global) -> Arg<'a>
     ensures rule { rule_of result ≡ output_rule }
     ensures local { result.global ≡ false }
 {
-    Arg::new(alloc, "output")
+    valued(alloc, "output", "FILE")
         .short('o')
-        .long("output")
-        .value_name("FILE")
         .help("Writes the output to a file instead of standard output")
 }
 
@@ -269,19 +247,14 @@ fn summary_to<'a>(alloc: Global) -> Arg<'a>
     ensures rule { rule_of result ≡ summary_to_rule }
     ensures local { result.global ≡ false }
 {
-    Arg::new(alloc, "summary-to")
-        .long("summary-to")
-        .value_name("FILE")
-        .help("Writes a summary to a file, beside the answers")
+    valued(alloc, "summary-to", "FILE").help("Writes a summary to a file, beside the answers")
 }
 
 fn top<'a>(alloc: Global) -> Arg<'a>
     ensures rule { rule_of result ≡ top_rule }
     ensures local { result.global ≡ false }
 {
-    Arg::new(alloc, "top")
-        .long("top")
-        .value_name("N")
+    valued(alloc, "top", "N")
         .value_parser(ValueParser::unsigned(1, MAX_TOP as u64))
         .help("With --summary, lists the N ranges that conflict most, from 1 to 1000")
 }
@@ -290,18 +263,42 @@ fn verbose<'a>(alloc: Global) -> Arg<'a>
     ensures rule { rule_of result ≡ verbose_rule }
     ensures local { result.global ≡ false }
 {
-    Arg::new(alloc, "verbose")
-        .long("verbose")
-        .action(ArgAction::SetTrue)
-        .help("Adds a line to a failure, or if all batches are held: what was found and what to do")
+    flag(alloc, "verbose").help(
+        "Adds a line to a failure, or if all batches are held: what was found and what to do",
+    )
 }
 
 fn file<'a>(alloc: Global) -> Arg<'a>
     ensures rule { rule_of result ≡ file_rule }
     ensures local { result.global ≡ false }
 {
-    Arg::new(alloc, "FILE")
+    words(alloc, "FILE").help(
+        "Files of batch frames, from 1 to 64; file p is that of proxy p, - is standard input",
+    )
+}
+
+// An option without a value.
+fn flag<'a>(alloc: Global, name: &'a str) -> Arg<'a>
+    ensures rule { rule_of result ≡ flag_rule name.entry.now }
+    ensures local { result.global ≡ false }
+{
+    Arg::new(alloc, name).long(name).action(ArgAction::SetTrue)
+}
+
+// An option with a value.
+fn valued<'a>(alloc: Global, name: &'a str, value: &'a str) -> Arg<'a>
+    ensures rule { rule_of result ≡ valued_rule name.entry.now }
+    ensures local { result.global ≡ false }
+{
+    Arg::new(alloc, name).long(name).value_name(value)
+}
+
+// One word or more.
+fn words<'a>(alloc: Global, name: &'a str) -> Arg<'a>
+    ensures rule { rule_of result ≡ words_rule name.entry.now }
+    ensures local { result.global ≡ false }
+{
+    Arg::new(alloc, name)
         .action(ArgAction::Append)
         .required(true)
-        .help("Files of batch frames, from 1 to 64; file p is that of proxy p, - is standard input")
 }
