@@ -53,7 +53,7 @@ use Rattle.keyspace.specs.declared.reply.Reply.{Reply}
 use Rattle.keys.proofs.callers.Booleans.{and_left, and_right, false_unless, not_both_ways}
 use Rattle.chain.specs.Replies.{Kept, key_cmp, is_up_to, IsFiled}
 
--- keys that compare alike are one
+-- keys that compare as equal are one
 pub keys_exact : CmpEqualImpliesEq key_cmp
 keys_exact = exact_pairs nat_cmp int_cmp exact_unsigned exact_signed
 

@@ -12,7 +12,7 @@ use Rattle.std.proofs.lemmas.Map.Lookups.{CmpEqualImpliesEq, exact_pairs, exact_
 use Rattle.std.proofs.lemmas.Map.Views.{tells_apart}
 use Rattle.replay_explanations.specs.Explainer.{Texts, key_cmp, text_of, text_or_none}
 
--- keys that compare alike are one
+-- keys that compare as equal are one
 keys_exact : CmpEqualImpliesEq key_cmp
 keys_exact = exact_pairs nat_cmp int_cmp exact_unsigned exact_signed
 

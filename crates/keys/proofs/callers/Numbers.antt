@@ -1,4 +1,4 @@
--- Lemmas for callers: what tests of numbers tell.
+-- Lemmas for callers: what tests of numbers show.
 use Rattle.std.proofs.Common.{◌≡◌, false, arith}
 use Rattle.std.specs.Prelude.{ℤ, ◌≤ℤ◌, int_lt}
 use Rattle.std.proofs.lemmas.Int.{ints}

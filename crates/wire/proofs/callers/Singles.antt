@@ -13,7 +13,7 @@ use Rattle.keys.proofs.callers.Booleans.{and_left, and_right, and_both}
 use Rattle.wire.specs.Fields.{RangeFields}
 use Rattle.wire.specs.Spelling.{single_key, is_single_key}
 
--- lists are alike that end alike
+-- lists are equal if their ends are
 snoc_same : (xs ys : List ℕ) (a b : ℕ) → xs ++ a ∷ [] ≡ ys ++ b ∷ [] → (xs ≡ ys) × (a ≡ b)
 snoc_same [] [] a b e = let same : a ≡ b = cc in (refl, same)
 snoc_same [] (y ∷ ys) a b e = absurd (omega (arith, ap length e, length-append ys (b ∷ [])))
