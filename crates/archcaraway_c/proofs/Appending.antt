@@ -9,7 +9,7 @@ use Rattle.archcaraway_c.specs.declared.key_span.KeySpan.{KeySpan}
 use Rattle.archcaraway_c.proofs.Joining.{part_after}
 use Rattle.archcaraway_c.specs.BatchObject.{range_given, span_after, IsRangeOf}
 
--- the spans tell the ranges that were given
+-- the spans show the ranges that were given
 pub reported_given : (buffer keys : List ℕ) (given : List KeySpan)
     → map (range_of_span (buffer ++ keys)) (map (span_after (length buffer)) given) ≡ map (range_given keys) given
 reported_given buffer keys [] = refl

@@ -42,7 +42,7 @@ module _ (buffer : List ℕ) (spans : List Span) where
   reported_before from (row ∷ rows) (suc count) =
       ap (λ (txns : List TxnFields). txn_of_row buffer spans from row ∷ txns) (reported_before row.end rows count)
 
-  -- what the tables of the first rows tell
+  -- what the tables of the first rows show
   pub reported_front : (rows : List Row) (count middle : ℕ) → AreTables buffer spans rows → AreRows 0 (take count rows) middle
       → txns_of_tables buffer (take middle spans) (take count rows) ≡ take count (txns_of_tables buffer spans rows)
   reported_front rows count middle tables front =

@@ -1,4 +1,4 @@
--- The reply to a batch is no longer than the batch tells.
+-- The reply to a batch is no longer than the batch allows.
 use Rattle.std.proofs.Common.{ℕ, ◌+◌, ◌*◌, ◌≤◌, ℤ, true, false, cond, List, [], ◌∷◌, ◌++◌, length, subst, sym, arith}
 use Rattle.std.specs.List.{sum_by}
 use Rattle.std.proofs.lemmas.List.Sums.{sum_by-cons}

@@ -44,7 +44,7 @@ reported_then buffer spans from (row ∷ rows) middle others are =
     (reported_then buffer spans row.end rows middle others are.1)
 
 module _ (buffer : List ℕ) (spans : List Span) (bytes : List ℕ) (added : List Span) where
-  -- what the first tables tell stays
+  -- what the first tables show stays
   part_kept : (from to : ℕ) → All (LiesWithin (length buffer)) spans → to ≤ length spans
       → map (range_of_span (buffer ++ bytes)) (slice_range (spans ++ added) from to)
       ≡ map (range_of_span buffer) (slice_range spans from to)
@@ -88,7 +88,7 @@ module _ (buffer : List ℕ) (spans : List Span) (bytes : List ℕ) (others : Li
       ∙ slice_range-map (span_moved (length buffer)) others from to)
       ∙ ranges_moved (slice_range others from to)
 
-  -- what the others tell stays
+  -- what the others show stays
   reported_moved : (from : ℕ) (rows : List Row) (to : ℕ) → AreRows from rows to
       → txns_from (buffer ++ bytes) (spans ++ map (span_moved (length buffer)) others) (length spans + from)
       (map (row_moved (length spans)) rows)

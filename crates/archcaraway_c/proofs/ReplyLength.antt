@@ -44,7 +44,7 @@ body_length r =
       entries_length r.entries,
     )
 
--- the frame of the right reply isn't longer than the batch tells
+-- the frame of the right reply isn't longer than the batch allows
 pub reply_within : (window : ℤ) (ws : List Write) (b : Batch) (r : Reply) (bytes : List ℕ)
     → Judged window ws b r → SpellsReply bytes r → length bytes ≤ most_reply_length b
 reply_within window ws b r bytes judged spelled =

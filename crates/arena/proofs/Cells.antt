@@ -1,4 +1,4 @@
--- The slots of a chunk, as its entries and bytes tell them.
+-- The slots of a chunk, as its entries and bytes show them.
 use Rattle.std.proofs.Common.{◌≡◌, inl, inr, ℕ, zero, suc, ◌+◌, ◌-◌, ◌*◌, ◌<◌, ◌≤◌, List, [], ◌∷◌, ◌++◌, length, take, drop, set, slice_get, Some, IsSome, is_some, false, option_map, unwrap_or, slice_index, refl, sym, ap, ◌∙◌, add_assoc, zero-mul, mul-le-mul_right, arith, length-drop, length-append, length-set}
 use Rattle.std.proofs.Math.Path.{ap₂}
 use Rattle.std.proofs.lemmas.List.{
@@ -209,7 +209,7 @@ module _ {H : Type 0} where
         cells = ap (λ xs. cells_of xs width bytes) same;
       }
 
-  -- where every key is empty, the bytes tell nothing
+  -- if every key is empty, the bytes say nothing
   cells_of-empty : (es : List (Entry (Head H))) (width : ℕ) (bytes other : List ℕ) → AllFit es 0
       → cells_of es width bytes ≡ cells_of es width other
   cells_of-empty [] width bytes other empty = refl

@@ -1,4 +1,4 @@
--- A chunk, as its lengths, headers and bytes tell it.
+-- A chunk, as its lengths, headers and bytes show it.
 use Rattle.std.proofs.Common.{◌≡◌, ◌≢◌, ◌==◌, Bool, not, ℕ, ◌+◌, ◌-◌, ◌*◌, ◌<◌, ◌≤◌, List, [], length, set, slice_get, Some, IsSome, is_some, true, false, option_map, unwrap_or, slice_index, refl, sym, ap, ◌∙◌, arith, length-set, zero-mul}
 use Rattle.std.proofs.lemmas.Bool.{eqb-false, eqb-true}
 use Rattle.std.proofs.lemmas.Option.{slice_get_within}
@@ -37,7 +37,7 @@ use Rattle.arena.proofs.Cells.{
 }
 
 module _ {H : Type 0} where
-  -- the slots that these lengths, headers and bytes tell
+  -- the slots that these lengths, headers and bytes show
   abbrev pub slots_in : List ℕ → List H → ℕ → ℕ → List ℕ → List (Entry (Record H))
   slots_in ls hs size width bytes = cells_of (with_free (slots_of size) (entries_of ls hs)) width bytes
 
@@ -275,7 +275,7 @@ module _ {H : Type 0} where
   is_live-length ls hs size width bytes i n paired is =
       is_live-by (n == 65535) ls hs size width bytes i n refl paired is
 
-  -- behind the lengths no slot is live
+  -- after the lengths no slot is live
   pub none_after : (ls : List ℕ) (hs : List H) (size width : ℕ) (bytes : List ℕ) (i : ℕ)
       → length hs ≡ length ls → length ls ≤ i
       → is_some (held_at (slots_in ls hs size width bytes) i) ≡ false

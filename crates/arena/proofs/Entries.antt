@@ -1,4 +1,4 @@
--- The entries of a chunk, and the free ones behind them that are not made yet.
+-- The entries of a chunk, and the free ones after them that are not made yet.
 use Rattle.std.proofs.Common.{◌≡◌, ℕ, zero, suc, ◌<◌, ◌≤◌, List, [], ◌∷◌, ◌++◌, length, set, slice_get, Some, refl, ap, arith}
 use Rattle.arena.specs.Entry.{Entry, Free, Live, IsFree}
 use Rattle.arena.specs.Chunk.{with_free}

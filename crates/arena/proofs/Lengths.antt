@@ -1,4 +1,4 @@
--- The entries of a chunk, as its lengths and its headers tell them.
+-- The entries of a chunk, as its lengths and its headers show them.
 use Rattle.std.proofs.Common.{◌≡◌, ◌≢◌, ℕ, zero, suc, ◌==◌, if◌then◌else◌, Bool, true, false, List, [], ◌∷◌, ◌++◌, length, set, slice_get, Some, option_map, unwrap_or, refl, ap, ◌∙◌, arith}
 use Rattle.std.proofs.lemmas.Bool.{eqb-false, eqb-true}
 use Rattle.arena.specs.Entry.{Entry, Free, Live, held, IsFree}
@@ -24,7 +24,7 @@ module _ {H : Type 0} where
       → entry_of n header ≡ Live (record { header = header; length = n })
   entry_of-live n header other = entry_by-live (n == 65535) n header refl other
 
-  -- what a live entry tells of its length and header
+  -- what a live entry shows about its length and header
   pub record IsEntry (n : ℕ) (header : H) (head : Head H) : Type 0 where
     pub live : n ≢ 65535
     pub length_is : n ≡ head.length

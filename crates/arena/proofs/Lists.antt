@@ -99,7 +99,7 @@ pub no_longer : (xs ys : List ℕ) → IsDistinct nat_eq xs
     → ((q : ℕ) → is_member nat_eq xs q ≡ true → is_member nat_eq ys q ≡ true) → length xs ≤ length ys
 no_longer xs ys distinct within = length-le_from_is_member nat_eq_equiv xs ys distinct within
 
--- what is in a list with a row behind it
+-- what is in a list with a row after it
 pub row_old : (xs : List ℕ) (first k q : ℕ) → is_member nat_eq xs q ≡ true
     → is_member nat_eq (with_row xs first k) q ≡ true
 row_old xs first zero q is = is
@@ -171,7 +171,7 @@ pub counts_of-set : (spares : List Spare) (size : ℕ) (s : Spare)
     → counts_of (set spares size s) ≡ set (counts_of spares) size (length s.slots)
 counts_of-set spares size s = map-set (λ s. length s.slots) spares size s
 
--- the lists, where there are any, are those of the sizes
+-- the lists, if there are any, are those of the sizes
 of_sizes_some : (lists : List Spare) → 0 < length lists → of_sizes lists ≡ lists
 of_sizes_some [] some = absurd (omega arith)
 of_sizes_some (s ∷ ss) some = refl
@@ -181,7 +181,7 @@ set_own [] i s within is = refl
 set_own (x ∷ xs) zero s within is = ap (λ y. y ∷ xs) (sym is)
 set_own (x ∷ xs) (suc i) s within is = ap (λ ys. x ∷ ys) (set_own xs i s (omega arith) is)
 
--- where a size has a spare slot, there are lists
+-- if a size has a spare slot, there are lists
 pub within_lists : (lists : List Spare) (size : ℕ) → (lists ≡ []) ⊎ (length lists ≡ 10) → size < 10
     → 0 < length (spare_at (of_sizes lists) size).slots → size < length lists
 within_lists lists size (inl empty) below some =

@@ -1,4 +1,4 @@
--- The records of an arena, as its slots tell them.
+-- The records of an arena, as its slots show them.
 use Rattle.std.proofs.Common.{
   ◌≡◌,
   ◌≢◌,

@@ -82,7 +82,7 @@ later : (n x k j m : ℕ) (ys : List ℕ) → k ≡ 1 + j → (j < m) × (n ≤ 
     → (k < suc m) × (n ≤ slice_index (x ∷ ys) k)
 later n x k j m ys is found = rw (is, add_comm 1 j, add-one) (omega (arith, found.0), found.1)
 
--- the first that isn't too short has so many before it as are too short
+-- as many come before the first that isn't too short as are too short
 first_that_fits : (n x : ℕ) (ys : List ℕ) → Rise x ys → n ≤ last_of x ys
     → (too_short n (x ∷ ys) < suc (length ys)) × (n ≤ slice_index (x ∷ ys) (too_short n (x ∷ ys)))
 first_that_fits n x [] rise fits = by_test (nat_lt x n) refl

@@ -23,7 +23,7 @@ fall_from_sort hot sorted = λ i j d up within.
     not_less (get_or hot i d).count (get_or hot j d).count
     (sorted_far (λ x y. is_lt (nat_cmp y.count x.count)) (IsStrictWeakOrder-flip _ (ranks_by nat_cmp_total (λ (x : Hot). x.count))) hot sorted i j d up within)
 
--- from the clause of `sort_by`, where each call compares the counts, the second one first
+-- from the clause of `sort_by`, if each call compares the counts, the second one first
 pub fall_from_sort_by : {F : Type 0} {g : Mut F (Bor Hot × (Bor Hot × Unit {0})) Ordering} {f : F} (hot : List Hot)
     → ((lt : Hot → Hot → Bool) → IsStrictWeakOrder lt → ComparesAs g lt f → IsSortedBy lt hot)
     → ((a : Bor Hot × (Bor Hot × Unit {0})) (r : Ordering) (f' : F) → Called g f a r f'

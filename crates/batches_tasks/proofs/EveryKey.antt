@@ -17,7 +17,7 @@ pub empty_is_first : (key : List ℕ) → IsAtMost [] key
 empty_is_first [] = refl
 empty_is_first (byte ∷ key) = refl
 
--- no key of at most so many bytes comes after the greatest one
+-- no key of at most that many bytes comes after the greatest one
 not_after : (count : ℕ) (key : List ℕ) → IsBytes key → length key ≤ count → is_before (replicate count 255) key ≡ false
 not_after zero [] bytes short = refl
 not_after zero (byte ∷ key) bytes short = absurd (omega (arith, short))

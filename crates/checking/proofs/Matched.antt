@@ -91,7 +91,7 @@ After-more version rs ss (e ∷ es) all far after = (
   After-more version rs ss es all far.1 after.1,
 )
 
--- what is found behind those that are before the version
+-- what is found after those that are before the version
 abbrev passed_all : List Reply → Option (Reply × List Reply) → Option (Reply × List Reply)
 passed_all rs None = None
 passed_all rs (Some found) = Some (found.0, rs ++ found.1)
@@ -132,7 +132,7 @@ found_none version r rs none rise other =
     cond-false _ _ _ (not_equal_above r.version version high)
     ∙ ap (with_another r) (first_of-above version r.version rs high rise.0)
 
--- what an expected reply is matched with, behind those that were passed over
+-- what an expected reply is matched with, after those that were passed over
 matched_after : (e : Reply) (rs ys : List Reply) (continue_with : List Reply → List Difference) (o : Option (Reply × List Reply))
     → matched_with e (rs ++ ys) continue_with (passed_all rs o) ≡ matched_with e ys (λ zs. continue_with (rs ++ zs)) o
 matched_after e rs ys continue_with None = refl
@@ -205,7 +205,7 @@ matched_none expected recorded left rises = record {
   continues = refl;
 }
 
--- what goes on behind those that this reply passes over
+-- what continues after those that this reply passes over
 abbrev pub Continues : Reply → List Reply → List Reply → List Difference → List Difference → Type 0
 Continues e recorded rest before now = (continue_with : List Reply → List Difference)
     → now ++ continue_with rest ≡ before ++ matched_with e recorded continue_with (first_of e.version recorded)
@@ -269,7 +269,7 @@ matched_turn expected recorded rest rest' before others index n found found' pas
     rw add-one (subst (HasMatched expected recorded (suc index) rest' found') (sym passed_is)
     (matched_step expected recorded rest rest' index found found' passed_over e (drop (suc index) expected) here refl had rises goes'))
 
--- what isn't before the version, of what is left behind those that are
+-- what isn't before the version, of what is left after those that are
 pub after_front : (version : ℤ) (rest others : List Reply) (n : ℕ) → n ≡ front version rest → others ≡ drop n rest
     → Rise version_of_reply rest → NoneBefore version_of_reply version others × Rise version_of_reply others
 after_front version rest others n count back_is rises =
@@ -288,7 +288,7 @@ found_empty : (version : ℤ) (rs : List Reply) → length rs ≡ 0 → first_of
 found_empty version [] empty = refl
 found_empty version (r ∷ rs) empty = absurd (omega arith)
 
--- nothing is found, and the reply is told as missing
+-- nothing is found, and the reply is reported as missing
 missed : (e : Reply) (recorded : List Reply) (before now : List Difference) → first_of e.version recorded ≡ None
     → now ≡ before ++ missing_reply e ∷ [] → Continues e recorded recorded before now
 missed e recorded before now none is =

@@ -1,4 +1,4 @@
--- What a comparison of two keys tells, which code makes of slices that have these keys.
+-- What a comparison of two keys shows, which code makes of slices that have these keys.
 use Rattle.std.proofs.Common.{◌≡◌, ℕ, Bool, true, false, not, List, refl, sym, ap, ◌∙◌}
 use Rattle.std.specs.Ordering.{nat_cmp, is_le, is_lt}
 use Rattle.std.specs.Cmp.Lexicographic.{slice_cmp}

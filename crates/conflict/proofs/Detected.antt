@@ -34,7 +34,7 @@ pub if_err : {T E : Type 0} (P Q : E → Type 0) (r : Result T E) → IsErrAnd r
 if_err P Q (Ok value) is gives = tt
 if_err P Q (Err e) is gives = gives e is
 
--- where a step map isn't full, there is room
+-- if a step map isn't full, there is room
 pub room_unless : {X : Type 0} (n : ℕ) (m : Steps) → (¬ HasRoomFor n m → X) → ¬ X → HasRoomFor n m
 room_unless n m full not_full =
     elim (cases_lt m.limit (length m.boundaries + 2 * n)) [

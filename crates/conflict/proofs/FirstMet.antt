@@ -122,7 +122,7 @@ first_place i test (r ∷ rs) = elim (test r) as (λ b.
       | false ↦ first_place (i + 1) test rs
     ]
 
--- whether any passes, the position tells
+-- whether any passes, the position shows
 any_by_position : {X : Type 0} (i : ℕ) (test : X → Bool) (xs : List X)
     → list_any test xs ≡ is_some (position_from test i xs)
 any_by_position i test [] = refl

@@ -58,7 +58,7 @@ any_of_mask words word mask fits = (
       (not_eqb _ 0).1 (filled_by_bit _ bit both),
 )
 
--- whole words
+-- entire words
 pub any_of_words : (words : List ℕ) (first last : ℕ) → first ≤ last → last ≤ length words
     → ((word : ℕ) → get_or words word 0 < 2 ^ 64)
     → Any (λ word. word ≢ 0) (slice_range words first last)

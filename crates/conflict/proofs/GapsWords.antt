@@ -85,7 +85,7 @@ HasBit-set_or words word mask bit within =
           )
     ]
 
--- after whole words are set
+-- after entire words are set
 pub HasBit-put_mid : (words ones : List ℕ) (first last bit : ℕ) → first ≤ last → last ≤ length words
     → ones ≡ replicate (last - first) (2 ^ 64 - 1)
     → HasBit (put_mid first (last - first) words ones) bit ↔ (HasBit words bit ⊎ IsInRun first last (bit / 64))

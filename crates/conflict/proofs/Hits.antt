@@ -107,7 +107,7 @@ module _ (first others : List Bool) where
 
 -- what the hits say of all read ranges
 module _ (ws : List Write) (t : Txn) (hits : List Bool) where
-  -- where none is true, they don't settle the transaction
+  -- if none is true, they don't settle the transaction
   pub none_hit : (is_settled t hits ≡ false → hits ≡ map (is_hit ws t) t.reads) → list_any (λ hit. hit) hits ≡ false
       → list_any (is_hit ws t) t.reads ≡ false
   none_hit entire none =
@@ -159,7 +159,7 @@ places_next n (first ∷ hits) (suc i) hit inside is =
       | false ↦ both
     ]
 
--- a place behind all of them rises
+-- a place after all of them rises
 rising_push : (xs : List ℕ) (x : ℕ) → IsStrictlyIncreasing xs → All (λ y. y < x) xs
     → IsStrictlyIncreasing (xs ++ x ∷ [])
 rising_push xs x rising below k inside =
@@ -212,7 +212,7 @@ are_places hits few =
     (take-length hits) (first_places hits (length hits) (omega arith)) in
     record { rising = both.0; below = λ d k more. omega (arith, few, both.1 d k more) }
 
--- the places of those of the first i that are hits, counted from a number on, stand behind others
+-- the places of those of the first i that are hits, counted from a number on, stand after others
 abbrev pub GatheredTo : List Bool → ℕ → List ℕ → ℕ → List ℕ → Type 0
 GatheredTo hits from before i places = places ≡ before ++ true_places from (take i hits)
 
@@ -252,7 +252,7 @@ places_from_on i (false ∷ first) others =
         ≡ true_places (i + 1) first ++ true_places ((i + 1) + length first) others
     later i first others = ap (λ n. true_places (i + 1) first ++ true_places n others) (omega arith)
 
--- likewise from the first one on
+-- the same from the first one on
 pub places_of_both : (first others : List Bool)
     → true_places 0 first ++ true_places (length first) others ≡ true_places 0 (first ++ others)
 places_of_both first others =

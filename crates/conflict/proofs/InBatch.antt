@@ -67,7 +67,7 @@ any_none : {X : Type 0} (xs : List X) → list_any (λ (x : X). false) xs ≡ fa
 any_none [] = refl
 any_none (x ∷ xs) = any_none xs
 
--- whether any passes, the places tell
+-- whether any passes, the places show
 no_places : (i : ℕ) (test : Range → Bool) (ranges : List Range) → list_any test ranges ≡ false
     → places_from i test ranges ≡ []
 no_places i test [] h = refl
@@ -207,7 +207,7 @@ module _ (oldest : ℤ) (ws : List Write) (t : Txn) where
       ∙ ap (λ b. cond b (in_conflict_at (report ws [] t)) (without_places Committed)) (sym hit)
       ∙ sym (young_entry young)
 
-  -- without a mark no places are told
+  -- without a mark there are no places
   pub unmarked_entry : (e : Entry) → e.verdict ≡ Conflict → e.places ≡ [] → is_too_old oldest t ≡ false
       → list_any (is_hit ws t) t.reads ≡ true → t.marked ≡ false → e ≡ by_history oldest ws t
   unmarked_entry e verdict places young hit unmarked =

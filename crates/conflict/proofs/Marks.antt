@@ -159,7 +159,7 @@ marked_to-room marks end txns entries i t inside at_t were = omega (
   were.size,
 )
 
--- Marks behind an end, of which none is set, in three parts.
+-- Marks after an end, of which none is set, in three parts.
 in_parts : (marks : List Bool) (end reads writes : ℕ) → end + reads + writes ≤ length marks
     → drop end marks ≡ replicate (length marks - end) false
     → marks ≡ (take end marks ++ replicate reads false)

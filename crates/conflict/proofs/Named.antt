@@ -10,7 +10,7 @@ use Rattle.keyspace.specs.storage.BatchRanges.{ranges_in}
 use Rattle.conflict.specs.declared.lookup.ReadName.{ReadName}
 use Rattle.conflict.specs.Lookup.{asked_at, query_named, queries_named, AreNamed}
 
--- where each name asks for something, that is what they ask for
+-- if each name asks for something, that is what they ask for
 pub queries_of : (txns : List Txn) (names : List ReadName) (queries : List (Range × ℤ))
     → map (query_named txns) names ≡ map Some queries → queries_named txns names ≡ queries
 queries_of txns [] [] is = refl

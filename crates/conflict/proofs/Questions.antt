@@ -219,7 +219,7 @@ hits_determined determines m ws t covers (range ∷ ranges) (b ∷ bs) late answ
     ap (λ hit. hit ∷ bs) (exceeds_is_hit determines m ws t range b covers now answers.0)
     ∙ ap (λ hits. is_hit ws t range ∷ hits) (hits_determined determines m ws t covers ranges bs (λ some. now) answers.1)
 
--- the answers of a transaction say what the writes hit, where the step map covers these
+-- the answers of a transaction say what the writes hit, if the step map covers these
 pub hits_from_answers : DeterminesHits → (m : Steps) (ws : List Write) (oldest : ℤ) (t : Txn) (first others : List Bool)
     → MapCovers m ws → m.edge ≤ℤ oldest
     → AreAnswers m (asked_at t.snapshot (first_asked oldest t)) first

@@ -1,4 +1,4 @@
--- What runs tell of the ranges that they are of.
+-- What runs show about the ranges that they are of.
 use Rattle.std.proofs.Common.{
   ◌≡◌,
   ◌↔◌,

@@ -1,4 +1,4 @@
--- The ranges that spans name, one after the other.
+-- The ranges that spans name, in sequence.
 use Rattle.std.proofs.Common.{◌≡◌, ℕ, zero, suc, ◌+◌, ◌<◌, List, [], ◌∷◌, ◌++◌, length, take, drop, map, get_or, add-one, refl, sym, ap, subst, ◌∙◌}
 use Rattle.std.specs.Prelude.{Option, Some, slice_get, ℤ}
 use Rattle.std.proofs.lemmas.List.{map-append}

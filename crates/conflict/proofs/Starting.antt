@@ -19,7 +19,7 @@ room_to_start limit edge m is enough = subst (HasRoomFor 1) (sym is) (omega (ari
 le_test : (a b : ℕ) → a ≤ b → nat_le a b ≡ true
 le_test a b h = grind (arith, h)
 
--- where there is room, none has to be made
+-- if there is room, none has to be made
 pub has_made_room : (ranges : ℕ) (m : Steps) → HasRoomFor ranges m → HasRoomFor ranges (made_room ranges m)
 has_made_room ranges m room =
     subst (λ test. HasRoomFor ranges (cond test m (after_round m)))

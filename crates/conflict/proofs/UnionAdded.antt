@@ -20,7 +20,7 @@ use Rattle.conflict.specs.Union.{AreSpanned, AreUnited, Spans}
 use Rattle.conflict.proofs.Parts.{all_split}
 use Rattle.conflict.proofs.Spanned.{LastSpanned, last_spanned, spanned_push}
 
--- one more range behind the last
+-- one more range after the last
 apart_push : (us : List Range) (last range : Range) → AreApart (us ++ last ∷ []) → IsBefore last.end range.begin
     → IsBefore range.begin range.end → AreApart ((us ++ last ∷ []) ++ range ∷ [])
 apart_push [] last range apart following filled = (apart, following, filled)
@@ -76,7 +76,7 @@ module _ (added : List Range) (range : Range) (some : ¬ IsEmpty range) where
       All-weaker (λ u. IsBeginIn added u.begin) (λ u. IsBeginIn (added ++ range ∷ []) u.begin)
       (λ u b. begin_longer u.begin b) us begins
 
-  -- as a range of its own
+  -- as a separate range
   unites_apart : (us : List Range) → Unites us added → AreApart (us ++ range ∷ [])
       → Unites (us ++ range ∷ []) (added ++ range ∷ [])
   unites_apart us was apart = record {
@@ -96,7 +96,7 @@ module _ (added : List Range) (range : Range) (some : ¬ IsEmpty range) where
     few = omega (arith, was.few, one_more, length-append us (range ∷ []));
   }
 
--- from the begin of the one to the greater of both ends, where the other begins within the one or right behind it
+-- from the begin of the one to the greater of both ends, where the other begins within the one or right after it
 pub record Widens (last range wider : Range) : Type 0 where
   pub begins : last.begin ≡ wider.begin
   pub first : IsAtMost last.begin range.begin

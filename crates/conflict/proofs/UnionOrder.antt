@@ -60,7 +60,7 @@ All-flat_map {X = X} P f (x ∷ xs) all =
     subst (All P) (sym (flat_map-cons f x xs)) (All-append P (f x) (flat_map f xs) (All-head A x xs all)
     (All-flat_map P f xs (All-tail A x xs all)))
 
--- a property of the range, where there is one, holds of it marked or not
+-- a property of the range, if there is one, holds of it marked or not
 all_marked : (P : Range → Type 0) (marks : List Bool) (ranges : List Range) (index : ℕ)
     → ((r : Range) → slice_get ranges index ≡ Some r → P r) → All P (marked_at marks ranges index)
 all_marked P marks ranges index holds =

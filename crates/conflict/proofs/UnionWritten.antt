@@ -45,7 +45,7 @@ apart_same (u ∷ t ∷ us) (v ∷ w ∷ vs) same apart = (
   apart_same (t ∷ us) (w ∷ vs) same.1 apart.2,
 )
 
--- those that the same spans name are alike
+-- those that the same spans name are equal
 spanned_same : (ranges : List Range) (spans : List UnitedSpan) (us vs : List Range) → AreSpanned ranges spans us
     → AreSpanned ranges spans vs → AllZip SameKeys us vs
 spanned_same ranges [] [] [] su sv = tt

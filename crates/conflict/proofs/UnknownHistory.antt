@@ -53,7 +53,7 @@ use Rattle.conflict.specs.Unknown.{
   HitsFromOn,
 }
 
--- no key of at most so many bytes comes after the greatest one
+-- no key of at most that many bytes comes after the greatest one
 not_after : (count : ℕ) (key : List ℕ) → IsBytes key → length key ≤ count
     → is_before (greatest_of_length count) key ≡ false
 unfolding greatest_of_length

@@ -1,4 +1,4 @@
--- What the marked gaps tell of the ranges that are written.
+-- What the marked gaps show about the ranges that are written.
 use Rattle.std.proofs.Common.{
   ◌≡◌,
   ◌↔◌,

@@ -10,7 +10,7 @@ filter_none p (x ∷ xs) h =
     ap (λ b. cond b (x ∷ filter p xs) (filter p xs)) (All-head (λ x. p x ≡ false) x xs h)
     ∙ filter_none p xs (All-tail (λ x. p x ≡ false) x xs h)
 
--- where some element passes, something is left
+-- if some element passes, something is left
 pub some_left : {X : Type 0} (p : X → Bool) (xs : List X) → list_any p xs ≡ true → filter p xs ≡ [] → ⊥
 some_left p [] h e = cc
 some_left p (x ∷ xs) h e =

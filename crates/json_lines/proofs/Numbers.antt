@@ -43,7 +43,7 @@ integer_none text not_integer =
       | inr fails ↦ ap (λ b. cond b (Some (signed_digits_value 10 text)) None) fails
     ]
 
--- what `parse` gives is the whole number of the text
+-- `parse` returns the integer of the text
 pub parsed : (o : Option (List ℕ)) (r : Option ℤ) → MatchOption o (r ≡ None) (λ s. ParsesSigned w64 10 s (ok_or r s))
     → (o >>= integer_of) ≡ r
 parsed None r h = sym h

@@ -1,4 +1,4 @@
--- The members of an object, one after the other.
+-- The members of an object, in sequence.
 use Rattle.std.proofs.Common.{◌≡◌, ℕ, ◌+◌, ◌-◌, ◌<◌, ◌≤◌, Bool, true, false, not, ◌||◌, ◌&&◌, List, length, take, drop, get_or, map, sym, ap, ◌∙◌, arith, Vec}
 use Rattle.std.specs.Borrow.{Bor}
 use Rattle.std.specs.List.{list_any}
@@ -71,7 +71,7 @@ unfolding are_among
 among_done {A} names ms i total le so_far =
     sym so_far ∙ ap (λ (ns : List (Bor (List ℕ) × Value A)). are_among names (members_view ns)) (drop_all i ms le)
 
--- the members behind one, as a slice of them
+-- the members after one, as a slice of them
 pub rest_reported : {A : Type 0} (ms : List (Bor (List ℕ) × Value A)) (i : ℕ) (m : Bor (List ℕ) × Value A) (r : Bool)
     → m ≡ get_or ms i m
     → r ≡ has_member (get_or ms i m).0.now (members_view (take (length ms - (i + 1)) (drop (i + 1) ms)))

@@ -1,4 +1,4 @@
--- Reading one after the other, as a loop does.
+-- Reading in sequence, as a loop does.
 use Rattle.std.proofs.Common.{◌≡◌, ℕ, ◌+◌, ◌<◌, Bool, true, false, cond, List, [], ◌∷◌, ◌++◌, length, drop, get_or, Option, Some, None, option_map, refl, sym, ap, ◌∙◌, append_assoc}
 use Rattle.std.proofs.lemmas.List.{append-nil, drop_more}
 use Rattle.json_lines.specs.Values.{◌>>=◌}
@@ -17,7 +17,7 @@ pub one_more : {A : Type 0} (front : List A) (a : A) (o : Option (List A))
 one_more {A} front a (Some x) = ap (λ (all : List A). Some all) (sym (append_assoc front (a ∷ []) x))
 one_more front a None = refl
 
--- the same of a read that goes on
+-- the same of a read that continues
 pub continues_with : {A : Type 0} (front : List A) (a : A) (o : Option (List A))
     → with_front front (o >>= λ rest. Some (a ∷ rest)) ≡ with_front (front ++ a ∷ []) o
 continues_with {A} front a (Some x) = ap (λ (all : List A). Some all) (sym (append_assoc front (a ∷ []) x))
@@ -27,7 +27,7 @@ pub bind_cond : {A B : Type 0} (b : Bool) (x y : Option A) (f : A → Option B) 
 bind_cond true x y f = refl
 bind_cond false x y f = refl
 
--- read so far is all that is read, where nothing is left
+-- read so far is all that is read, if nothing is left
 pub all_read : {A : Type 0} (front : List A) → with_front front (Some []) ≡ Some front
 all_read {A} front = ap (λ (all : List A). Some all) (append-nil front)
 

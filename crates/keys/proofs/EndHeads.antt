@@ -78,7 +78,7 @@ module _ (ranges : List Range) (prefix end : List ℕ) (head : ℕ) (h : HeadedI
         greater = λ above. absurd (omega (arith, below, taken, is));
       }
 
--- the head of the end of one of the ranges tells it of each
+-- the head of the end of one of the ranges shows it of each
 pub ends_determine : (ranges : List Range) (prefix end : List ℕ) (head : ℕ) (headed : List HeadedIndex) (own : HeadedIndex) → IsBytes end
     → AreHeadedAfter ranges prefix headed → Contains headed own → IsBefore (begin_at ranges own.index) end
     → IsEndHead prefix end head → (h : HeadedIndex) → Contains headed h → HeadsDetermine ranges end head h
@@ -97,7 +97,7 @@ differ : (m n : ℕ) → (m < n) ⊎ (n < m) → m ≡ n → ⊥
 differ m n (inl below) e = omega arith
 differ m n (inr above) e = omega arith
 
--- where the head tells, what is told is so
+-- if the head determines it, it is so
 pub determined_same : (ranges : List Range) (end : List ℕ) (head : ℕ) (h : HeadedIndex) → HeadsDetermine ranges end head h
     → begins_below_end ranges end head h ≡ is_before (begin_at ranges h.index) end
 determined_same ranges end head h determine =

@@ -155,7 +155,7 @@ unchosen_left_out p ranges i r done entire at filled unchosen was =
     subst (λ rs. done ++ filter p (filled_from i rs) ≡ entire) (left_at ranges i r at) was in
     rw (filled, unchosen) at left
 
--- what a test for emptiness tells
+-- what a test for emptiness shows
 pub filled_unless : (r : Range) → (IsEmpty r → ⊥) → is_filled r ≡ true
 filled_unless r says = before_unless_empty r says
 

@@ -1,4 +1,4 @@
--- What heads tell of the first eight bytes, where there are so many.
+-- What heads show about the first eight bytes, if there are that many.
 use Rattle.std.proofs.Common.{◌≡◌, ◌≢◌, ℕ, ◌+◌, ◌<◌, ◌≤◌, List, ◌++◌, length, get_or, take, drop, replicate, slice_index, sym, ap, ◌∙◌, get_or-take}
 use Rattle.std.specs.Int.{w64, to_be_bytes}
 use Rattle.std.proofs.Math.Seq.{take-add}
@@ -12,7 +12,7 @@ word : (a : List ℕ) → IsBytes a → 8 ≤ length a → to_be_bytes w64 (head
 word a bytes long = head_of-bytes a bytes ∙ take-append-le 8 a (replicate 8 0) long
 
 module _ (a b : List ℕ) (a_bytes : IsBytes a) (b_bytes : IsBytes b) (a_long : 8 ≤ length a) (b_long : 8 ≤ length b) (n : ℕ) where
-  -- as far as the heads begin alike
+  -- as far as the heads begin the same way
   pub equal_by_heads : n ≤ 8 → take n (to_be_bytes w64 (head_of a)) ≡ take n (to_be_bytes w64 (head_of b)) → take n a ≡ take n b
   equal_by_heads few same =
       sym (take-take n 8 a few) ∙ ap (take n) (sym (word a a_bytes a_long)) ∙ same ∙ ap (take n) (word b b_bytes b_long)
@@ -26,14 +26,14 @@ module _ (a b : List ℕ) (a_bytes : IsBytes a) (b_bytes : IsBytes b) (a_long : 
       differ (ap (λ (l : List ℕ). get_or l n 0) (word a a_bytes a_long) ∙ get_or-take 8 a n 0 less ∙ same
       ∙ sym (get_or-take 8 b n 0 less) ∙ sym (ap (λ (l : List ℕ). get_or l n 0) (word b b_bytes b_long)))
 
--- What both begin with, and then what stands behind it.
+-- What both begin with, and then what stands after it.
 take_both : (from n : ℕ) (a b a_rest b_rest : List ℕ) → take from a ≡ take from b → a_rest ≡ drop from a → b_rest ≡ drop from b
     → take n a_rest ≡ take n b_rest → take (from + n) a ≡ take (from + n) b
 take_both from n a b a_rest b_rest same a_is b_is rest =
     take-add from n a ∙ ap (λ front. front ++ take n (drop from a)) same
     ∙ ap (λ back. take from b ++ back) (ap (take n) (sym a_is) ∙ rest ∙ ap (take n) b_is) ∙ sym (take-add from n b)
 
--- The same from fewer than so many bytes on.
+-- The same from fewer than that many bytes on.
 pub take_fewer_both : (all from n : ℕ) (a b a_rest b_rest : List ℕ) → take all a ≡ take all b → from ≤ all
     → a_rest ≡ drop from a → b_rest ≡ drop from b → take n a_rest ≡ take n b_rest → take (from + n) a ≡ take (from + n) b
 take_fewer_both all from n a b a_rest b_rest same few =

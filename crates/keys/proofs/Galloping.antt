@@ -66,7 +66,7 @@ part_split ranges headed end from count sorted i j d le lt below =
     (part_within headed from count j lt)
     (subst (λ (h : HeadedIndex). IsBefore (begin_at ranges h.index) end) (part_at headed from count j d lt) below))
 
--- where heads tell of all ranges, what is told of those in a part is so
+-- if heads determine the order of all ranges, they determine it in a part
 module _ (ranges : List Range) (headed : List HeadedIndex) (end : List ℕ) (head from count : ℕ)
     (determine : All (HeadsDetermine ranges end head) headed) where
   abbrev part : List HeadedIndex
@@ -92,7 +92,7 @@ module _ (ranges : List Range) (headed : List HeadedIndex) (end : List ℕ) (hea
     λ j d low lt. sym (determined_at j d lt) ∙ point.1 j d low lt,
   )
 
--- the place in the part is that in the whole
+-- the place in the part is that in the entire list
 pub entire_split : (ranges : List Range) (headed : List HeadedIndex) (end : List ℕ) (from last i : ℕ)
     → AreInBeginOrder ranges headed → from ≤ last → last ≤ length headed
     → All (λ h. IsBefore (begin_at ranges h.index) end) (take from headed)

@@ -96,7 +96,7 @@ one_last keys a b (before, e) (others, f) =
     sym (get_or_push before a a (length before) refl) ∙ ap (λ ks. get_or ks (length before) a) (sym e ∙ f)
     ∙ get_or_push others b a (length before) (omega arith)
 
--- the last of the keys is one that is put behind the others
+-- the last of the keys is one that is put after the others
 pub last_of_push : (keys : List (List ℕ)) (key k : List ℕ) → EndsWith (keys ++ key ∷ []) k ↔ (key ≡ k)
 last_of_push keys key k = (
   λ ends. one_last (keys ++ key ∷ []) key k (keys, refl) ends,
@@ -151,7 +151,7 @@ kept_again done keys key kept (before, parts) = record {
     has : Contains keys key
     has = subst (λ ks. Contains ks key) (sym parts) (Contains-push before key)
 
--- a key behind all the others is added
+-- a key after all the others is added
 kept_more : (done keys : List (List ℕ)) (key : List ℕ) → Kept done keys → All (λ k. IsBefore k key) keys
     → Kept (done ++ key ∷ []) (keys ++ key ∷ [])
 kept_more done keys key kept all = record {
@@ -178,7 +178,7 @@ pub record KeptNext (done : List (List ℕ)) (key : List ℕ) (keys next : List 
   pub stay : (k : List ℕ) → Contains done k → rank next k ≡ rank keys k
   pub last : rank next key ≡ length next - 1
 
--- the last key's rank, where the others are named by an equation
+-- the last key's rank, if the others are named by an equation
 pub rank_at_end : (keys before : List (List ℕ)) (key : List ℕ) → AreRising keys → keys ≡ before ++ key ∷ []
     → rank keys key ≡ length keys - 1
 rank_at_end keys before key rising e =

@@ -113,7 +113,7 @@ pub are_in_order : (ranges : List Range) (headed : List HeadedIndex) → AreInBe
 are_in_order ranges headed sorted moved =
     record { in_order = begins_first ranges headed sorted; all = moved }
 
--- a list that was written over the whole of another
+-- a list that was written over all of another
 pub written_entire : {X : Type 0} (n : ℕ) (new old : List X) → length new ≡ n
     → take n (new ++ drop (length new) old) ≡ new
 written_entire n new old is =

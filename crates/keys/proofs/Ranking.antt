@@ -14,7 +14,7 @@ pub rank_cons : (x : List ℕ) (keys : List (List ℕ)) (key : List ℕ)
     → rank (x ∷ keys) key ≡ one_if (is_before x key) + rank keys key
 rank_cons x keys key = sum_by-cons (λ k. one_if (is_before k key)) x keys
 
--- the rank of a key behind all the keys is their number
+-- the rank of a key after all the keys is their number
 pub rank_after : (keys : List (List ℕ)) (key : List ℕ) → All (λ k. IsBefore k key) keys → rank keys key ≡ length keys
 rank_after [] key all = refl
 rank_after (k ∷ keys) key all =

@@ -142,7 +142,7 @@ pub begin_before_end : (ranges : List Range) (index : ℕ) → IsFilledAt ranges
     → IsBefore (begin_at ranges index) (end_at ranges index)
 begin_before_end ranges index (range, at, filled) = rw at filled
 
--- the first so many ranges begin below the end, and the others don't
+-- that many first ranges begin below the end, and the others don't
 pub record AreSplit (ranges : List Range) (headed : List HeadedIndex) (end : List ℕ) (m : ℕ) : Type 0 where
   pub below : (k : ℕ) (d : HeadedIndex) → k < m → k < length headed
       → IsBefore (begin_at ranges (get_or headed k d).index) end

@@ -1,4 +1,4 @@
--- How many bytes two numbers begin with in common is told by the leading zeros of their exclusive or.
+-- How many bytes two numbers begin with in common is determined by the leading zeros of their exclusive or.
 use Rattle.std.proofs.Common.{
   ◌≡◌,
   ◌≢◌,
@@ -68,7 +68,7 @@ same_above : (a b k : ℕ) → bit_xor a b < 2 ^ k → a / 2 ^ k ≡ b / 2 ^ k
 same_above a b k below =
     no_difference (a / 2 ^ k) (b / 2 ^ k) (sym (xor_shr a b k) ∙ div-eq_of_lt below)
 
--- where the bits from one on are the same, the exclusive or is below it
+-- if the bits from one on are the same, the exclusive or is below it
 below_same : (a b k : ℕ) → a / 2 ^ k ≡ b / 2 ^ k → bit_xor a b < 2 ^ k
 below_same a b k same =
     let none : bit_xor a b / 2 ^ k ≡ 0 =
@@ -89,7 +89,7 @@ below_byte a b i below same =
     below_same a b (8 * i) (omega (arith, upper, sym (byte_by_bits i a) ∙ same ∙ byte_by_bits i b))
 
 module _ (a b : ℕ) (a_fits : a < 2 ^ 64) (b_fits : b < 2 ^ 64) where
-  -- the numbers begin with so many bytes in common
+  -- the numbers begin with that many bytes in common
   pub same_first : take (leading_zeros w64 (bit_xor a b) / 8) (to_be_bytes w64 a)
       ≡ take (leading_zeros w64 (bit_xor a b) / 8) (to_be_bytes w64 b)
   same_first =

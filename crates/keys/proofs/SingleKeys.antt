@@ -1,4 +1,4 @@
--- The range of a single key ends right behind that key, so no other begin lies in it.
+-- The range of a single key ends right after that key, so no other begin lies in it.
 use Rattle.std.proofs.Common.{◌≡◌, ℕ, zero, suc, ◌+◌, ◌<◌, false, not, List, [], ◌∷◌, ◌++◌, length, get_or, refl, sym, ap, subst, ◌∙◌, inl, inr, arith}
 use Rattle.std.specs.Prelude.{Contains}
 use Rattle.std.proofs.lemmas.Bool.{cases_order}
@@ -44,7 +44,7 @@ before_single : (key single : List ℕ) → IsBefore key single → IsBefore key
 before_single key single before =
     before_next key single ∙ ap not (not_before_if key single (before_at_most_same key single before))
 
--- behind a key the rank is one more
+-- after a key the rank is one more
 rank_after_at : (keys : List (List ℕ)) (key : List ℕ) (i : ℕ) → AreRising keys → i < length keys
     → get_or keys i key ≡ key → rank keys (key ++ 0 ∷ []) ≡ rank keys key + 1
 rank_after_at [] key i rising within is = absurd (omega arith)

@@ -30,7 +30,7 @@ use Rattle.keys.specs.Key.{IsBytes}
 use Rattle.keys.specs.Head.{head_of}
 use Rattle.keys.proofs.callers.KeyHeads.{head_same_long}
 
--- lists that agree at each of the first words begin alike
+-- lists that agree at each of the first words begin the same way
 words_equal_from : (n : ℕ) (a b : List ℕ)
     → ((k : ℕ) → k < n → take 8 (drop (k * 8) a) ≡ take 8 (drop (k * 8) b)) → take (n * 8) a ≡ take (n * 8) b
 words_equal_from zero a b same = refl
@@ -60,13 +60,13 @@ are_bytes a bytes = All-from_get_or (λ byte. byte < 256) a 0 (λ i inside. byte
 word_bytes : (k : ℕ) (a : List ℕ) → IsBytes a → IsBytes (word_at k a)
 word_bytes k a bytes = All-take (λ byte. byte < 256) 8 (drop (k * 8) a) (All-drop (λ byte. byte < 256) (k * 8) a bytes)
 
--- words of eight bytes are told apart by their heads
+-- words of eight bytes are distinguished by their heads
 same_word : (v w : List ℕ) → IsBytes v → IsBytes w → length v ≡ 8 → length w ≡ 8 → head_of v ≡ head_of w → v ≡ w
 same_word v w v_bytes w_bytes v_length w_length same =
     sym (take_all 8 v (omega arith)) ∙ head_same_long v w v_bytes w_bytes same (omega arith) (omega arith)
     ∙ take_all 8 w (omega arith)
 
--- lists whose first words have the same heads begin alike
+-- lists whose first words have the same heads begin the same way
 pub equal_by_heads : (n : ℕ) (a b : List ℕ) → ((i : ℕ) → get_or a i 0 < 256) → ((i : ℕ) → get_or b i 0 < 256)
     → 8 * n ≤ length a → 8 * n ≤ length b
     → ((k : ℕ) → k < n → head_of (take 8 (drop (k * 8) a)) ≡ head_of (take 8 (drop (k * 8) b)))
@@ -76,7 +76,7 @@ equal_by_heads n a b a_bytes b_bytes in_a in_b same =
     (word_bytes k a (are_bytes a a_bytes)) (word_bytes k b (are_bytes b b_bytes))
     (word_length n k a in_a less) (word_length n k b in_b less) (same k less))
 
--- where the two items of a pair are equal, what each of them is known to be is equal too
+-- if the two items of a pair are equal, what each of them is known to be is equal too
 pub same_of_pair : {A B : Type 0} (pair : Option (A × A)) (left right : Option A) (view : A → B) (x y : B)
     {Left Right : A → Type 0} {Both : A × A → Type 0} {some : A × A}
     → option_map (λ p. p) pair ≡ Some some → left ≡ option_map (λ p. p.0) pair → right ≡ option_map (λ p. p.1) pair

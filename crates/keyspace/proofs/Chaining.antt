@@ -53,7 +53,7 @@ use Rattle.keyspace.specs.Run.{
 use Rattle.std.proofs.lemmas.Int.{ints}
 use Rattle.keyspace.proofs.Judging.{judge_judged}
 
--- an element of a list with p behind it is p, behind the whole list, or one of the list
+-- an element of a list with p after it is p, after the entire list, or one of the list
 last_or_before : {A : Type 0} (ps : List A) (p : A) (before : List A) (q : A) (after : List A)
     → ps ++ p ∷ [] ≡ before ++ q ∷ after
     → ((before ≡ ps) × (q ≡ p)) ⊎ ((others : List A) × (ps ≡ before ++ q ∷ others))

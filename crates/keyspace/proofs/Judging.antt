@@ -163,7 +163,7 @@ lt_trichotomy : (i m : ℕ) → (i < m) ⊎ ((i ≡ m) ⊎ (m < i))
 lt_trichotomy i m = grind arith
 
 module _ (ws : List Write) (earlier : List Range) (t : Txn) where
-  -- what the places of an entry that is to tell them have to be
+  -- what the places of an entry that reports them have to be
   record Reports (places : List ℕ) : Type 0 where
     hits : (i : ℕ) → IsHit ws t i → IsStrictlyIncreasing places × ((k : ℕ) → Contains places k ↔ IsHit ws t k)
     first : ((i : ℕ) → IsHit ws t i → ⊥) → (i : ℕ) × (places ≡ i ∷ []) × IsFirstToMeet earlier t i
@@ -230,7 +230,7 @@ module _ (ws : List Write) (earlier : List Range) (t : Txn) where
             (f.1 m l g.0)
       ]
 
-  -- only those places can be told
+  -- no other places can be reported
   same_reported : (hits : List ℕ) → places_from 0 (is_hit ws t) t.reads ≡ hits → (places : List ℕ) → Reports places
       → places ≡ hits_or_first hits (places_from 0 (meets_earlier earlier) t.reads)
   same_reported [] e places reported =
@@ -251,7 +251,7 @@ module _ (ws : List Write) (earlier : List Range) (t : Txn) where
       (places_from 0 (meets_earlier earlier) t.reads)) [])) (sym marked)
       (reported (places_from 0 (is_hit ws t) t.reads) refl c)
 
-  -- places that are told for a verdict
+  -- places that are reported for a verdict
   abbrev Report : Verdict → List ℕ → Type 0
   Report verdict places = ((IsReported t verdict → ⊥) → places ≡ []) × (IsReported t verdict → Reports places)
 

@@ -1,4 +1,4 @@
--- Appending leaves what spans within the buffer tell, so ranges can be appended one after the other.
+-- Appending leaves what spans within the buffer show, so ranges can be appended in sequence.
 use Rattle.std.proofs.Common.{◌≡◌, ◌+◌, ℕ, List, [], ◌∷◌, ◌++◌, length, map, refl, sym, ap, ap₂, ◌∙◌, subst, All, arith, length-append, append_assoc, append-nil}
 use Rattle.std.proofs.lemmas.List.{map-append, length-map}
 use Rattle.std.proofs.lemmas.List.Elements.{All-nil, All-head, All-tail, All-append, All-weaker}

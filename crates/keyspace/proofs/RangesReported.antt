@@ -1,4 +1,4 @@
--- The ranges that spans tell, by their indices.
+-- The ranges that spans show, by their indices.
 use Rattle.std.proofs.Common.{◌≡◌, ◌<◌, ℕ, List, length, map, refl, sym, ap, ◌∙◌, subst, All, Some, slice_get, slice_range, get_or}
 use Rattle.std.proofs.lemmas.List.{length-map, get_or-map}
 use Rattle.keys.specs.declared.range.Range.{Range}
@@ -13,7 +13,7 @@ use Rattle.keyspace.proofs.Slices.{slice_range-map, All-slice_range, slice_get-s
 abbrev pub no_span : Span
 no_span = record { begin = 0; begin_length = 0; end = 0; end_length = 0 }
 
--- a part of ranges has the fields that the part of the spans tells
+-- a part of ranges has the fields that the part of the spans shows
 pub part_reported : (buffer : List ℕ) (spans : List Span) (ranges part : List Range) (from to : ℕ)
     → map range_fields ranges ≡ map (range_of_span buffer) spans → part ≡ slice_range ranges from to
     → map range_fields part ≡ map (range_of_span buffer) (slice_range spans from to)

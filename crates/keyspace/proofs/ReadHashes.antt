@@ -1,4 +1,4 @@
--- The read version of a transaction, where its ranges are among all ranges of a batch, and the hashes of these.
+-- The read version of a transaction, the positions of its ranges among all ranges of a batch, and the hashes of these.
 use Rattle.std.proofs.Common.{◌≡◌, ◌+◌, ◌-◌, ◌*◌, ◌<◌, ◌≤◌, ℕ, Option, inl, inr, arith, List, length, take, refl, sym, ap, ◌∙◌, subst, Some, slice_get, slice_range, get_or}
 use Rattle.std.proofs.lemmas.List.{get_or-map, length-map}
 use Rattle.std.proofs.lemmas.Option.{get_or_from_slice_get, slice_get_within}
@@ -87,7 +87,7 @@ module _ (buffer : List ℕ) (spans : List Span) (rows : List Row) (tables : Are
       let fits = row_at 0 rows (length spans) index before.0 row row tables.rows_fit before.1 within at in
       omega (arith, fits.0)
 
-  -- there are only so many ranges
+  -- there are only that many ranges
   pub few_ranges : length (ranges_in txns) ≤ 2048 * length rows
   few_ranges =
       let reported = ap length (ranges_reported buffer spans rows tables tables.holds) in
@@ -103,7 +103,7 @@ module _ (ranges : List Range) (hashes : List (Option ℕ)) (are : AreHashesOf r
     | inr all ↦ subst (IsHashOf range) (sym is) (AllZip-at IsHashOf ranges hashes place range hash at all)
   ]
 
-  -- where none is given, the range isn't a single key
+  -- if none is given, the range isn't a single key
   pub hash_missing : length hashes ≤ place → ¬ IsSingle range
   hash_missing past = elim are [
     | inl (none, single) ↦ subst (λ (r : Range). ¬ IsSingle r) (get_or_from_slice_get ranges place range range at)

@@ -1,4 +1,4 @@
--- Rows whose spans lie one after the other, and the transactions that they tell, by their indices.
+-- Rows whose spans lie in sequence, and the transactions that they show, by their indices.
 use Rattle.std.proofs.Common.{◌≡◌, ℕ, zero, suc, pos, false, ◌+◌, ◌<◌, ◌≤◌, List, [], ◌∷◌, ◌++◌, length, take, get_or, refl, sym, ap, ◌∙◌, subst, arith}
 use Rattle.keyspace.specs.declared.span.Span.{Span}
 use Rattle.keyspace.specs.declared.row.Row.{Row}
@@ -10,7 +10,7 @@ use Rattle.keyspace.proofs.callers.Rows.{rows_rise}
 abbrev pub no_row : Row
 no_row = record { snapshot = pos 0; end = 0; writes = 0; marked = false }
 
--- the rows before an index lie one after the other too
+-- the rows before an index lie in sequence too
 pub rows_before : (from : ℕ) (rows : List Row) (to index : ℕ) → AreRows from rows to
     → (at : ℕ) × AreRows from (take index rows) at
 rows_before from [] to zero are = (from, refl)
@@ -30,7 +30,7 @@ rows_up_to from (first ∷ rows) to (suc index) none are within =
     subst (λ (n : ℕ). AreRows from (take n (first ∷ rows)) (get_or rows index none).end) more
     (are.0, rows_up_to first.end rows to index none are.1 (omega (arith, within)))
 
--- the spans of a row lie behind those of the rows before it
+-- the spans of a row lie after those of the rows before it
 pub row_at : (from : ℕ) (rows : List Row) (to index at : ℕ) (row none : Row) → AreRows from rows to
     → AreRows from (take index rows) at → index < length rows → row ≡ get_or rows index none
     → (at + row.writes ≤ row.end) × (row.end ≤ to)

@@ -39,7 +39,7 @@ lt_from_test a b h = grind arith
 test_from_lt : (a b : ℤ) → a <ℤ b → int_lt a b ≡ true
 test_from_lt a b h = grind arith
 
--- where some element passes, P holds of one
+-- if some element passes, P holds of one
 pub any_from_test : {X : Type 0} (P : X → Type 0) (test : X → Bool) (xs : List X)
     → ((x : X) → test x ≡ true → P x) → list_any test xs ≡ true → Any P xs
 any_from_test P test [] f h = cc

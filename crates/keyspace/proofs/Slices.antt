@@ -19,14 +19,14 @@ pub slice_range-append : {X : Type 0} (xs more : List X) (from to : ℕ) → to 
 slice_range-append xs more from to within =
     between_is (xs ++ more) from to ∙ ap (drop from) (take-append-le to xs more within) ∙ sym (between_is xs from to)
 
--- what is appended is the part behind the list
+-- what is appended is the part after the list
 pub slice_range-appended : {X : Type 0} (xs more rest : List X) (to : ℕ) → to ≡ length xs + length more
     → slice_range (xs ++ (more ++ rest)) (length xs) to ≡ more
 slice_range-appended xs more rest to e =
     ap (take (to - length xs)) (drop_at xs (more ++ rest) (length xs) refl)
     ∙ take-append-le (to - length xs) more rest (omega arith) ∙ take_all (to - length xs) more (omega arith)
 
--- two parts, one after the other
+-- two parts, in sequence
 pub slice_range-join : {X : Type 0} (xs : List X) (from mid to : ℕ) → from ≤ mid → mid ≤ to
     → slice_range xs from mid ++ slice_range xs mid to ≡ slice_range xs from to
 slice_range-join xs from mid to low high =

@@ -12,7 +12,7 @@ use Rattle.keyspace.proofs.RowsInTurn.{reported_more}
 use Rattle.keyspace.proofs.Slices.{All-slice_range, slice_range-append, slice_range-appended}
 use Rattle.keyspace.proofs.Putting.{ranges_kept, within_kept, put_then}
 
--- what a part of the spans tells stays when bytes and spans are appended
+-- what a part of the spans shows stays when bytes and spans are appended
 part_kept : (buffer more : List ℕ) (spans added : List Span) (from to : ℕ) → All (LiesWithin (length buffer)) spans
     → to ≤ length spans
     → map (range_of_span (buffer ++ more)) (slice_range (spans ++ added) from to)
@@ -35,14 +35,14 @@ txns_kept buffer more spans added from (row ∷ rows) to lie are within =
     λ i. record { snapshot = row.snapshot; marked = row.marked; reads = reads i; writes = writes i } in
     ap₂ ◌∷◌ txn (txns_kept buffer more spans added row.end rows to lie are.1 within)
 
--- what tables tell stays when bytes are appended
+-- what tables show stays when bytes are appended
 pub reported_kept : (buffer more : List ℕ) (spans : List Span) (rows : List Row) → AreTables buffer spans rows
     → txns_of_tables (buffer ++ more) spans rows ≡ txns_of_tables buffer spans rows
 reported_kept buffer more spans rows tables =
     ap (λ ss. txns_of_tables (buffer ++ more) ss rows) (sym (append-nil spans))
     ∙ txns_kept buffer more spans [] 0 rows (length spans) tables.spans_within tables.rows_fit (omega arith)
 
--- the new tables, where the spans and the bytes of the row are appended
+-- the new tables, if the spans and the bytes of the row are appended
 module _ (buffer : List ℕ) (spans : List Span) (rows : List Row) (tables : AreTables buffer spans rows)
     (more : List ℕ) (reads writes : List Span) (row : Row) (txn : TxnFields) (limits : TxnLimits txn)
     (lie : All (LiesWithin (length (buffer ++ more))) (reads ++ writes))

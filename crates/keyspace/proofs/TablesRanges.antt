@@ -1,4 +1,4 @@
--- The ranges that tables tell: those of all spans, at most so many as the limits allow.
+-- The ranges that tables show: those of all spans, at most as many as the limits allow.
 use Rattle.std.proofs.Common.{◌≡◌, ◌≤◌, ◌*◌, ◌-◌, ℕ, List, [], ◌∷◌, ◌++◌, length, map, take, drop, refl, sym, ap, ap₂, ◌∙◌, subst, All, flat_map, slice_range, arith, length-append, take_all}
 use Rattle.std.proofs.lemmas.List.{length-map, map-append}
 use Rattle.std.proofs.lemmas.List.Elements.{All-nil, All-head, All-tail, All-append}
@@ -75,7 +75,7 @@ module _ (buffer : List ℕ) (spans : List Span) (rows : List Row) (tables : Are
       let as_rows = length-reported buffer spans 0 rows in
       omega arith
 
-  -- transactions that the tables tell have the ranges of the spans
+  -- transactions that the tables show have the ranges of the spans
   pub ranges_of_reported : (txns : List Txn) → txns_of_tables buffer spans rows ≡ map txn_fields txns
       → map range_fields (ranges_in txns) ≡ map (range_of_span buffer) spans
   ranges_of_reported txns reported = fields_of_ranges_in txns ∙ ap fields_in (sym reported) ∙ reported_by_spans

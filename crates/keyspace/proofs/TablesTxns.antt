@@ -1,4 +1,4 @@
--- The transactions that tables tell, by their indices.
+-- The transactions that tables show, by their indices.
 use Rattle.std.proofs.Common.{◌≡◌, ◌<◌, ℕ, List, length, map, take, sym, ap, ◌∙◌, subst, All, Some, slice_get, get_or}
 use Rattle.std.proofs.lemmas.List.{length-map}
 use Rattle.keyspace.specs.declared.txn.Txn.{Txn}

@@ -78,7 +78,7 @@ marks_filled rows count index row none marks half entire are within is reported 
           (rows_up_to 0 rows count index none are within),
     )
 
--- so many read ranges, and then so many write ranges
+-- that many read ranges, and then that many write ranges
 abbrev marks_for : ℕ → ℕ → List Bool
 marks_for reads writes = replicate reads false ++ replicate writes true
 

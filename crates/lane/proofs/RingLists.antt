@@ -31,7 +31,7 @@ module _ {T : Type 0} where
   pub same_in_hand : (j k : ℕ) (x y : Option T) (xs ys : List (ℕ × Option T)) → (j, x) ∷ xs ≡ (k, y) ∷ ys → x ≡ y
   same_in_hand j k x y xs ys e = ap (in_hand x) e
 
-  -- the item that follows a beginning
+  -- the item that follows a prefix
   item_after : (xs ys : List T) → slice_get (xs ++ ys) (length xs) ≡ slice_get ys 0
   item_after [] ys = refl
   item_after (x ∷ xs) ys = item_after xs ys
@@ -41,7 +41,7 @@ module _ {T : Type 0} where
   after xs (y ∷ ys) x e =
       (ys, ap (λ z. xs ++ z ∷ ys) (same_Some y x e) ∙ sym (append_assoc xs (x ∷ []) ys))
 
-  -- a beginning with the item that follows it
+  -- a prefix with the item that follows it
   pub continues : (xs ys : List T) (x : T) → IsPrefix xs ys → slice_get ys (length xs) ≡ Some x
       → IsPrefix (xs ++ x ∷ []) ys
   continues xs ys x is e =

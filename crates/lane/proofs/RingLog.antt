@@ -25,7 +25,7 @@ longer : (part log : List Move) (move : Move) → IsPrefix part log → IsPrefix
 longer part log move is =
     (is.0 ++ move ∷ [], ap (λ l. l ++ move ∷ []) is.1 ∙ append_assoc part is.0 (move ∷ []))
 
--- a log goes on by a move, with all moves made before it
+-- a log continues by a move, with all moves made before it
 pub continues_by : (part log : List Move) (move : Move) → IsPrefix part log → ContinuesBy move part (log ++ move ∷ [])
 continues_by part log move is = record { between = is.0; log = ap (λ l. l ++ move ∷ []) is.1 }
 

@@ -203,7 +203,7 @@ value_of : {X : Type 0} (P : X → Type 0) (o : Option X) → IsSomeAnd o P → 
 value_of P None h = elim h [ ]
 value_of P (Some x) h = (x, refl, h)
 
--- so the account that settles the clients tells of both proxies
+-- so the account that settles the clients speaks of both proxies
 pub serving_settled : (window : ℤ) (r : ResolverState) (clients : List Client) (first second : Batch) (served : Served)
     → (are : AreServing window r clients ((first ∷ []) ∷ (second ∷ []) ∷ []) (served.first.items ∷ served.second.items ∷ []))
     → ((log : List Step) × Settled r.core.set.window log r.lanes clients served.account)

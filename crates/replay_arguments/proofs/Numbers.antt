@@ -59,7 +59,7 @@ pub bool_err : {E : Type 0} (text : List ℕ) (e : E) → ((on : Bool) × (text 
 bool_err text e (true, is) parses = parses.0 is
 bool_err text e (false, is) parses = parses.1 is
 
--- what is read of a number that is within its range, where the reading says `also` and `rest` too
+-- what is read of a number that is within its range, if the reading says `also` and `rest` too
 pub unsigned_read : {E : Type 0} (found : Found) (id : List ℕ) (also rest : List ℕ → Result ℕ E → Type 0) (least most : ℕ)
     (read : Option ℕ)
     → ((text : List ℕ) → one_text found id ≡ Some text

@@ -118,7 +118,7 @@ summarized_by rows form (Some summary) summed = (λ is. summed.0, λ is. refl)
 pub off_and_on : (rows : List Row) (id : List ℕ) → one_of id rows ≡ Some (bool_text false) → one_of id rows ≡ Some (bool_text true) → ⊥
 off_and_on rows id off on = false≢true (bool_text_same false true (Some-injective (sym off ∙ on)))
 
--- where a summary can't be alone there is none
+-- if a summary can't be alone there is none
 pub no_summary : (rows : List Row) (form : Form) (summary : Option SummaryForm) → HoldsSummary rows form summary
     → (is_some summary ≡ true → ⊥) → HoldsSummary rows form None
 no_summary rows form None holds other = holds

@@ -13,7 +13,7 @@ use Rattle.keys.specs.declared.range.Range.{Range}
 use Rattle.replay_hot_ranges.specs.Counts.{Ends, has_ends}
 use Rattle.replay_hot_ranges.specs.Top.{ends_cmp}
 
--- ranges that compare alike are one
+-- ranges that compare as equal are one
 pub ends_exact : CmpEqualImpliesEq ends_cmp
 ends_exact = exact_pairs (slice_cmp nat_cmp) (slice_cmp nat_cmp) exact_bytes exact_bytes
 

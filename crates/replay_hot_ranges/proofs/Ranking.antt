@@ -278,7 +278,7 @@ module _ (tally : RangeTally) (ordered : tree.IsOrdered ends_cmp tally.counts) (
       others = others;
     }
 
--- from the clauses of `sort_by`, where each call compares the counts, the second one first
+-- from the clauses of `sort_by`, if each call compares the counts, the second one first
 pub top_from_sort_by : {F : Type 0} {g : Mut F (Bor HotRange × (Bor HotRange × Unit {0})) Ordering} {f : F}
     (tally : RangeTally) (ordered : tree.IsOrdered ends_cmp tally.counts) (all sorted : List HotRange) (rows : map row_of all ≡ rows_of tally)
     (moved : IsPermutation all sorted)

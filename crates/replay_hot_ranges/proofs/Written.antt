@@ -1,4 +1,4 @@
--- The tokens of a range, one after the other.
+-- The tokens of a range, in sequence.
 use Rattle.std.proofs.Common.{◌≡◌, List, [], ◌∷◌, ◌++◌, codes, decimal, ap, ◌∙◌, append_assoc}
 use Rattle.json.specs.Token.{Token, begin_object, end_object, key, number}
 use Rattle.json.specs.Tree.{json_tokens}

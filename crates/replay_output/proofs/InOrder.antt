@@ -1,4 +1,4 @@
--- Putting items in order keeps what holds of each, and commutes with what they tell of; they are in order then.
+-- Putting items in order keeps what holds of each, and commutes with what they are about; they are in order then.
 use Rattle.std.specs.Prelude.{◌≡◌, ℤ, int_lt, true, false, List, [], ◌∷◌, map, fold}
 use Rattle.std.specs.List.{All}
 use Rattle.std.proofs.Common.{refl, sym, ap, ◌∙◌, subst, inl, inr, arith}
@@ -28,7 +28,7 @@ module _ {X : Type 0} (P : X → Type 0) (version : X → ℤ) where
   All-in_order received all = All-put_all [] received (λ k d inside. absurd (omega arith)) all
 
 module _ {X Y : Type 0} (reports : X → Y) (version : X → ℤ) (item_version : Y → ℤ) where
-  -- its version is that of what it tells of
+  -- its version is that of what it is about
   abbrev Agrees : X → Type 0
   Agrees x = version x ≡ item_version (reports x)
 

@@ -6,11 +6,11 @@ use Rattle.std.proofs.Math.Seq.{take-append-add}
 use Rattle.std.proofs.lemmas.List.{take_all}
 use Rattle.std.proofs.Common.{refl, sym, ap, ◌∙◌, subst, append_assoc, arith}
 
--- a beginning of this text, if the writer still tells
+-- a prefix of this text, if the writer still reports its bytes
 abbrev pub Begins : Option (List ℕ) → Option (List ℕ) → List ℕ → Type 0
 Begins old new text = IfSome new (λ _. (n : ℕ) × Appends old new (take n text))
 
--- a beginning of the first is one of both
+-- a prefix of the first is one of both
 take_within : (n : ℕ) (first next : List ℕ) → (m : ℕ) × (take m (first ++ next) ≡ take n first)
 take_within zero first next = (zero, refl)
 take_within (suc n) [] next = (zero, refl)
@@ -18,7 +18,7 @@ take_within (suc n) (x ∷ first) next =
     let rest = take_within n first next in
     (suc rest.0, ap (λ (text : List ℕ). x ∷ text) rest.1)
 
--- what was written whole, and then a beginning of what follows
+-- what was written in full, and then a prefix of what follows
 pub begins_then : (old between new : Option (List ℕ)) (first next : List ℕ) → Appends old between first
     → Begins between new next → Begins old new (first ++ next)
 begins_then old between None first next entire begins = tt
@@ -48,7 +48,7 @@ module _ {X : Type 0} (text : X → List ℕ) where
       ap (λ l. text y ++ l) (split_at ys i x (omega arith) is)
       ∙ sym (append_assoc (text y) (flat_map text (take i ys)) _)
 
-  -- the pieces before one were written whole, and of that one a beginning
+  -- the pieces before one were written in full, and of that one a prefix
   pub begins_at : (xs : List X) (i : ℕ) (x : X) → i < length xs → x ≡ get_or xs i x
       → (old between new : Option (List ℕ)) → Appends old between (flat_map text (take i xs))
       → Begins between new (text x) → Begins old new (flat_map text xs)

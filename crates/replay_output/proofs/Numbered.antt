@@ -77,7 +77,7 @@ module _ {X Y : Type 0} (view : X → Y) (change : Y → Y) where
       → map view xs ≡ changed_to change i entire → map view (set xs i y) ≡ changed_to change i entire
   changed_to-same entire xs i x y is same so_far = map-set_same view xs i y x (same ∙ ap view is) ∙ so_far
 
--- so many items has the next list, which is still as it was
+-- the next list, which is unchanged, has that many items
 pub count_next : {X Z : Type 0} (view : X → List Z) (change : List Z → List Z) (entire : List (List Z)) (xs : List X) (i : ℕ) (x : X)
     → i < length xs → x ≡ get_or xs i x → map view xs ≡ changed_to change i entire → count_at entire i ≡ length (view x)
 count_next view change entire xs i x inside is so_far =

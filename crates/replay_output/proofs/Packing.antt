@@ -1,4 +1,4 @@
--- Letters are spelled as they are, words so many times, and the text of units is that of one run after another.
+-- Letters are spelled as they are, words as often as their number says, and the text of units is that of one run after another.
 use Rattle.std.specs.Prelude.{◌≡◌, ℕ, zero, suc, ◌+◌, ◌-◌, ◌%◌, ◌/◌, ◌<◌, ◌≤◌, ◌⊎◌, List, [], ◌∷◌, ◌++◌, length, take, drop, slice_index_or as get_or, slice_set as set, slice_range, Option}
 use Rattle.std.specs.List.{repeat}
 use Rattle.std.specs.Str.{IsAscii}
@@ -25,7 +25,7 @@ letters (byte ∷ bytes) ascii =
     ap (λ (text : List ℕ). text ++ text_of_units bytes) (spelled_letter byte (ascii 0))
     ∙ ap (λ (text : List ℕ). byte ∷ text) (letters bytes (λ i. ascii (suc i)))
 
--- the text after letters are put behind it
+-- the text after letters are put after it
 pub with_letters : (units bytes text now : List ℕ) → text_of_units units ≡ text → IsAscii bytes → now ≡ units ++ bytes
     → text_of_units now ≡ text ++ take (length bytes) bytes
 with_letters units bytes text now is ascii pushed =
@@ -48,7 +48,7 @@ repeat_suc : (n : ℕ) (text : List ℕ) → repeat n text ++ text ≡ repeat (s
 repeat_suc zero text = sym (append-nil text)
 repeat_suc (suc n) text = append_assoc text (repeat n text) text ∙ ap (λ (more : List ℕ). text ++ more) (repeat_suc n text)
 
--- a text so many times, and once more
+-- a text that many times, and once more
 pub repeat_more : (front : List ℕ) (n : ℕ) (text : List ℕ) → (front ++ repeat n text) ++ text ≡ front ++ repeat (n + 1) text
 repeat_more front n text =
     let more : suc n ≡ n + 1 = omega arith in
@@ -100,7 +100,7 @@ split_run units i j le =
     ∙ sym (flat_map-append text_of_unit (take i units) (drop i units))
     ∙ ap text_of_units (take-append-drop i units)
 
--- the units before a run were printed whole, and of the run a beginning
+-- the units before a run were printed in full, and of the run a prefix
 pub begins_run : (units : List ℕ) (i j : ℕ) → i ≤ j → (old between new : Option (List ℕ))
     → Appends old between (text_of_units (take i units)) → Begins between new (text_of_units (slice_range units i j))
     → Begins old new (text_of_units units)

@@ -28,7 +28,7 @@ pub files_of_names : (contents : List ℕ → Option (List ℕ)) (names : List (
 files_of_names contents names = length-map (texts names) contents ∙ length-map names (λ name. name.now)
 
 module _ {R : Type 0} (remaining : R → Option (List ℕ)) where
-  -- readers of so many files are as many
+  -- there is one reader per file
   pub readers_of_files : (files : List (Option (List ℕ))) (readers : Vec R Global) → map remaining readers.items ≡ files
       → vec_len readers ≡ length files
   readers_of_files files readers are = readers.ok.0 ∙ sym (length-map readers.items remaining) ∙ ap length are

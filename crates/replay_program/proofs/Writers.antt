@@ -15,7 +15,7 @@ use Rattle.replay_program.specs.Program.{AreWriters, DidNotCreate, HaveWriters, 
 use Rattle.replay_tasks.specs.Replayed.{DidNotStart, Written}
 use Rattle.replay_program.specs.Streamed.{FailsToStream}
 
--- so many places, of which the first have these items
+-- that many places, of which the first have these items
 abbrev pub padded_list : {X : Type 0} → ℕ → List X → List (Option X)
 padded_list zero xs = []
 padded_list (suc n) [] = None ∷ padded_list n []
@@ -33,7 +33,7 @@ empty : {X : Type 0} (xs : List X) → length xs ≡ 0 → xs ≡ []
 empty [] none = refl
 empty (x ∷ xs) none = absurd (omega (arith, none))
 
--- the next place, where so many items were left, and so many are
+-- the next place, by how many items were left and are left
 pub padded_next : {X : Type 0} (n : ℕ) (done : List (Option X)) (xs rest : List X) (count others : ℕ) (next : Option X)
     (all : List (Option X)) → count ≡ length xs → others ≡ length rest
     → MatchOption next ((count ≡ 0) × (others ≡ 0)) (λ x. (xs ≡ x ∷ rest) × (others + 1 ≡ count))
@@ -52,7 +52,7 @@ padded_at zero (y ∷ xs) place x few at = absurd (omega (arith, few))
 padded_at (suc n) (y ∷ xs) zero x few at = ap (λ (o : Option _). Some o) at
 padded_at (suc n) (y ∷ xs) (suc place) x few at = padded_at n xs place x (omega (arith, few)) at
 
--- behind the items there are none
+-- after the items there are none
 padded_beyond : {X : Type 0} (n : ℕ) (xs : List X) (place : ℕ) (o : Option X) → length xs ≤ place
     → slice_get (padded_list n xs) place ≡ Some o → o ≡ None
 padded_beyond zero xs place o beyond at = absurd (none-some o at)

@@ -26,7 +26,7 @@ module _ {X : Type 0} where
   head_at (x ∷ xs) zero = refl
   head_at (x ∷ xs) (suc place) = head_at xs place
 
-  -- lists that are alike from a place on have the same item there
+  -- lists that are equal from a place on have the same item there
   pub same_at : (xs ys : List X) (place : ℕ) → drop place xs ≡ drop place ys → slice_get xs place ≡ slice_get ys place
   same_at xs ys place same = sym (head_at xs place) ∙ ap (λ (l : List X). slice_get l 0) same ∙ head_at ys place
 

@@ -1,4 +1,4 @@
--- Failures of shards, one after the other.
+-- Failures of shards, in sequence.
 use Rattle.std.specs.Prelude.{◌≡◌, ℕ, zero, suc, ◌+◌, Bool, true, false, ◌||◌, List, [], ◌∷◌, map, take, Option, None, Some, slice_get}
 use Rattle.std.specs.Option.{option_or}
 use Rattle.std.proofs.Common.{refl, ap, ◌∙◌, arith}

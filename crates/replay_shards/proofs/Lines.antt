@@ -1,4 +1,4 @@
--- Lines of split points, one after the other.
+-- Lines of split points, in sequence.
 use Rattle.std.specs.Prelude.{◌≡◌, ◌≢◌, ◌==◌, true, false, ℕ, zero, suc, ◌+◌, ◌<◌, List, [], ◌∷◌, ◌++◌, length, take, Option, None, Some, IfSome, slice_get, All}
 use Rattle.std.proofs.Common.{refl, sym, ap, ◌∙◌, subst, inl, inr, arith, append_assoc, append-nil, take_all}
 use Rattle.std.specs.Io.BufRead.{take_through}

@@ -1,4 +1,4 @@
--- The first batches of readers, one after the other.
+-- The first batches of readers, in sequence.
 use Rattle.std.specs.Prelude.{◌≡◌, ℕ, List, [], ◌∷◌, ◌++◌, Option, flat_map, map, vec_items, Vec}
 use Rattle.std.proofs.Common.{Global, refl, sym, ap, subst}
 use Rattle.keyspace.specs.declared.batch.Batch.{Batch}

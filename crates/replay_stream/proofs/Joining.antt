@@ -32,7 +32,7 @@ all_taken {T} port intake lane ended =
     entire [] is none = sym (append-nil intake.taken) ∙ sym is
     entire (x ∷ rest) is none = absurd (omega (arith, none))
 
--- the intake that a recorder hands back is still that of its lane
+-- the intake that a recorder returns is still that of its lane
 pub still_ends : {T : Type 0} (port : PortView T) (given now : IntakeView T) → SameLane port given → IntakeContinues given now
     → SameLane port now
 still_ends port given now same goes =

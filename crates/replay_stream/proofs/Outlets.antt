@@ -36,7 +36,7 @@ passes_then (Some a) (Some b) (Some c) u v w xs ys h k = (
   k.1 ∙ ap (λ (l : List Answer). l ++ ys) h.1 ∙ append_assoc (a.sent ++ option_to_list u) xs ys,
 )
 
--- with a failed writer no outlet is whole
+-- with a failed writer no outlet is intact
 pub broken : (lost : Bool) → is_complete lost true ≡ false
 broken true = refl
 broken false = refl
@@ -298,7 +298,7 @@ passed_set outlets i x inside before now q m below at =
           (slice_get-get_or outlets q m (omega (arith, known, length-set outlets i x)) ∙ ap Some is)
     ]
 
--- a stream that goes on by two steps
+-- a stream that continues by two steps
 pub streams_then : (style later : Style) (first mid now : Bool) (a b c : SinkState) (old between new : List Outlet) → later ≡ style
     → StreamsOn style first mid a b old between → StreamsOn later mid now b c between new → StreamsOn style first now a c old new
 streams_then style later first mid now a b c old between new same one two = λ failed given outlets was.

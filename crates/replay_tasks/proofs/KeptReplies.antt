@@ -64,7 +64,7 @@ some_line : (ls : List Line) → 1 ≤ length (replies_kept ls) → 1 ≤ length
 some_line [] some = some
 some_line (l ∷ ls) some = omega arith
 
--- where a reply is kept there is a line
+-- if a reply is kept there is a line
 count_kept : (received : List (List Line)) (proxy : ℕ) → 1 ≤ count_at (map replies_kept received) proxy → 1 ≤ count_at received proxy
 count_kept [] proxy some =
     let none : List Reply = [] in

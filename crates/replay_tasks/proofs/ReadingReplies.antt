@@ -1,4 +1,4 @@
--- Reading the frames of replies, one after the other.
+-- Reading the frames of replies, in sequence.
 use Rattle.std.specs.Prelude.{◌≡◌, ◌≢◌, IfSome, ℕ, List, [], ◌∷◌, ◌++◌, length, Option, Some, slice_get}
 use Rattle.std.specs.List.{AllZip}
 use Rattle.std.proofs.Common.{refl, sym, ap, ◌∙◌, subst, append_assoc, append-nil}
@@ -17,7 +17,7 @@ takes_reply_also old between new [] reply taken next =
 takes_reply_also old between new (first ∷ rest) reply taken next =
     (taken.0, taken.1, takes_reply_also taken.0 between new rest reply taken.2 next)
 
--- what stands behind as many as there are in another list
+-- what stands after as many as there are in another list
 at_seam : {X Y : Type 0} (R : X → Y → Type 0) (done : List X) (ys : List Y) (x : X) (rest : List X) → AllZip R done ys
     → slice_get (done ++ x ∷ rest) (length ys) ≡ Some x
 at_seam R [] [] x rest all = refl

@@ -16,7 +16,7 @@ use Rattle.replay_workers.specs.Ends.{EndsContinue}
 use Rattle.replay_workers.specs.Inbox.{KeepsLines, InboxContinues}
 use Rattle.replay_workers.proofs.callers.SameLanes.{ends_continue}
 
--- the answer's line was kept, behind the others
+-- the answer's line was kept, after the others
 abbrev pub IsKept : Style → ℕ → List Line → List Line → Answer → Type 0
 IsKept style proxy old new answer =
     (line : Line) × (new ≡ old ++ line ∷ []) × (answer_of line ≡ answer) × IsLineOf style proxy line

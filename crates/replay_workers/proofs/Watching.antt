@@ -23,7 +23,7 @@ module _ {X : Type 0} where
   stood was now place x inside untouched same =
       untouched ∙ ap (λ (l : List X). slice_get l place) (sym same) ∙ written now place x inside
 
--- Whether the look is as it was (`after`), where one place was as before until now, by whether the rest is (`before`) and
+-- Whether the look is as it was (`after`), if one place was as before until now, by whether the rest is (`before`) and
 -- what is written stood there already (`kept`).
 pub same_after : (was_reported old_reported new_reported : List ReportedState) (was_sent old_sent new_sent : List ℕ) (place : ℕ) (t : ReportedState)
     (s : ℕ) (before kept after : Bool) → place < length old_reported → place < length old_sent

@@ -34,7 +34,7 @@ use Rattle.resolver.proofs.FromVersion.{Stands-as_many, part_of_proxy, known_sen
 use Rattle.resolver.proofs.Settling.{lanes_at}
 use Rattle.resolver.proofs.Unchanged.{LanesHold}
 
--- a beginning of the whole length is the whole
+-- a prefix of the full length is the entire list
 begins_entire : {T : Type 0} (xs ys : List T) → IsPrefix xs ys → length xs ≡ length ys → xs ≡ ys
 begins_entire xs ys begins same =
     let both = ap length begins.1 ∙ length-append xs begins.0 in
@@ -85,7 +85,7 @@ owed_none owed proxy none inside =
     (eqb-true (length (owed_to proxy owed)) 0
     (AllPass-from_list_all (λ answers. eqb (length answers) 0) owed all proxy [] inside))
 
--- where all lanes have ended, each has
+-- if all lanes have ended, each has
 ended_at : (lanes : List Lanes) (proxy : ℕ) (l : Lanes) → all_ended lanes ≡ true → slice_get lanes proxy ≡ Some l
     → l.ended ≡ true
 ended_at lanes proxy l all at =
@@ -125,7 +125,7 @@ module _ (p : Parts) (are : AreParts p) (clients : List Client) (count : length 
       let inside = slice_get_within clients proxy c at in
       some_at p.all_lanes proxy (omega (arith, inside, count))
 
-  -- where all is complete, the reply lanes were closed
+  -- if all is complete, the reply lanes were closed
   was_closed : IsComplete (resolver_of p) clients → p.closed ≡ true
   was_closed complete =
       let some = are.some in
@@ -254,7 +254,7 @@ module _ (p : Parts) (are : AreParts p) (clients : List Client) (count : length 
       taken_entire ended =
           begins_entire c.replies.taken l.lanes.replies.sent replies.in_order (ended.all ∙ replies.all_seen ended.close)
 
-      -- each of its batches has its answer, where none is held
+      -- each of its batches has its answer, if none is held
       one_each : EachBatchIsAnswered → (run core.set.window entire).held ≡ []
           → c.replies.taken ≡ answers core.set.window entire proxy → part log proxy ≡ c.requests.sent
           → length c.replies.taken ≡ length c.requests.sent

@@ -50,7 +50,7 @@ both_at xs ys same p =
       | inr past ↦ inr (past.0, omega (arith, same, past.0))
     ]
 
--- what each keeps, the lists have alike
+-- what each keeps, both lists have
 pub field_same : {X Y : Type 0} (f : X → List Y) (old new : List X) → length new ≡ length old
     → ((p : ℕ) (x y : X) → slice_get old p ≡ Some x → slice_get new p ≡ Some y → f y ≡ f x) → (p : ℕ)
     → slice_index_or (map f new) p [] ≡ slice_index_or (map f old) p []

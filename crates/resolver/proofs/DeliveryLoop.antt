@@ -36,7 +36,7 @@ abbrev pub DeliveredBelow : ℕ → List (List Answer) → List (List Answer) �
 DeliveredBelow i before after q old now =
     (q < i → Delivers old now (owed_to q before) (owed_to q after)) × (i ≤ q → now ≡ old)
 
--- this pair of lanes hands out too
+-- this pair of lanes delivers too
 pub EachProxy-delivered : {old now : List ProxyLanesView} (i : ℕ) (x d : ProxyLanesView) (before mid after : List (List Answer))
     → i < length now → ((q : ℕ) → i ≤ q → owed_to q mid ≡ owed_to q before)
     → ((q : ℕ) → q ≢ i → owed_to q after ≡ owed_to q mid)

@@ -18,7 +18,7 @@ use Rattle.resolver.proofs.AtIndex.{field_at, field_past, field_same, lanes_at, 
 use Rattle.resolver.proofs.DeliveredAnswers.{StandsBy-moved}
 use Rattle.resolver.proofs.Logged.{stands_same, was_closed}
 
--- a test that comes out alike at each index
+-- a test with the same result at each index
 pub list_all-same : {X : Type 0} (test : X → Bool) (old new : List X) → length new ≡ length old
     → ((p : ℕ) (x y : X) → slice_get old p ≡ Some x → slice_get new p ≡ Some y → test y ≡ test x)
     → list_all test new ≡ list_all test old
@@ -30,7 +30,7 @@ list_all-same test (x ∷ old) (y ∷ new) same each =
     let rest = list_all-same test old new (omega (arith, same)) (λ p. each (suc p)) in
     cc
 
--- where no more is owed to any proxy, no more is owed to all
+-- if no more is owed to any proxy, no more is owed to all
 owed_count-le : (old new : List (List Answer)) → length new ≡ length old
     → ((p : ℕ) → length (owed_to p new) ≤ length (owed_to p old)) → owed_count new ≤ owed_count old
 owed_count-le [] [] same each = omega arith
@@ -65,7 +65,7 @@ made_past all_lanes owed p past_all_lanes past_owed =
     (omega (arith, past_all_lanes, length-map all_lanes (λ l. l.lanes))))
     ∙ get_or_past (owed_with all_lanes owed) p [] (omega (arith, past_owed, owed_with-length all_lanes owed))
 
--- what is owed no more than before, where a beginning of what is sent was
+-- what is owed no more than before, if a prefix of what is sent was
 owed_less : (l m : ProxyLanesView) (before after : List Answer) → Delivers l m before after
     → length (option_to_list m.waiting ++ after) ≤ length (option_to_list l.waiting ++ before)
 owed_less l m before after h =

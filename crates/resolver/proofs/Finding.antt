@@ -12,7 +12,7 @@ Between first end q = (first ≤ q) × (q < end)
 abbrev Untaken : (ℕ → Type 0) → PerProxy
 Untaken Looked q l m = (Looked q → TakesFromProxy None l m) × ((Looked q → ⊥) → m ≡ l)
 
--- a pair of lanes, where one of the pairs of lanes gave a batch
+-- a pair of lanes, if one of the pairs of lanes gave a batch
 abbrev Taken : (ℕ → Type 0) → ℕ → Batch → PerProxy
 Taken Looked proxy batch q l m =
     (q ≡ proxy → TakesFromProxy (Some batch) l m)

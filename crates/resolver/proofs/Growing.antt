@@ -149,7 +149,7 @@ MadeBetween-grown before now after given core new are same more rest =
           (begins_answers_to p now.answered after.answered rest.answered);
     }
 
--- where a step has made no answer yet
+-- if a step has made no answer yet
 pub MadeBetween-step : (window : ℤ) (x : Step) (state : State) (given : Given) (core new : CoreState)
     → IsIn state given core → new.owed ≡ core.owed
     → MadeBetween state (step window x state) given new

@@ -88,7 +88,7 @@ one_more (suc n) h hs known = elim (cases_lt h.0 n) [
   | inr last ↦ omega (arith, no_fewer n h hs, held_own n h hs (omega (arith, known, last)))
 ]
 
--- where no other proxy has one, all that are held are counted
+-- if no other proxy has one, all that are held are counted
 all_below : (n : ℕ) (hs : List Held) → ((q : ℕ) → n ≤ q → length (held_of q hs) ≡ 0) → length hs ≤ held_below n hs
 all_below n [] none = omega arith
 all_below n (h ∷ hs) none = elim (cases_lt h.0 n) [
@@ -109,7 +109,7 @@ some_has_more (suc n) share hs more = elim (cases_lt share (length (held_of n hs
       (other.0, omega (arith, other.1), other.2)
 ]
 
--- where all that are held wait, none is due
+-- if all that are held wait, none is due
 none_due : (version : ℤ) (hs : List Held) → All (λ h. version <ℤ h.1.previous) hs → next_due version hs ≡ None
 none_due version hs wait = by (next_due version hs) refl
   where
@@ -121,7 +121,7 @@ none_due version hs wait = by (next_due version hs) refl
         let late = (All-without (λ h. version <ℤ h.1.previous) leaves.before l.0 leaves.after all).0 in
         absurd (omega (arith, ints, late, leaves.due))
 
--- where a batch is taken that is ahead of the version, it is held, and none leaves
+-- if a batch is taken that is ahead of the version, it is held, and none leaves
 held_ahead : (window : ℤ) (log : List Step) (proxy : ℕ) (b : Batch)
     → version_of (run window log).processed <ℤ b.previous
     → (run window (log ++ Take proxy b ∷ [])).held ≡ (run window log).held ++ (proxy, b) ∷ []
@@ -179,7 +179,7 @@ module _ (version : ℤ) (r : ResolverState) (log : List Step) (stands : StandsO
       let one = some_has_more n (share_of n) held (omega (arith, full, within, all)) in
       (one.0, one.1, omega (arith, unanswered one.0 one.1, one.2))
 
--- where a batch is taken that is ahead of the version, and the gate is full, one more is held by the log than the gate holds
+-- if a batch is taken that is ahead of the version, and the gate is full, one more is held by the log than the gate holds
 pub beyond_share : (version : ℤ) (old new : ResolverState) → length new.lanes ≡ length old.lanes
     → new.core.set.window ≡ old.core.set.window → length new.core.owed ≡ length new.lanes → old.core.stop ≡ None
     → IsResolvingFrom version old

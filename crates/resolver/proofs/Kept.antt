@@ -113,7 +113,7 @@ module _ (p : Processed) (proxy : ℕ) (version : ℤ) where
       ∙ or_else-cond (own && not (is_received ps proxy version)) q.reply (kept_reply ps proxy version)
       (kept_reply (p ∷ []) proxy version)
 
-  -- where none is kept of the batch's version, its reply goes first as well as last
+  -- if none is kept of the batch's version, its reply goes first as well as last
   own_first : (ps : List Processed) → kept_reply ps p.proxy p.batch.version ≡ None
       → or_else (kept_reply ps proxy version) (cond is_own (Some p.reply) None)
       ≡ cond is_own (Some p.reply) (kept_reply ps proxy version)

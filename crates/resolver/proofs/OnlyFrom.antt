@@ -1,4 +1,4 @@
--- A log that takes batches of so many proxies alone takes nothing from any other, and the other way round.
+-- A log that takes batches of that many proxies alone takes nothing from any other, and the other way round.
 use Rattle.std.proofs.Common.{◌≡◌, ℕ, ◌≤◌, ◌==◌, cond, Bool, List, [], ◌∷◌, length, sym, ap, ◌∙◌, refl, inl, inr, arith}
 use Rattle.std.specs.Prelude.{ℤ}
 use Rattle.std.proofs.lemmas.Bool.{cases_lt, ne_eqb, eq-eqb}

@@ -13,7 +13,7 @@ use Rattle.resolver.proofs.Admitting.{admit-held}
 use Rattle.resolver.proofs.Growing.{Grows, grows_leave, grows_leave_all}
 use Rattle.resolver.proofs.Observing.{seen_between}
 
--- where none is due, none leaves
+-- if none is due, none leaves
 leave-none : (turns : ℕ) (window : ℤ) (s : State) → next_due (version_of s.processed) s.held ≡ None
     → leave turns window s ≡ s
 leave-none zero window s none = refl
@@ -62,7 +62,7 @@ leave_all-next window s h others next due fewer =
     ∙ ap (leave_then (leave (length others) window) window s) next
     ∙ ap (λ hs. leave (length hs) window (left window s h others)) (sym same)
 
--- The core is in the state after so many of the batches held in this state have left. An observer that had seen what was
+-- The core is in the state after that many of the batches held in this state have left. An observer that had seen what was
 -- processed before has seen what is processed then: `before` and `after` are what is true of it, by what it has seen.
 pub record Reaches (window : ℤ) (state : State) (given : Given) (core : CoreState)
     (before after : List Processed → Type 0) : Type 0 where
@@ -123,7 +123,7 @@ module _ (window : ℤ) (state : State) (given : Given) (core : CoreState) (befo
       subst (λ v. next_due v now.held ≡ l) r.are.version
       (subst (λ hs. next_due core.version hs ≡ l) r.are.held next)
 
-  -- where none is due, all have left
+  -- if none is due, all have left
   all_left : next_due core.version core.held ≡ None → now ≡ leave_all window state
   all_left none = sym (leave_all-none window now (next_now None none)) ∙ r.same
 

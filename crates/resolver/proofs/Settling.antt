@@ -144,7 +144,7 @@ module _ (count : ℕ) (old : List ProxyLanesView) (before : List Client) (new :
           and_from all here (all_is.1 (λ proxy k b below. taken proxy k b (omega (arith, below))))
           (here_is.1 (taken count l c (omega arith) proxy_lanes_was client_was))
 
--- where all are settled, each is
+-- if all are settled, each is
 pub settled_all : (count : ℕ) (old : List ProxyLanesView) (before : List Client) (new : List ProxyLanesView) (after : List Client)
     → length old ≤ count → AreSettled count old before new after → EachSettled old before new after
 settled_all count old before new after all are = record {

@@ -100,7 +100,7 @@ use Rattle.resolver.proofs.Observing.{seen_more}
 use Rattle.resolver.proofs.SeenSteps.{step_taken, step_finished, step_none, observes_nothing}
 use Rattle.resolver.proofs.callers.Later.{lanes_same}
 
--- an intake that hasn't changed goes on
+-- an intake that hasn't changed continues
 intake_same : {T : Type 0} (v : _) → IntakeContinues {T = T} v v
 intake_same v = record {
   lane = refl;
@@ -152,7 +152,7 @@ looks_same l m is = subst (λ (x : ProxyLanesView). Looks [] l x) (sym is) recor
   waiting = refl;
 }
 
--- of each pair of lanes, where nothing was taken
+-- of each pair of lanes, if nothing was taken
 abbrev pub LooksAtAll : List ProxyLanesView → List ProxyLanesView → Type 0
 LooksAtAll = EachProxy (λ p l m. Looks [] l m)
 

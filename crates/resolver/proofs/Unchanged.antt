@@ -72,7 +72,7 @@ module _ (old new : List ProxyLanesView) (before after : List Client) (each : Ea
       let settles = each.each proxy l m.0 c d.0 l_at m.1 c_at d.1 in
       (settles.requests, settles.replies)
 
-  -- each pair of lanes goes on, with the same lists
+  -- each pair of lanes continues, with the same lists
   pub lanes_settled : Each (λ _ l m. LanesContinue l m × AreSameLists l m) (lanes_of old) (lanes_of new)
   lanes_settled = record {
     count = length-map new (λ l. l.lanes) ∙ each.count ∙ sym (length-map old (λ l. l.lanes));

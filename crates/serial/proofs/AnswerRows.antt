@@ -1,4 +1,4 @@
--- The worked examples of what answers tell.
+-- The worked examples of what answers show.
 use Rattle.std.proofs.Common.{◌≡◌, ℕ, zero, suc, false, ◌||◌, if◌then◌else◌, List, [], ◌∷◌, ℤ, refl, sym, ◌∙◌, ap, subst, arith}
 use Rattle.std.specs.Prelude.{IsTrue, Option, Some, None, is_some, pos, negsuc, Contains}
 use Rattle.std.proofs.lemmas.Bool.{false≢true}

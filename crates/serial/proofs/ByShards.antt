@@ -1,4 +1,4 @@
--- If each shard of the keys has a resolver of its own, reads are current.
+-- If each shard of the keys has its own resolver, reads are current.
 use Rattle.std.proofs.Common.{
   ◌≡◌,
   ℕ,

@@ -258,7 +258,7 @@ module _ (Taken : ℕ → ℕ → Batch → Type 0)
             Contains-append_left s.answered (map reported_held s.held) (e.proxy, reported.Reply e.reply) (k.answered i e at);
       }
 
--- The log takes the batch from the proxy when at most so many batches were processed.
+-- The log takes the batch from the proxy when at most that many batches were processed.
 pub record IsTaken (window : ℤ) (log : List Step) (most : ℕ) (proxy : ℕ) (batch : Batch) : Type 0 where
   pub before : List Step
   pub after : List Step

@@ -10,7 +10,7 @@ use Rattle.serial.proofs.Holding.{written_above, written_above-append}
 use Rattle.serial.proofs.Versions.{VersionsRise}
 use Rattle.shards.specs.Laws.{IsAmong}
 
--- where an element of the list is in the other list: those before it are among those before it there
+-- if an element of the list is in the other list: those before it are among those before it there
 pub place_among : {X : Type 0} (xs ys : List X) → IsAmong xs ys → (i : ℕ) (x : X) → slice_get xs i ≡ Some x
     → (k : ℕ) × (slice_get ys k ≡ Some x) × IsAmong (take i xs) (take k ys)
 place_among [] ys among i x at = absurd (let no : ⊥ = cc in no)

@@ -89,7 +89,7 @@ span_put buffer spans range span new_spans is within reported = record {
   within = All-cons (LiesWithin (length buffer)) span [] within (All-nil (LiesWithin (length buffer)));
 }
 
--- spans that tell ranges tell each of them
+-- spans that show ranges show each of them
 pub reported_each : (buffer : List ℕ) (spans : List Span) (ranges : List Range) (i : ℕ) (span : Span) (range : Range)
     → map (range_of_span buffer) spans ≡ map range_fields ranges → slice_get spans i ≡ Some span → slice_get ranges i ≡ Some range
     → range_of_span buffer span ≡ range_fields range
@@ -129,7 +129,7 @@ module _ (shard : Shard) (ranges : List Range) (i : ℕ) (range : Range) (inside
   clips_next true goes = clips_with (sym goes)
   clips_next false goes = clips_without (sym goes) ∙ sym (append-nil (clips_of shard (take i ranges)))
 
--- the range of a span, if spans tell ranges
+-- the range of a span, if spans show ranges
 pub range_at : (buffer : List ℕ) (spans : List Span) (ranges : List Range) (i : ℕ) (none : Span)
     → map (range_of_span buffer) spans ≡ map range_fields ranges → i < length spans
     → (range : Range) × (slice_get ranges i ≡ Some range) × (range_of_span buffer (get_or spans i none) ≡ range_fields range)

@@ -25,7 +25,7 @@ pub begins_short : (sample : List Batch) → All IsShort (begins_of sample)
 begins_short [] = All-nil IsShort
 begins_short (b ∷ sample) = All-append IsShort (begins_in b) (begins_of sample) (begins_in_short b) (begins_short sample)
 
--- what holds of the keys holds behind each reference
+-- what holds of the keys holds of the key of each reference
 pub all_after : (P : List ℕ → Type 0) (refs : List (Bor (List ℕ))) → All P (keys_of refs) → All (λ key. P key.now) refs
 all_after P refs all k d inside =
     let within : k < length (keys_of refs) = omega (arith, inside, length-map refs (λ (key : Bor (List ℕ)). key.now)) in
@@ -41,7 +41,7 @@ begins_more sample i batch at =
     ∙ flat_map-append begins_in (map now (take i sample)) (batch.now ∷ [])
     ∙ ap (λ (last : List (List ℕ)). begins_of (map now (take i sample)) ++ last) (append-nil (begins_in batch.now))
 
--- the key behind the reference at an index
+-- the key of the reference at an index
 pub key_at : (refs : List (Bor (List ℕ))) (i : ℕ) (d : Bor (List ℕ)) → i < length refs → slice_get (keys_of refs) i ≡ Some (get_or refs i d).now
 key_at refs i d inside =
     let now = λ (key : Bor (List ℕ)). key.now in

@@ -1,4 +1,4 @@
--- The rows of a batch that are left, and the transactions that they tell.
+-- The rows of a batch that are left, and the transactions that they show.
 use Rattle.std.proofs.Common.{◌≡◌, ◌≤◌, ◌+◌, ℕ, zero, suc, List, [], ◌∷◌, length, map, drop, refl, sym, ap, ◌∙◌, subst, arith}
 use Rattle.std.specs.Prelude.{Some, slice_get}
 use Rattle.keyspace.specs.declared.txn.Txn.{Txn}

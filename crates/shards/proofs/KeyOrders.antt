@@ -41,7 +41,7 @@ sorted_drop lt (suc n) (x ∷ xs) sorted = sorted_drop lt n xs (sorted_tail lt x
 abbrev key_lt : Bor (List ℕ) → Bor (List ℕ) → Bool
 key_lt a b = is_lt (slice_cmp nat_cmp a.now b.now)
 
--- what a sort of keys behind references ensures
+-- what a sort of keys by reference ensures
 pub ordered_from_sorted : (keys : List (Bor (List ℕ))) → IsSorted (λ (a b : Bor (List ℕ)). slice_cmp nat_cmp a.now b.now) keys
     → AreOrdered (keys_of keys)
 ordered_from_sorted [] sorted = tt

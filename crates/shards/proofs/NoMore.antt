@@ -77,7 +77,7 @@ no_conflict ps current i j p t c conflict =
           not_both_ways (in_ranges written key.0) some none
     ]
 
--- where the first range goes to a shard, there is a clip
+-- if the first range goes to a shard, there is a clip
 some_clip : (shard : Shard) (ranges clips : List Range) (range : Range) → slice_get ranges 0 ≡ Some range
     → goes_to shard range ≡ true → AreClips shard ranges clips → 0 < length clips
 some_clip shard [] clips range at goes are = cc

@@ -79,7 +79,7 @@ shard_has points key count first =
     (shard_after points key count first count first.within ∙ at_most_test count count (omega arith))
 
 module _ (points : List (List ℕ)) (key : List ℕ) (count : ℕ) (first : AreFirst (λ point. is_before point key) points count) where
-  -- shard m begins before the key exactly if so many split points do
+  -- shard m begins before the key exactly if that many split points do
   shard_before : (m : ℕ) → m ≤ length points → is_before [] key ≡ true → is_before (shard_at points m).from key ≡ nat_le m count
   shard_before zero within some = some ∙ sym (zero_at_most count)
   shard_before (suc m) within some =

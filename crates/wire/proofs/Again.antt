@@ -99,7 +99,7 @@ ends_again range rest holds =
       test,
     ) refl
 
--- a form, and the text that stands behind it
+-- a form, and the text that stands after it
 form_again : (form : ℕ) (text rest : List ℕ) → form < 256
     → formed_at ((form ∷ text) ++ rest) ≡ form_at form (text ++ rest)
 unfolding formed_at

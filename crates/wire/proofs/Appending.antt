@@ -9,7 +9,7 @@ use Rattle.keyspace.specs.storage.Tables.{AreRows}
 use Rattle.keyspace.proofs.callers.Rows.{rows_rise}
 use Rattle.wire.specs.Lying.{txn_read, txns_read, IsBetween, AreApart}
 
--- what one more element does to those behind the first n
+-- what one more element does to those after the first n
 pub pushed_after : {X Y : Type 0} (f : X → Y) (n : ℕ) (xs new : List X) (x : X) → n ≤ length xs
     → new ≡ xs ++ x ∷ [] → map f (drop n new) ≡ map f (drop n xs) ++ f x ∷ []
 pushed_after f n xs new x le is = rw (is, drop-append-le n xs (x ∷ []) le) (map_push f (drop n xs) x)

@@ -71,7 +71,7 @@ all_taken {A} one text Holds each body a fits e =
     ∙ append-nil (text b.0.0) in
     subst (λ (v : A). (body ≡ text v) × Holds v) (ok_is b.0.0 a g.1) (entire, t.1)
 
--- the wire version that was read is the one that the kind tells
+-- the wire version that was read is the one that the kind shows
 kind_stands : (version : WireVersion) (batch : BatchFields) (rest : List ℕ)
     → slice_index (frame (batch_body version batch) ++ rest) 4 ≡ batch_kind version
 unfolding batch_body

@@ -46,7 +46,7 @@ at_most_entire bytes le =
       | inr low ↦ omega (arith, entire_length bytes le low)
     ]
 
--- more bytes don't change the length that the front tells
+-- more bytes don't change the length that the front shows
 pub same_length : (front bytes : List ℕ) → take (length front) bytes ≡ front → 4 < frame_length front
     → frame_length bytes ≡ frame_length front
 same_length front bytes e more =

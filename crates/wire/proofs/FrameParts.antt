@@ -24,7 +24,7 @@ cut_in_front e old (Some ys) fewer =
     let part = fewer.0 in
     (part, less_than_frame e part (omega (arith, short_length part fewer.1, fewer.1)), fewer.2)
 
--- more bytes leave the length that the front tells
+-- more bytes leave the length that the front shows
 pub longer_front : (old new : Option (List ℕ)) (front all : List ℕ) → MovesInto old new front all → 4 < frame_length front
     → frame_length all ≡ frame_length front
 longer_front old new front all moved more =

@@ -41,7 +41,7 @@ fewer_then a b (Some zs) held more most last p q le = (
   consumes_then a b (Some zs) p.0 q.0 p.2 q.2,
 )
 
--- a read more into the slice behind what was read before
+-- a read more into the slice after what was read before
 pub taken_more : (a b c : Option (List ℕ)) (room part after : List ℕ) (count more : ℕ) → count ≤ length room
     → after ≡ take count room ++ part → Consumes a b (take count room) → Consumes b c (take more part)
     → Consumes a c (take (count + more) after)
@@ -58,7 +58,7 @@ pub fewer_kept : (a b c : Option (List ℕ)) (bytes : List ℕ) (most : ℕ) →
 fewer_kept a b None bytes most h k lt = tt
 fewer_kept a b (Some zs) bytes most h k lt = (bytes, lt, consumes_keeps a b (Some zs) bytes h k)
 
--- bytes that are read into the memory behind those that are held
+-- bytes that are read into the memory after those that are held
 pub filled : (held count room : ℕ) (front old read post rest : List ℕ) → front ≡ old → held ≡ length old
     → count ≤ length read → held + count ≤ room
     → take (held + count) (take room ((front ++ (read ++ post)) ++ rest)) ≡ old ++ take count read

@@ -32,7 +32,7 @@ pub memory_comes : (now : Option (List ℕ)) → IfSome now (ComesFrom Memory)
 memory_comes None = tt
 memory_comes (Some xs) = λ not_memory not_read. absurd (not_memory refl)
 
--- what a failed write of a whole slice leaves
+-- what a failed write of a complete slice leaves
 pub begun : (before after : Option (List ℕ)) (entire : List ℕ)
     → IfSome after (λ _. (n : ℕ) × Appends before after (take n entire))
     → IfSome after (λ _. (bytes rest : List ℕ) × (entire ≡ bytes ++ rest) × Appends before after bytes)
@@ -41,7 +41,7 @@ begun before (Some zs) entire part =
     let n = part.0 in
     (take n entire, drop n entire, sym (take-append-drop n entire), part.1)
 
--- the frames of so many batches were taken, and their new frames were written
+-- the frames of that many batches were taken, and their new frames were written
 pub record SoFar (left now before after : Option (List ℕ)) (count : ℕ) : Type 0 where
   pub batches : List Batch
   pub counted : length batches ≡ count

@@ -1,4 +1,4 @@
--- What is held of the next frame of a reply, as far as it was read, tells what the bytes left say.
+-- The part of the next frame of a reply that was read determines the content of the remaining bytes.
 use Rattle.std.proofs.Common.{◌≡◌, ◌≢◌, ℕ, ◌+◌, ◌<◌, ◌≤◌, List, [], ◌++◌, length, take, inl, inr, Option, Some, None, Result, Ok, Err, sym, ap, subst, ◌∙◌, arith}
 use Rattle.std.specs.Prelude.{IfSome}
 use Rattle.std.specs.Io.KnownBytes.{Consumes, IsAtEnd}

@@ -87,7 +87,7 @@ err_is_not_ok : (version : WireVersion) (r : Result WireVersion WireError) → r
 err_is_not_ok version (Ok x) e h = cc
 err_is_not_ok version (Err d) e h = cc
 
--- a key of at most so many bytes
+-- a key of at most that many bytes
 abbrev pub IsKeyUpTo : ℕ → List ℕ → Type 0
 IsKeyUpTo limit key = IsKey key × (length key ≤ limit)
 
@@ -136,7 +136,7 @@ ends_take bytes x fits e =
     subst (λ (p : RangeFields × List ℕ). Takes bytes (ends_text p.0) p.1 × RangeHolds p.0)
     (ok_is made x g.1) (Takes-then t.0 u.0, holds)
 
--- what follows a form, read as the form tells, is spelled behind that form
+-- what follows a form, read as the form shows, is spelled after that form
 form_takes : (form : ℕ) (bytes : List ℕ) (x : RangeFields × List ℕ) → AreBytes bytes
     → form_at form bytes ≡ Ok x
     → (text : List ℕ) × Takes bytes text x.1 × (formed_text x.0 ≡ form ∷ text) × RangeHolds x.0

@@ -18,7 +18,7 @@ rest_after frame bytes text rest r t = rest_following frame text rest (rest_part
 pub front_length : (frame rest : List ℕ) (r : IsRestOf frame rest) → length frame ≡ length r.0 + length rest
 front_length frame rest r = ap length r.1 ∙ length-append r.0 rest
 
--- the rest begins behind what was taken
+-- the rest begins after what was taken
 pub index_after : (frame bytes text rest : List ℕ) → IsRestOf frame bytes → Takes bytes text rest
     → index_of frame rest ≡ index_of frame bytes + length text
 index_after frame bytes text rest r t =

@@ -1,4 +1,4 @@
--- Spans that are given their ends, one after the other.
+-- Spans that are given their ends, in sequence.
 use Rattle.std.proofs.Common.{◌≡◌, ℕ, suc, ◌+◌, ◌-◌, ◌<◌, ◌≤◌, true, false, eqb, List, [], ◌∷◌, ◌++◌, length, map, get_or, take, drop, set, inl, inr, refl, sym, ap, subst, ◌∙◌, arith}
 use Rattle.std.specs.Prelude.{◌==◌, if◌then◌else◌}
 use Rattle.std.proofs.lemmas.Bool.{eq-eqb, ne_eqb}
@@ -58,7 +58,7 @@ drop_more a b n m e le =
 take_fewer : (a b : List ℕ) (n m : ℕ) → take n a ≡ take n b → m ≤ n → take m a ≡ take m b
 take_fewer a b n m e le = sym (take-take m n a le) ∙ ap (λ (x : List ℕ). take m x) e ∙ take-take m n b le
 
--- .. and behind the first ones
+-- .. and after the first ones
 same_after : (a b : List ℕ) (n from count : ℕ) → drop n a ≡ drop n b → n ≤ from
     → bytes_at a from count ≡ bytes_at b from count
 same_after a b n from count e le =
@@ -151,7 +151,7 @@ one_in_front frame from span to h =
       | inr two ↦ ap (λ (x : List ℕ). take (from + 1) x) (sealed_both frame span two.0)
     ]
 
--- .. nor behind its end
+-- .. nor after its end
 one_after : (frame : List ℕ) (from : ℕ) (span : Span) (to : ℕ) → IsBetween from span to
     → drop (to + 1) (sealed_one frame span) ≡ drop (to + 1) frame
 one_after frame from span to h =
@@ -170,7 +170,7 @@ one_length frame from span to h =
       | inr two ↦ ap length (sealed_both frame span two.0)
     ]
 
--- the bytes of a key and one zero byte behind them
+-- the bytes of a key and one zero byte after them
 with_zero : (frame : List ℕ) (from count : ℕ) → from + count < length frame
     → bytes_at (set frame (from + count) 0) from (count + 1) ≡ bytes_at frame from count ++ 0 ∷ []
 with_zero frame from count lt =

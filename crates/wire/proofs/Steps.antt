@@ -1,4 +1,4 @@
--- Steps of reading, one after the other.
+-- Steps of reading, in sequence.
 use Rattle.std.proofs.Common.{◌≡◌, ℕ, ℤ, Bool, true, false, cond, List, Result, Ok, Err, refl}
 use Rattle.wire.specs.declared.error.WireError.{WireError}
 use Rattle.wire.specs.Reading.{◌>>=◌, signed_at, version_at}

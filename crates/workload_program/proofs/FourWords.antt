@@ -9,7 +9,7 @@ pub if_none : {T X : Type 0} (o : Option T) → X → IfNone o X
 if_none None x = x
 if_none (Some value) x = tt
 
--- four words are the first one and those that were found behind it
+-- four words are the first one and those that were found after it
 pub are_four : {X : Type 0} (f : X → List ℕ) (words : List X) (name batches transactions : X) → 4 ≤ length words
     → length words < 5 → name ≡ get_or words 1 name → batches ≡ get_or words 2 batches
     → transactions ≡ get_or words 3 transactions

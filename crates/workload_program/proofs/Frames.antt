@@ -28,7 +28,7 @@ one_more shape count number batch last before between after so_far is_batch spel
       appends_then before between after bytes last so_far.2 grown,
     )
 
--- what is written so far is a beginning
+-- what is written so far is a prefix
 pub so_far_breaks : (shape : Shape) (count number batches : ℕ) (before after : Option (List ℕ)) → number ≤ batches
     → SoFar shape count number before after → BreaksOff shape count batches before after
 so_far_breaks shape count number batches before None few so_far = tt
@@ -41,7 +41,7 @@ so_far_breaks shape count number batches before (Some given) few so_far = (
   so_far.2,
 )
 
--- what is written so far and a beginning of one more frame are a beginning
+-- what is written so far and a prefix of one more frame are a prefix
 pub write_breaks : (shape : Shape) (count number batches : ℕ) (batch : Batch) (last : List ℕ)
     (before between after : Option (List ℕ)) → number < batches → SoFar shape count number before between
     → IsBatchOf shape count number batch → SpellsBatch One last batch
@@ -62,7 +62,7 @@ write_breaks shape count number batches batch last before between (Some given) f
       appends_then before between (Some given) front begun so_far.2 part.1,
     )
 
--- all frames are a beginning where the flush fails
+-- all frames are a prefix if the flush fails
 pub flush_breaks : (shape : Shape) (count batches : ℕ) (before between after : Option (List ℕ))
     → SoFar shape count batches before between → IfSome after (λ _. Keeps between after)
     → BreaksOff shape count batches before after

@@ -24,7 +24,7 @@ high_rises k n m least =
     let some : 0 < 256 ^ k = pow-le-pow_right {n = 256} (omega arith) {i = 0} {j = k} (omega arith) in
     le-div (n / 256 ^ k) m (256 ^ k) some (omega (arith, div-mul-le_self n (256 ^ k), least))
 
--- the k lowest bytes of a number that is no less, where the bytes above them are the same, don't come before those of the other
+-- the k lowest bytes of a number that is no less, if the bytes above them are the same, don't come before those of the other
 lowest_in_order : (k n m : ℕ) → n ≤ m → n / 256 ^ k ≡ m / 256 ^ k
     → IsAtMost (bytes_high_first k n) (bytes_high_first k m)
 lowest_in_order zero n m least same = refl

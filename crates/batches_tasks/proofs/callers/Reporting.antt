@@ -1,4 +1,4 @@
--- What is told on standard error, one text after another.
+-- The texts on standard error, in sequence.
 use Rattle.std.proofs.Common.{◌≡◌, ◌⊎◌, inl, inr, ℕ, ◌<◌, List, [], ◌∷◌, ◌++◌, Option, refl, sym, ap, ◌∙◌, append_assoc, arith}
 use Rattle.wire.proofs.callers.Given.{appends_none, appends_then}
 use Rattle.batches_tasks.specs.ErrorText.{ReportsText, ReportsLine}

@@ -1,4 +1,4 @@
--- Lemmas for callers: heads and common beginnings tell the order of keys.
+-- Lemmas for callers: heads and common prefixes determine the order of keys.
 use Rattle.std.proofs.Common.{
   ◌≡◌,
   ℕ,
@@ -79,7 +79,7 @@ pub after_by_first : (x y : ℕ) (a b : List ℕ) → y < x → is_before (x ∷
 after_by_first x y a b greater =
     ap (λ o. is_lt (ordering_then o (slice_cmp nat_cmp a b))) (sym (nat_cmp_is x y Greater greater))
 
--- behind equal first bytes the others decide
+-- after equal first bytes the others decide
 pub before_after_first : (x : ℕ) (a b : List ℕ) → is_before (x ∷ a) (x ∷ b) ≡ is_before a b
 before_after_first x a b =
     ap (λ o. is_lt (ordering_then o (slice_cmp nat_cmp a b))) (sym (nat_cmp_is x x Equal refl))
@@ -176,7 +176,7 @@ filled_up_short missing a eight =
     ap (λ zeros. a ++ zeros) (drop-replicate (length a) 8 0 ∙ ap (λ k. replicate k 0) left ∙ sym taken)
     ∙ sym (take-append-add a (replicate 8 0) missing) ∙ ap (λ k. take k (a ++ replicate 8 0)) eight
 
--- as many of the bytes as there are, up to eight, and zeros behind them
+-- as many of the bytes as there are, up to eight, and zeros after them
 pub filled_up : (n : ℕ) (a : List ℕ) → n ≡ min (length a) 8 → take n a ++ drop n (replicate 8 0) ≡ first_eight a
 filled_up n a is = elim (cases_lt 8 (length a)) [
   | inl long ↦
@@ -208,7 +208,7 @@ head_same_long a b a_bytes b_bytes same a_long b_long =
     sym (take-append-le 8 a (replicate 8 0) a_long) ∙ head_same a b a_bytes b_bytes same
     ∙ take-append-le 8 b (replicate 8 0) b_long
 
--- lists that agree at each of the first places begin alike
+-- lists that agree at each of the first places begin the same way
 pub have_same_begin : (n : ℕ) (a b : List ℕ) → n ≤ length a → n ≤ length b
     → ((k : ℕ) → k < n → slice_index a k ≡ slice_index b k) → take n a ≡ take n b
 have_same_begin n a b in_a in_b same =
@@ -218,7 +218,7 @@ have_same_begin n a b in_a in_b same =
     λ i in_n. get_or-take n a i 0 in_n ∙ same i in_n ∙ sym (get_or-take n b i 0 in_n) in
     ext_get_or 0 (take n a) (take n b) (a_length ∙ sym b_length) (λ i below. same_at i (omega arith))
 
--- keys that begin alike are compared by what stands behind
+-- keys that begin the same way are compared by what stands after
 pub after_common : (n : ℕ) (a b : List ℕ) → n ≤ length a → n ≤ length b → take n a ≡ take n b
     → is_before a b ≡ is_before (drop n a) (drop n b)
 after_common zero a b in_a in_b same = refl
@@ -229,7 +229,7 @@ after_common (suc n) (x ∷ a) (y ∷ b) in_a in_b same =
     let others : take n a ≡ take n b = cc in
     rw (← first) (before_after_first x a b) ∙ after_common n a b (omega arith) (omega arith) others
 
--- a key that ends where another goes on comes before it
+-- a key that ends where another continues comes before it
 pub after_shorter : (n : ℕ) (a b : List ℕ) → length a ≡ n → n < length b → take n a ≡ take n b → IsBefore a b
 after_shorter n a b a_length in_b same =
     after_common n a b (omega arith) (omega arith) same

@@ -26,7 +26,7 @@ is_lt-less Greater h = cc
 pub is_le-cmp : (a b : List ℕ) → is_le (slice_cmp nat_cmp a b) ≡ not (is_before b a)
 is_le-cmp a b = ap is_le (nat_list_cmp_total.antisymm a b) ∙ is_le-reverse (key_cmp b a)
 
--- keys that compare alike are one
+-- keys that compare as equal are one
 pub cmp_same : (a b : List ℕ) → slice_cmp nat_cmp a b ≡ Equal → a ≡ b
 cmp_same a b e = slice_cmp-IsAntisymmetric nat_cmp-IsAntisymmetric a b e
 

@@ -18,7 +18,7 @@ part_more xs from n x is =
     ap (λ k. take k (drop from xs)) more ∙ take-suc (drop from xs) n x inside
     ∙ ap (λ y. take n (drop from xs) ++ y ∷ []) (get_or-drop from xs n x ∙ get_or_from_slice_get xs (from + n) x x is)
 
--- by the first index and the one behind the last
+-- by the first index and the one after the last
 pub range_more : {X : Type 0} (xs : List X) (from to : ℕ) (x : X) → from ≤ to → slice_get xs to ≡ Some x
     → slice_range xs from (to + 1) ≡ slice_range xs from to ++ x ∷ []
 range_more xs from to x rises is =
@@ -27,7 +27,7 @@ range_more xs from to x rises is =
     ap (λ k. take k (drop from xs)) more
     ∙ part_more xs from (to - from) x (ap (slice_get xs) same ∙ is)
 
--- with what goes with the element behind what goes with the others
+-- with what goes with the element after what goes with the others
 pub AllZip-more : {X Y : Type 0} (R : X → Y → Type 0) (xs : List X) (i : ℕ) (ys : List Y) (x : X) (y : Y)
     → slice_get xs i ≡ Some x → AllZip R (take i xs) ys → R x y → AllZip R (take (i + 1) xs) (ys ++ y ∷ [])
 AllZip-more R xs i ys x y is all it =
@@ -64,7 +64,7 @@ some_at [] i within = absurd (omega (arith, within))
 some_at (x ∷ xs) zero within = (x, refl)
 some_at (x ∷ xs) (suc i) within = some_at xs i (omega (arith, within))
 
--- what stands in a part stands in the whole
+-- an element of a part is one of the list
 pub part_get : {X : Type 0} (xs : List X) (from to i : ℕ) (x : X) → slice_get (slice_range xs from to) i ≡ Some x
     → slice_get xs (from + i) ≡ Some x
 part_get xs from to i x is =

@@ -1,4 +1,4 @@
--- Lemmas for callers: what tests of numbers tell.
+-- Lemmas for callers: what tests of numbers show.
 use Rattle.std.proofs.Common.{◌≡◌, Bool, true, false, cond, refl, arith}
 use Rattle.std.specs.Prelude.{ℤ, ◌≤ℤ◌, pos, int_lt}
 use Rattle.std.specs.Int.{int_max}

@@ -3,7 +3,7 @@ use Rattle.std.proofs.Common.{◌≡◌, Bool, true, false, cond, List, [], ◌�
 use Rattle.keys.specs.Singles.{marked_ranges}
 use Rattle.keys.specs.declared.range.Range.{Range}
 
--- of two lists that are picked from one after the other
+-- of two lists that are picked from in sequence
 pub picked-append : (marks more : List Bool) (ranges others : List Range) → length marks ≡ length ranges
     → marked_ranges (marks ++ more) (ranges ++ others) ≡ marked_ranges marks ranges ++ marked_ranges more others
 picked-append [] more [] others same = refl

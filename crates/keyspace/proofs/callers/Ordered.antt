@@ -178,7 +178,7 @@ module _ {X : Type 0} (version : X → ℤ) where
       same_from_ties earlier order sorted (in_order_by version received)
       (Rises-from_sorted earlier order sorted up') put.rises (λ x. stable' x ∙ sym (put.same x))
 
-  -- the same from what `sort_by_key` ensures, where each call gives the version
+  -- the same from what `sort_by_key` ensures, if each call gives the version
   pub in_order-from_sort_by_key : {F : Type 0} {g : Mut F (Bor X × Unit {0}) ℤ} {f : F}
       (received sorted : List X) → IsSortedByKeyClosure g int_cmp f sorted
       → IsStableByKeyClosure g int_cmp f received sorted

@@ -1,9 +1,9 @@
--- Lemmas for callers: rows whose spans lie one after the other.
+-- Lemmas for callers: rows whose spans lie in sequence.
 use Rattle.std.proofs.Common.{ℕ, ◌+◌, ◌≤◌, List, [], ◌∷◌, ◌++◌, refl, arith}
 use Rattle.keyspace.specs.declared.row.Row.{Row}
 use Rattle.keyspace.specs.storage.Tables.{AreRows}
 
--- the last ones end behind where the first ones begin
+-- the last ones end after where the first ones begin
 pub rows_rise : (from : ℕ) (rows : List Row) (to : ℕ) → AreRows from rows to → from ≤ to
 rows_rise from [] to are = omega (arith, are)
 rows_rise from (row ∷ rows) to are = omega (arith, are.0, rows_rise row.end rows to are.1)

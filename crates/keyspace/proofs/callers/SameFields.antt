@@ -42,7 +42,7 @@ same_range a b e =
           (λ j. at_most_prop (begin j) (end j)) a.ordered b.ordered i;
     }
 
--- lists whose values are told apart by their fields
+-- lists whose values are distinguished by their fields
 pub same_list : {A B : Type 0} (f : A → B) → ((a b : A) → f a ≡ f b → a ≡ b) → (xs ys : List A)
     → map f xs ≡ map f ys → xs ≡ ys
 same_list f one [] [] e = refl

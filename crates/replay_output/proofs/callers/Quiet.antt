@@ -33,7 +33,7 @@ no_lines failures ending nothing =
     ap (λ l. l ++ ending_line ending) (clean_lines 0 failures nothing.proxies)
     ∙ ap ending_line nothing.complete
 
--- nor for records, where all were written
+-- nor for records, if all were written
 pub no_unwritten_lines : (first : ℕ) (unwritten : List Bool) → All (λ failed. failed ≡ false) unwritten
     → flat_map unwritten_line (enumerate_from first unwritten) ≡ []
 no_unwritten_lines first [] all = refl

@@ -1,4 +1,4 @@
--- A resolver from turn to turn, with what the stop that it meets tells of its log.
+-- A resolver from turn to turn, with what the stop that it meets says of its log.
 use Rattle.std.specs.Prelude.{◌≡◌, ℕ, ℤ, negsuc, ◌<ℤ◌, ◌⊎◌, List, [], ◌∷◌, ◌++◌, length, Option, None, Some, IsSome, IfSome, Result, Ok, Err, is_some}
 use Rattle.std.proofs.Common.{refl, sym, ap, subst, ◌∙◌, inl, inr}
 use Rattle.keyspace.specs.declared.batch.Batch.{Batch}
@@ -94,7 +94,7 @@ module _ (old new : ResolverState) (goes : Continues old.core new.core) (Before 
   turned turn.Idle was step none before = finished_or_none was step none before
   turned turn.Done was step none before = finished_or_none was step none before
 
-  -- the gate's and the arena's stops, as a turn tells them
+  -- the gate's and the arena's stops, as a turn shows them
   abbrev AtFullGate : Type 0
   AtFullGate =
       (proxy : ℕ) × (took : TakesFrom proxy old new)

@@ -1,4 +1,4 @@
--- Lemmas for callers: bytes that a writer tells it was given, from one write to the next.
+-- Lemmas for callers: bytes that a writer reports, from one write to the next.
 use Rattle.std.proofs.Common.{◌≡◌, ℕ, ◌+◌, Bool, true, false, List, [], ◌++◌, take, drop, Option, Some, None, sym, ap, ◌∙◌, append_assoc}
 use Rattle.std.specs.Prelude.{if◌then◌else◌, IfSome, Result, Ok, Err, IfErr, OnErr}
 use Rattle.std.specs.Io.KnownBytes.{Keeps, Appends}
@@ -28,7 +28,7 @@ appends_nothing None b h = tt
 appends_nothing (Some xs) None h = absurd h
 appends_nothing (Some xs) (Some ys) h = h ∙ append-nil xs
 
--- as a writer tells its bytes only under a test
+-- as a writer reports its bytes only under a test
 pub reported_appends : (hidden : Bool) (a b c : Option (List ℕ)) (bs : List ℕ) → Keeps a b → Appends b c bs
     → Appends (if hidden then None else a) (if hidden then None else c) bs
 reported_appends true a b c bs h k = tt

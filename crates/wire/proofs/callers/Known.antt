@@ -1,4 +1,4 @@
--- Lemmas for callers: bytes that a reader tells, from one read to the next.
+-- Lemmas for callers: bytes that a reader reports, from one read to the next.
 use Rattle.std.proofs.Common.{◌≡◌, ℕ, Bool, true, false, List, [], ◌++◌, Option, Some, None, refl, sym, ap, ◌∙◌, append_assoc, append-nil}
 use Rattle.std.specs.Prelude.{if◌then◌else◌, IfSome}
 use Rattle.std.specs.Io.KnownBytes.{Keeps, Consumes, IsAtEnd}
@@ -37,7 +37,7 @@ consumes_then (Some xs) (Some ys) None bs cs h k = absurd k
 consumes_then (Some xs) (Some ys) (Some zs) bs cs h k =
     h ∙ ap (λ (x : List ℕ). bs ++ x) k ∙ sym (append_assoc bs cs zs)
 
--- as a reader tells its bytes only under a test
+-- as a reader reports its bytes only under a test
 pub reported_consumes : (hidden : Bool) (a b c : Option (List ℕ)) (bs : List ℕ) → Keeps a b → Consumes b c bs
     → Consumes (if hidden then None else a) (if hidden then None else c) bs
 reported_consumes true a b c bs h k = tt

@@ -1,2 +1,2 @@
--- Lemmas for callers: what tests of numbers tell.
+-- Lemmas for callers: what tests of numbers show.
 pub use Rattle.wire.proofs.Again.{at_least}

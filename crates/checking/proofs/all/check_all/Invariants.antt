@@ -4,7 +4,7 @@ use Rattle.std.specs.Vec.Iter.{into_iter_items, into_iter_len}
 use Rattle.checking.specs.Check.{count_differences, lines_from}
 use Rattle.checking.proofs.all.check_all.Given as goal
 
--- what was told so far, and what is to be told of the proxies that are left
+-- the text so far, and the text about the remaining proxies
 abbrev pub invariant-loop-replies : goal.invariant-loop-replies
 invariant-loop-replies l = record {
   reported :

@@ -42,7 +42,7 @@ module _ (c : After-send_only-2) where
       (slice_get-get_or between 1 c.index-clients-1.result (omega (arith, two)))
       refl refl is.port is.sent is.replies
 
-  -- what `receive_all` is told of what was sent
+  -- what `receive_all` knows of the sent items
   sent_is : map (λ d. d.requests.sent) now ≡ sent
   sent_is = serving_sent_by WINDOW c.args.resolver.now now sent ([] ∷ [] ∷ []) both_sent
 

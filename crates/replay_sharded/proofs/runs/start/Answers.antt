@@ -46,7 +46,7 @@ answered_field_send = struct_send (shape Answered.the_type) answered_fields_send
 answered_send : IsSend Answered.the_row
 answered_send = search (recorded_send, answered_field_send) depth 10
 
--- the types of the fields of what a shard's thread hands back
+-- the types of the fields of the result of a shard's thread
 fields_send : AllSend (shape ShardRun.the_type).fields
 fields_send = (
   search (sendable, crosses, answered_send) depth 20,

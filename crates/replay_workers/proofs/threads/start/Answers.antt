@@ -41,7 +41,7 @@ most_fields_send = (
 most_field_send : IsSend (MostUnanswered.the_field).row
 most_field_send = struct_send (shape MostUnanswered.the_type) most_fields_send
 
--- the types of the fields of what a worker hands back
+-- the types of the fields of a worker's result
 fields_send : AllSend (shape Finished.the_type).fields
 fields_send = (
   client.the_field_send,

@@ -51,7 +51,7 @@ left c =
     subst (λ (ranges : List Range). AllZip (IsReported (shard_at c.args.points.now c.args.shard) c.args.shard) ranges c.loop-index.rest.now)
     (ranges_next c.args.batch.now.txns c.loop-index.index c.txn-txn.result c.txn-txn.ensures.txn) c.loop-index.invariant.rest
 
--- so many ranges it has
+-- it has that many ranges
 count : (c : After-len-in-loop-index) → c.len.result + c.len-in-loop-index.result ≡ length (c.txn-txn.result.reads ++ c.txn-txn.result.writes)
 count c =
     let t = c.txn-txn.result in

@@ -7,7 +7,7 @@ use Rattle.keyspace.proofs.ReadHashes.{row_within, snapshot_at}
 use Rattle.keyspace.proofs.txns.Txns.snapshot.Goals.{After-self}
 use Rattle.keyspace.proofs.txns.Txns.snapshot.Goals as goal
 
--- the transaction at the index, among those that the tables tell
+-- the transaction at the index, among those that the tables show
 found : (c : After-self) → (txn : Txn) × (slice_get c.args.self.now c.args.index ≡ Some txn)
 found c = some_at c.args.self.now c.args.index c.requires.within
 
