@@ -65,7 +65,7 @@ pub record IsRebalanced (old new : Arena Node) (least height : ℕ) (was now : L
   pub items : items_of new height now ≡ items_of old height was
   pub changes : Changes old new (slots_of old height was) (slots_of new height now)
 
--- Between these entries stand two others: for a child and for its right neighbour.
+-- Between these entries are two others: for a child and for its right neighbour.
 pub record IsLinked (nodes : Arena Node) (child added : ℕ) (before following now : List NodeEntry) : Type 0 where
   pub first : NodeEntry
   pub second : NodeEntry

@@ -95,8 +95,8 @@ pub record CanWriteInLeaf (store : Store) (slot : ℕ) (new : Overwrite) : Type 
   pub to : IsPartitioned (λ x. before_end store.keys new x.key) (items_in store.nodes 0 slot)
   pub none_removed : store.removed.items ≡ []
 
--- A run between two entries of a leaf, which keeps enough entries and has room for two more. The first entry after it tells whether
--- there is a boundary at the end.
+-- A run between two entries of a leaf, which keeps enough entries and has room for two more. The first entry after it shows whether there
+-- is a boundary at the end.
 pub record IsFoundRun (store : Store) (slot : ℕ) (new : Overwrite) (run : EntryRun) : Type 0 where
   pub run_is : IsRunAt store slot new run
   pub some_before : 0 < run.begin

@@ -61,7 +61,7 @@ pub record IsStep (keys : Keys) (bound : KeyBound) (node : Node) (step : Step) :
   pub within : step.index < length (entries_of node)
   pub knows : IsKnownAt keys bound node step.index step.common_prefix_len
 
--- The entries that have a head stand between these two, from an index on.
+-- The entries with this head are between these two indices, from an index on.
 pub record AreTied (node : Node) (head from first end : ℕ) : Type 0 where
   pub first_is : from ≤ first
   pub ordered : first ≤ end

@@ -70,7 +70,7 @@ abbrev pub IsCommonPrefixAt : KeyBytes → (ℕ → Bool) → List ℕ → ℕ �
 IsCommonPrefixAt bytes is_below target known entries index =
     (e : NodeEntry) → slice_get entries index ≡ Some e → IsCommonPrefix bytes is_below target known e.key
 
--- The target begins as all keys of the node do: as one of them that is long enough, so far as the node tells.
+-- The target begins as all keys of the node do: as one of them that is long enough, as far as the node shows.
 pub record HasPrefix (bytes : KeyBytes) (key_heads : KeyHeads) (target : List ℕ) : Type 0 where
   pub key : ℕ
   pub text : List ℕ

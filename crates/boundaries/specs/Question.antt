@@ -102,7 +102,7 @@ pub record IsFor (store : Store) (height slot : ℕ) (r : Rest) (q : Question) (
   pub describes : (result : Option Bool) → IsAnswer store.keys q hint.rest (items_in store.nodes 0 hint.slot) result
       → IsAnswer store.keys q r (items_in store.nodes height slot) result
 
--- where a question leads from a subtree on
+-- the end of a question's way from a subtree on
 abbrev pub IsApproach : Store → ℕ → ℕ → Rest → Question → Approach → Type 0
 IsApproach store height slot r q (Leaf hint) = IsFor store height slot r q hint
 IsApproach store height slot r q Clear = IsAnswer store.keys q r (items_in store.nodes height slot) (Some false)

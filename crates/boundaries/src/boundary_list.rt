@@ -44,12 +44,12 @@ const ENTRY_BYTES: usize = 20;
 // How many bytes of memory a node takes.
 const NODE_BYTES: usize = FAN_OUT * ENTRY_BYTES + 16;
 
-/// Boundaries in the order of their keys, the empty key first. Contracts see them, and for how many
-/// more there is memory.
+/// Boundaries in the order of their keys, the empty key first. Contracts see them, the spare slots
+/// for keys, and the room for more.
 #[derive(Drop)]
 pub struct Boundaries {
     tree: Tree,
-    // for how many boundaries nodes are reserved
+    // The number of boundaries for which nodes are reserved.
     room: usize,
     // The lengths of the keys that memory was taken for last, one by one.
     wanted: Vec<usize>,
@@ -174,8 +174,8 @@ impl Boundaries {
         let Store { keys, nodes, .. } = &mut self.tree.store;
         keys.reserve(&self.wanted).map_err(|_| AllocError)?;
         if room > self.room {
-            // Each node but the root has at least half of its entries, and the inner ones come to
-            // no more than one for each.
+            // Each node but the root has at least half of its entries, and there are at most as
+            // many inner nodes as leaves.
             let wanted = room / (HALF_FULL - 1) + LONGEST_PATH + 1;
             let missing = wanted.saturating_sub(nodes.live());
             nodes.reserve_slots(0, missing).map_err(|_| AllocError)?;

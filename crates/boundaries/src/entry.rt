@@ -6,7 +6,7 @@ ghost use Rattle.boundaries.specs.Path.{first_key};
 
 use arena::Slot;
 
-/// What a node knows of a boundary, or of the subtree of a child.
+/// The entry of a node for a boundary, or for the subtree of a child.
 #[derive(Clone, Copy, Debug, Default, PartialEq, Eq)]
 pub struct NodeEntry {
     /// The key of the boundary, or of the first one of the subtree.

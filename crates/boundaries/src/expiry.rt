@@ -1,4 +1,4 @@
-//! The removal of expired boundaries, which say nothing any more.
+//! The removal of expired boundaries, which no longer have an effect.
 
 ghost use Rattle.std.specs.Prelude.{◌≡◌, ◌≢◌, ◌-◌, ◌≤◌, ◌<◌, ◌++◌, ◌↔◌, [], take, drop, length};
 ghost use Rattle.std.specs.Prelude.{map, IsTrue};
@@ -25,7 +25,7 @@ pub struct Removal {
     pub looked_at: usize,
     /// The version of the last of them.
     pub last: i64,
-    /// The key of the boundary behind those that were looked at, if there is one.
+    /// The key of the boundary after those that were looked at, if there is one.
     pub next: Option<Slot>,
 }
 

@@ -1,4 +1,4 @@
-//! Bounds in the order of keys: what is sought among boundaries.
+//! Bounds in the order of keys, by which boundaries are searched.
 
 ghost use Rattle.std.specs.Prelude.{◌≡◌, ◌/◌, ◌↔◌, true, false, take, IsTrue};
 ghost use Rattle.keys.specs.Key.{IsBytes};
@@ -12,8 +12,8 @@ use std::cmp::Ordering;
 /// The keys of boundaries, each a record of an arena.
 pub type Keys = Arena<()>;
 
-/// A bound in the order of keys: right after a key, or right before it. Boundaries are below the
-/// bound, or they aren't; those below it come first.
+/// A position in the order of keys: right after a key, or right before it. The boundaries below it
+/// come first, and then the others.
 #[derive(Clone, Copy, Debug)]
 pub struct KeyBound<'a> {
     pub key: &'a [u8],

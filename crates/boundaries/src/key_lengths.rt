@@ -1,4 +1,4 @@
-//! The lengths of keys that memory is taken for.
+//! The lengths of keys for which memory is taken.
 
 ghost use Rattle.std.specs.Prelude.{◌≡◌, OnOk};
 ghost use Rattle.boundaries.specs.Stored.{each_length, lengths};

@@ -5,9 +5,9 @@
 //! first key and the greatest version of its subtree, and a node knows the first bytes of its keys,
 //! so that a search seldom reads a key.
 //!
-//! The layer above may use the contracts of [`Boundaries`], which see it as a list of boundaries,
-//! and for how many more there is memory. The empty key comes first. That keys rise, and that nodes
-//! know them right, is an invariant.
+//! The layer above may use the contracts of [`Boundaries`], which see it as a list of boundaries
+//! with the room for more. The empty key comes first and keys rise: this is an invariant. Another
+//! is that the heads in nodes are those of their keys.
 #![tactic(auto)]
 
 mod approach;

@@ -1,6 +1,6 @@
 //! How questions are answered side by side. Each goes down to its leaf, then each leaf is looked at
-//! for the first time, and then each question is answered. So the memory of the leaves is waited
-//! for at once.
+//! for the first time, and then each question is answered. So the processor waits for the memory of
+//! all leaves at once.
 
 ghost use Rattle.std.specs.Prelude.{◌≡◌, ◌≤◌, ◌<ℤ◌, ◌↔◌, length, map, slice_get, IfSome};
 ghost use Rattle.std.specs.Prelude.{IsSomeAnd, IsTrue};

@@ -24,7 +24,7 @@ pub const HALF_FULL: usize = 64;
 
 const _: () = prove!(HALF_FULL == 64);
 
-// Stands where there is no head of a key: no head is above it.
+// Fills the places without a head: no head is above it.
 const PADDING: u32 = u32::MAX;
 
 /// Up to [`FAN_OUT`] entries. Contracts see them as the list `entries_of`.
@@ -72,7 +72,7 @@ impl Node {
         &self.entries[..self.len]
     }
 
-    // Returns the head of each key, behind what all begin with.
+    // Returns the head of each key, after the common prefix of all.
     fn heads(&self) -> &[u32]
         ensures heads { result.now ≡ (key_heads_of self.now).heads }
     {

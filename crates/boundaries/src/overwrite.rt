@@ -1,4 +1,4 @@
-//! What is written: a version on a range.
+//! A write: a version on a range.
 
 ghost use Rattle.std.specs.Prelude.{◌≡◌, take};
 ghost use Rattle.keys.specs.Key.{IsBefore, IsKey};

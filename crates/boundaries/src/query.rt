@@ -1,4 +1,4 @@
-//! What a step map is asked.
+//! Queries of a step map.
 ghost use Rattle.std.specs.Prelude.{◌≡◌, ◌<◌, ℤ, List, length, Some, IsSomeAnd, slice_get};
 ghost use Rattle.keys.specs.Hash.{IsHashOf};
 ghost use Rattle.keys.specs.declared.range.Range.{Range as RangeValue};

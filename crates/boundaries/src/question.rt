@@ -1,4 +1,4 @@
-//! What boundaries are asked.
+//! Questions about boundaries.
 
 ghost use Rattle.std.specs.Prelude.{◌≡◌, ◌∷◌, ◌++◌, [], true, take};
 ghost use Rattle.keys.specs.Key.{IsBefore};
@@ -20,8 +20,8 @@ pub struct Question<'a> {
     end: &'a [u8],
     /// How many bytes both begin with in common, or fewer.
     pub common_prefix_len: usize,
-    /// Says that the range holds its begin alone, so that the last boundary that isn't after it
-    /// decides the answer. It may be false although it is so.
+    /// True only if the range holds its begin alone. Then the last boundary that isn't after the
+    /// begin decides the answer.
     pub is_single: bool,
     pub version: i64,
     ghost filled: { IsBefore begin.now end.now },
@@ -76,7 +76,7 @@ impl<'a> Question<'a> {
 }
 
 impl<'a> Default for Question<'a> {
-    /// Returns a question about the empty key, which stands where none is asked.
+    /// Returns a question about the empty key: the default of a list of questions.
     fn default() -> Self {
         Question {
             begin: &[],

@@ -1,5 +1,5 @@
-//! A node whose child has changed: its entry for the child is made right, and the node is split, or
-//! children are merged or share their entries evenly, where that is due.
+//! A node whose child has changed. Its entry for the child is updated. If necessary, the node is
+//! split, or children are merged or share their entries evenly.
 
 ghost use Rattle.std.specs.Prelude.{◌≡◌, ◌≤◌, ◌<◌, ◌+◌, ◌⊎◌, ◌++◌, ◌∷◌, ℕ, [], length, take, drop};
 ghost use Rattle.std.specs.Prelude.{None};
@@ -21,9 +21,9 @@ use crate::walk::{LeafOutcome, RaisedLeaf};
 use arena::Slot;
 
 impl Store {
-    /// Makes the entry at an index right in the node at a slot, whose child was split, and puts one
-    /// for the child's right neighbour after it. Returns the slot of the node's own right neighbour
-    /// if it is split, too.
+    /// Updates the entry at an index of the node at a slot, whose child was split, and puts one for
+    /// the child's right neighbour after it. Returns the slot of the node's own right neighbour if
+    /// it is split, too.
     pub fn insert_child(&mut self, slot: Slot, index: usize, added: Slot) -> Option<Slot>
         requires can_insert { CanInsertChild self.old slot index added }
         ensures linked { IsLinked self.old.nodes
@@ -67,8 +67,8 @@ impl Store {
         Some(self.place(right))
     }
 
-    /// Makes the entry at an index right in the node at a slot, whose child has changed: where the
-    /// node lies, unless the child has too few entries.
+    /// Updates the entry at an index of the node at a slot, whose child has changed. The node is
+    /// changed in place, unless the child has too few entries.
     pub fn rebalance_child(&mut self, slot: Slot, index: usize)
         requires can_rebalance { CanRebalance self.old slot index }
         ensures rebalanced { (height : ℕ)
@@ -85,8 +85,8 @@ impl Store {
         node.set_with_head(&self.keys, index, entry);
     }
 
-    /// Makes the entry at an index right in the node at a slot, where a boundary came into this
-    /// leaf of the entry's child, which has enough entries. Returns what became of the node.
+    /// Updates the entry at an index of the node at a slot. A boundary came into this leaf of the
+    /// entry's child, which has enough entries. Returns the outcome for the node.
     #[inline(always)]
     pub fn raise_entry(&mut self, slot: Slot, index: usize, leaf: RaisedLeaf) -> LeafOutcome
         requires can_raise { CanRaise self.old slot index }
@@ -140,7 +140,7 @@ impl Store {
         node.lengthen_prefix(&self.keys);
     }
 
-    // Puts the entries of the second node behind those of the first one, and releases the second.
+    // Puts the entries of the second node after those of the first one, and releases the second.
     fn merge(&mut self, first: Slot, second: Slot)
         requires two { AreTwo self.old first second }
         requires room { length (entries_at self.old.nodes first)

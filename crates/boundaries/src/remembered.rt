@@ -1,5 +1,5 @@
 //! A write into the leaf of the previous write. The writes of a batch come in the order of their
-//! keys, so those of one leaf are adjacent: one walk leads to the leaf, and the writes that
+//! keys, so those of one leaf are adjacent. One walk leads to the leaf, and the writes that
 //! continue there need no other.
 
 ghost use Rattle.std.specs.Prelude.{IfSome};
@@ -31,9 +31,9 @@ pub fn write_in_leaf(store: &mut Store, leaf: RaisedLeaf, new: &Overwrite<'_>) -
     }
 }
 
-// Finds the run among the entries of a leaf, if it is sure to stand between two of them, and the
-// leaf keeps enough entries and has room for two more. The key of the entry at the leaf's index,
-// which may be any, tells whether the start and the end begin as all keys do.
+// Finds the run among the entries of a leaf, if it is certainly between two of them. The leaf must
+// keep enough entries and have room for two more. The key of the entry at the leaf's index, which
+// may be any, shows whether the start and the end begin as all keys do.
 fn find_inner_run(store: &Store, leaf: RaisedLeaf, new: &Overwrite<'_>) -> Option<EntryRun>
     requires can_find { CanWriteInLeaf store.now leaf.slot new.now }
     ensures run { IfSome result (IsFoundRun store.now leaf.slot new.now) }

@@ -1,4 +1,4 @@
-//! The run of a leaf's entries that is written over, and what comes in its place.
+//! The run of a leaf's entries that is written over, and its replacement.
 
 ghost use Rattle.std.specs.Prelude.{◌≡◌, ◌≤◌, ◌+◌, ◌-◌, ◌<◌, ◌↔◌, [], length, None, Some, IsTrue};
 ghost use Rattle.std.specs.Prelude.{slice_get};

@@ -1,4 +1,4 @@
-//! What boundaries are stored in.
+//! The memory of boundaries: keys and nodes.
 
 ghost use Rattle.std.specs.Prelude.{◌≡◌, ◌<◌, ◌≤◌, ◌+◌, ◌++◌, ℕ, [], length, nat_eq};
 ghost use Rattle.std.specs.List.{All, Contains, IsDistinct};
@@ -89,7 +89,7 @@ fn release(keys: &mut Keys, slots: &[Slot])
     }
 }
 
-/// Puts the keys of entries, mostly of none or a few, behind those that are removed.
+/// Adds the keys of entries, mostly of none or a few, to those that are removed.
 pub fn put_removed(removed: &mut ArrayVec<Slot, FAN_OUT>, entries: &[NodeEntry])
     requires room { length removed.old.items + length entries.now ≤ FAN_OUT }
     ensures removed { removed.new.items ≡ removed.old.items ++ keys_of entries.now }

@@ -1,4 +1,4 @@
-//! The tree over the keys of boundaries, and what becomes of its root where a leaf changes.
+//! The tree over the keys of boundaries, and the change of its root when a leaf changes.
 
 ghost use Rattle.std.specs.Prelude.{◌≡◌, map, None, Some};
 ghost use Rattle.boundaries.specs.Bound.{is_below};
@@ -28,7 +28,7 @@ use arena::Slot;
 #[derive(Clone, Copy, Debug)]
 pub struct Root {
     pub slot: Slot,
-    /// How many nodes lie above each leaf.
+    /// How many nodes are above each leaf.
     pub height: usize,
 }
 

@@ -13,7 +13,7 @@ use crate::store::Store;
 use crate::tree::Root;
 use arena::Slot;
 
-// What was counted of boundaries.
+// A count of boundaries.
 #[derive(Clone, Copy, Debug)]
 struct Unexpired {
     // How many of them a sweep would leave.

@@ -1,5 +1,5 @@
-//! How a tree is changed: a walk to a leaf, a change of the leaf where it lies, and the rebalancing
-//! of the nodes above it.
+//! The change of a tree: a walk to a leaf, a change of the leaf in place, and the rebalancing of
+//! the nodes above it.
 
 ghost use Rattle.std.specs.Prelude.{◌≡◌, ◌++◌, ℕ, List, Option};
 ghost use Rattle.boundaries.specs.Bound.{Keys, is_below};
@@ -27,15 +27,15 @@ pub struct RaisedLeaf {
     pub index: usize,
 }
 
-/// What a change made of a subtree.
+/// The outcome of a change for a subtree.
 #[derive(Clone, Copy, Debug)]
 pub enum LeafOutcome {
-    /// It is as it was.
+    /// It is unchanged.
     Same,
     /// Its first key is as it was, and a boundary came into this leaf of it; no other one has a
     /// version that none had before. A leaf has enough entries, and a node above lost none.
     Raised(RaisedLeaf),
-    /// Its boundaries are others.
+    /// Its boundaries have changed.
     Changed,
     /// It was split: this is the slot of its right neighbour.
     Split(Slot),
@@ -46,7 +46,7 @@ pub trait LeafChange {
     // The bound by which the leaf is found.
     ghost bound_of: { Self → BoundValue };
 
-    // What is wanted of the items of the leaf.
+    // What the change requires of the items of the leaf.
     ghost wants: { Self → Keys → List Item → Type 0 };
 
     // What the change makes of them: itself and the store before and after, the key of the first
@@ -62,7 +62,7 @@ pub trait LeafChange {
     /// read ahead.
     fn goes_along(&self) -> bool;
 
-    /// Changes the leaf where it lies.
+    /// Changes the leaf in place.
     fn change(&mut self, store: &mut Store, position: Position) -> LeafOutcome
         requires can_change { CanChangeLeaf (bound_of self.old) (wants self.old) store.old 0
             position }
@@ -72,7 +72,7 @@ pub trait LeafChange {
             (items_with store.new.nodes 0 position.slot (added_by result)) }
         ensures bound { bound_of self.new ≡ bound_of self.old };
 
-    // What is wanted of items is wanted of a part of them.
+    // If the requirement holds of items, it holds of a part of them.
     ghost part: { (change : Self) (keys : Keys) (before items following : List Item)
         → wants change keys (before ++ (items ++ following))
         → wants change keys items };

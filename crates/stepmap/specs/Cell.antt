@@ -19,8 +19,8 @@ own_of cell hash = if cell.hash == hash then cell.version else negsuc 0
 abbrev pub others_of : Cell → ℕ → ℤ
 others_of cell hash = if is_marked cell hash then cell.others else negsuc 0
 
--- No version of a key of the hash is above it. It is that of the cell, if it has the hash, or that of the others, if the mark of the
--- hash is set, whichever is greater; and -1 where it is neither.
+-- No version of a key of the hash is above it. It is the greater one of two: the version of the cell, if it has the hash, and that of the
+-- others, if the mark of the hash is set. If neither is so, it is -1.
 unfoldable pub bound_of : Cell → ℕ → ℤ
 bound_of cell hash = int_max (own_of cell hash) (others_of cell hash)
 

@@ -9,7 +9,7 @@ use Rattle.stepmap.specs.Boundary.{value_at}
 use Rattle.stepmap.specs.Covers.{IsAbove}
 use Rattle.stepmap.specs.StepMap.{Steps}
 
--- where the function is above a number at or above the edge, so is the bound of the key
+-- if the function is above a number at or above the edge, so is the bound of the key
 abbrev pub BoundsSteps : FilterState → Steps → Type 0
 BoundsSteps f m =
     (key : List ℕ) → IsBytes key → (s : ℤ) → m.edge ≤ℤ s → s <ℤ value_at m.boundaries key → s <ℤ bound f key

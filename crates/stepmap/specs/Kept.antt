@@ -23,7 +23,7 @@ steps_of stored edge ready cursor round limit = record {
   limit = limit;
 }
 
--- there is room for what is to come, and the filter tells
+-- there is room for the next writes, and the filter is right
 pub record IsKept (m : Steps) (stored : Stored) (beside : FilterState) (cursor : List ℕ) (cursor_room : ℕ) : Type 0 where
   pub steps : AreSteps m
   pub determines : BoundsSteps beside m

@@ -32,8 +32,8 @@ use Rattle.stepmap.specs.Rooted.{Ends, Rooted}
 use Rattle.stepmap.specs.Counting.{filled_count, live_count}
 use Rattle.stepmap.specs.Uniting.{Unites}
 
--- where the map covers the writes, and the number is at or above the edge, the function is above it at some key of
--- the range exactly if some write above it meets the range
+-- If the map covers the writes, and the number is at or above the edge: the function is above it at some key of the range exactly if some
+-- write above it meets the range.
 abbrev pub DeterminesHits : Type 0
 DeterminesHits =
     (m : Steps) (ws : List Write) (range : Range) (s : ℤ) → MapCovers m ws → m.edge ≤ℤ s →
@@ -59,7 +59,7 @@ CountedAlong =
     (edge version : ℤ) (ws : List Write) (ranges : List Range) → edge ≤ℤ version →
     live_count edge (ws ++ at_version version ranges) ≡ live_count edge ws + filled_count ranges
 
--- where no version is above this one, none is above a later one
+-- if no version is above this one, none is above a later one
 abbrev pub UpToLater : Type 0
 UpToLater = (version later : ℤ) (bs : List Boundary) → version ≤ℤ later → AreUpTo version bs
     → AreUpTo later bs
@@ -113,7 +113,7 @@ pub record WritesInTurn (united : List Range) (version : ℤ) : Type 0 where
       (done : ℕ) (range : Range) (before now later : Steps) → IsWriting united version done before now →
       slice_get united done ≡ Some range → later ≡ after_write range version now →
       IsWriting united version (done + 1) before later
-  -- where all are, so are those ranges that they unite
+  -- if all are, so are those ranges that they unite
   pub entire :
       (ranges : List Range) (before now : Steps) → IsWriting united version (length united) before now →
       Unites united ranges → IsWritten ranges version before now

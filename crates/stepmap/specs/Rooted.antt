@@ -15,8 +15,8 @@ IsEndOf ws version key =
 abbrev pub Ends : List Boundary → List Write → ℤ → Type 0
 Ends bs ws edge = All (λ b. b.key ≢ [] → IsEndOf ws edge b.key) bs
 
--- Every boundary but the empty key is the begin or the end of a range written at its version or that of the
--- boundary before it, whichever is greater, or above, if that is at or above the edge.
+-- Every boundary except the empty key is an end of a written range, if its version or that of the boundary before it is at or above the
+-- edge. The range was written at the greater of the two versions, or above.
 abbrev pub AreRooted : List Write → ℤ → ℤ → List Boundary → Type 0
 AreRooted ws edge before [] = Unit {0}
 AreRooted ws edge before (b ∷ bs) =

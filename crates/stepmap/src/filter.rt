@@ -136,8 +136,9 @@ impl Filter {
     }
 
     /// Doubles the cells while there are fewer than `count`, and fewer than [`MAX_CELLS`], if the
-    /// filter is useful. More cells tell apart more of the keys that are written from then on.
-    /// Returns an error if memory is refused. Each bound stays as it is, also then.
+    /// filter is useful. With more cells, fewer of the keys that are written from then on share
+    /// one. Returns an error if an allocation fails. Each bound stays as it is, also after an
+    /// error.
     pub fn reserve(&mut self, count: usize) -> Result<(), AllocError>
         ensures same { (key : List ℕ) → bound self.new key ≡ bound self.old key }
         ensures range { self.new.newest_range ≡ self.old.newest_range }

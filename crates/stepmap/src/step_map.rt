@@ -184,8 +184,8 @@ impl StepMap {
     /// taken before. Such ranges can then be written, in this order. If the boundaries, and two for
     /// each range, exceed the limit, it sweeps a complete round from the front first.
     ///
-    /// Returns `Full` where they still exceed it, before any memory is taken, and `Memory` where a
-    /// growth is refused or an arena would have more chunks than slots can name. After either no
+    /// Returns `Full` if they still exceed it, before any memory is taken. Returns `Memory` if an
+    /// allocation fails or an arena would have more chunks than slots can name. After either no
     /// range is ready; the function says the same as before at and above the edge.
     pub fn prepare(&mut self, lengths: &[KeyLengths]) -> Result<(), StepError>
         ensures ok { OnOk result (self.new ≡ after_prepare lengths.now self.old) }

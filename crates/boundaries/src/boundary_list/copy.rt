@@ -19,7 +19,7 @@ use std::alloc::{AllocError, Global};
 use std::mem;
 
 impl Boundaries {
-    // Returns the same boundaries in memory of their own, which has room for few more.
+    // Returns the same boundaries in new memory, which has room for few more.
     pub fn copied(&self, alloc: Global) -> Result<Self, AllocError>
         requires boundaries { AreBoundaries self.now.boundaries }
         requires limit { length self.now.boundaries < MAX_LIMIT }
@@ -49,7 +49,7 @@ impl Boundaries {
         Ok(copy)
     }
 
-    // Returns the version of the last boundary: that at the greatest key.
+    // Returns the version of the last boundary, which is the version at the greatest key.
     fn last_version(&self, alloc: Global) -> Result<i64, AllocError>
         requires keys { All (λ b. IsKey b.key) self.now.boundaries }
         ensures last { IfOk result (λ version. version

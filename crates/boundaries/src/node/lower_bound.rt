@@ -1,4 +1,4 @@
-//! The search in a node: by the heads of its keys, and by their bytes where heads are the same.
+//! The search in a node: by the heads of its keys, and by their bytes if heads are the same.
 
 ghost use Rattle.std.specs.Prelude.{◌≡◌, ◌≢◌, ◌<◌, ◌≤◌, ◌+◌, ℕ, ◌-◌, length, filter, get_or};
 ghost use Rattle.std.specs.Prelude.{slice_get, None, Some, IsTrue};
@@ -100,7 +100,7 @@ impl Node {
     }
 
     /// Returns whether the bound's key has the common prefix, as the key at an index has it. It may
-    /// be false where that key may be empty, and is where there is none.
+    /// be false if that key may be empty, and is false if there is none.
     pub fn has_prefix_of(&self, keys: &Keys, index: usize, bound: KeyBound<'_>) -> bool
         requires headed { IsHeaded keys.now self.now }
         ensures has_prefix { IsTrue result

@@ -60,8 +60,7 @@ impl Node {
         self.replace(from, to, new, Some(front(&heads, new.len())));
     }
 
-    /// Replaces entries where there is no room for all. The entries of the second half are
-    /// returned.
+    /// Replaces entries if there is no room for all. The entries of the second half are returned.
     pub fn splice_apart(&mut self, keys: &Keys, splice: Splice<'_>) -> Node
         requires can_splice { CanSplice keys.now self.old splice }
         requires many { FAN_OUT < length (spliced splice (entries_of self.old)) }

@@ -1,8 +1,8 @@
 //! The answering of many queries: the filter is asked first, and the boundaries for those that it
 //! leaves open.
 //!
-//! The hashes of single keys are gathered first, and the cells of the filter read then: so the
-//! memory of all these cells is waited for at once.
+//! The hashes of single keys are gathered first, and the cells of the filter are read then. So the
+//! processor waits for the memory of all these cells at once.
 
 ghost use Rattle.std.specs.Prelude.{◌≡◌, ◌+◌, ◌-◌, ◌<◌, ◌≤◌, ◌↔◌, Bool, List, ◌++◌, All, length};
 ghost use Rattle.std.specs.Prelude.{map, take, drop, count_by, slice_get, IfOk, OnOk, IsSomeAnd};

@@ -31,10 +31,10 @@ impl StepMap {
         ranges <= (self.limit - self.boundaries.len()) / 2
     }
 
-    /// Returns whether `ranges` ranges could be written within the limit once the edge is raised to
-    /// this one, at the latest after a complete round of the sweep: whether [`StepMap::prepare`]
-    /// wouldn't return `Full` then. Nothing changes, and it takes no memory. If there isn't room
-    /// without a sweep, it looks at every boundary.
+    /// Returns whether [`StepMap::prepare`] would have room for `ranges` ranges once the edge is
+    /// raised to this one: whether they fit the limit, at the latest after a complete round of the
+    /// sweep. Nothing changes, and it takes no memory. If there isn't room without a sweep, it
+    /// looks at every boundary.
     pub fn can_make_room(&self, ranges: usize, edge: i64) -> bool
         requires late { self.now.edge ≤ℤ edge }
         ensures room { IsTrue result
