@@ -7,9 +7,9 @@
 //! that fails. The tests of `memory` and `sort_memory` pass whichever one growth is refused;
 //! `.ci/refused-memory` refuses each in turn.
 //!
-//! The contract of `replay_over` also lets a program through that always stops with `Memory`. Each
-//! row that wants a line refuses it, `empty_batch` first; so does `gate_full_through_replay`, which
-//! wants another stop.
+//! A program that always stops with `Memory` would also meet the contract of `replay_over`. Each
+//! row that expects a line refuses it, `empty_batch` first; so does `gate_full_through_replay`,
+//! which expects another stop.
 #![tactic(auto)]
 
 #[cfg(test)]

@@ -1,5 +1,5 @@
-//! Rows that are also played with memory refused: their files, and their lines where a file is cut,
-//! too.
+//! Rows that are also played with memory refused: their files, and their lines, also those of a
+//! file that is cut.
 
 use crate::runs::TestFile;
 use replay_program::Form;

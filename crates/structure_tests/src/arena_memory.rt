@@ -87,7 +87,7 @@ fn arena_chunk_and_refusal(rt: HostRuntime) -> Result<(), Fail> {
     Ok(())
 }
 
-// Places a record, in a second try where the first is refused memory, which changes nothing.
+// Places a record. If memory is refused, which changes nothing, it tries once more.
 fn place_at_last(arena: &mut Arena<u32>, header: u32, key: &[u8]) -> Option<Slot> {
     let live = arena.live();
     match arena.place(header, key) {
@@ -96,7 +96,7 @@ fn place_at_last(arena: &mut Arena<u32>, header: u32, key: &[u8]) -> Option<Slot
     }
 }
 
-// Reserves slots, in a second try where the first is refused memory, which changes nothing.
+// Reserves slots. If memory is refused, which changes nothing, it tries once more.
 fn is_reserved_at_last(arena: &mut Arena<u32>, lengths: &[usize]) -> bool {
     let live = arena.live();
     match arena.reserve(lengths) {

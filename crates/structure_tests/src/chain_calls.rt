@@ -29,8 +29,8 @@ fn put(
     Ok(replies.put(0, reply))
 }
 
-// Holds the batch, in a second try where the first is refused memory. Returns whether the refusal
-// changes nothing.
+// Holds the batch. If memory is refused, it tries once more. Returns whether the refusal changes
+// nothing.
 fn hold_at_last(gate: &mut Gate, batch: Batch) -> bool {
     let held = gate.held();
     let given = (batch.previous, batch.version, batch.received);
@@ -41,8 +41,8 @@ fn hold_at_last(gate: &mut Gate, batch: Batch) -> bool {
     gate.hold(0, back).is_ok() && is_same && refusal == ChainError::Memory
 }
 
-// Keeps the reply of this version, in a second try where the first is refused memory. Returns
-// whether the refusal changes nothing.
+// Keeps the reply of this version. If memory is refused, it tries once more. Returns whether the
+// refusal changes nothing.
 fn put_at_last(alloc: Global, replies: &mut Replies, version: i64) -> Result<bool, Unmade> {
     let Err(refusal) = put(alloc, replies, version)? else {
         return Ok(true);

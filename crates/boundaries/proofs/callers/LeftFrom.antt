@@ -1,4 +1,4 @@
--- The part that a sweep has still to look at.
+-- Lemmas for callers: the boundaries that a sweep has not yet looked at.
 use Rattle.std.proofs.Common.{
   ◌≡◌,
   ℕ,

@@ -1,4 +1,4 @@
--- A whole sweep of boundaries.
+-- Lemmas for callers: a sweep of all boundaries.
 use Rattle.std.proofs.Common.{
   ◌≡◌,
   ℕ,

@@ -1,4 +1,4 @@
--- Lemmas for callers: how often a slot stands in a list. Distinct slots are those that stand there once at most.
+-- Lemmas for callers: how often a slot occurs in a list. Slots are distinct if each occurs at most once.
 use Rattle.std.proofs.Common.{◌≡◌, ◌≢◌, ◌⊎◌, inl, inr, ℕ, zero, suc, ◌+◌, ◌≤◌, false, cond, List, [], ◌∷◌, ◌++◌, refl, sym, ap, arith, nat_eq}
 use Rattle.std.specs.List.{Contains, IsDistinct, AllByRecursion}
 use Rattle.std.proofs.lemmas.Bool.{eq-eqb, ne_eqb, eqb-false}

@@ -1,4 +1,4 @@
--- What a sweep keeps of the boundaries that it comes by.
+-- Lemmas for callers: which of the boundaries that a sweep looks at it keeps.
 use Rattle.std.proofs.Common.{
   ◌≡◌,
   ℕ,

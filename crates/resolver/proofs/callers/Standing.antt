@@ -1,2 +1,2 @@
--- Lemmas for callers: a core that stands for a log.
+-- Lemmas for callers: a core that represents a log.
 pub use Rattle.resolver.proofs.Standing.{IsIn-standing}

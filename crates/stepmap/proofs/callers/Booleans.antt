@@ -1,2 +1,2 @@
--- Lemmas for callers: what tests tell.
+-- Lemmas for callers: what tests show.
 pub use Rattle.stepmap.proofs.LeftOpen.{is_false}
