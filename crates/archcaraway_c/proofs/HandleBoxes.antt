@@ -1,7 +1,7 @@
--- How a handle becomes a box again: what `into_box` of each handle runs, whatever the box holds. Assumes `Logic`.
+-- How a handle becomes a box again: the run of `into_box` of each handle, for any value in the box. Assumes `Logic`.
 use Rattle.std.proofs.Common.{◌≡◌, ℕ, List, [], ◌∷◌, ◌++◌, refl, sym, ap, subst}
 use seplogic.Ra.Ura.{Ura}
-use mir.Syntax.{Fn, Dict, impl, tcons, tnil, dnil, ty_ptr, ty_struct, local, value_local, seq, assign, block, call, place, field, rv_opd, copy, return}
+use mir.Syntax.{Fn, Ty, Dict, impl, tcons, tnil, dnil, ty_ptr, ty_struct, local, value_local, seq, assign, block, call, place, field, rv_opd, copy, return}
 use mir.Raw.{raw as bare}
 use mir.Val.{Val, vptr, vstruct, vcons, vnil, of_list}
 use base.Logic.{SProp, ent, sep, emp, never, id⊢, fst∗}
@@ -66,6 +66,10 @@ module _ (T : RattleType) (L : Laws T) where
   abbrev pub E : box.Bx
   E = record { row = T; laws = L; al = record { row = A; laws = LA; g = ghosts; d = dict; drops = dd } }
 
+  -- the layout of the box, with the name of its allocator
+  abbrev boxed : Ty
+  boxed = ty_struct (box.owning E).name (tcons ty_ptr (tcons (layout heap.the_row) tnil))
+
   -- the code, for a handle whose struct has this name
   abbrev pub code_of : List ℕ → Fn
   code_of name = record {
@@ -74,8 +78,8 @@ module _ (T : RattleType) (L : Laws T) where
     ty_params = [];
     givens = 0;
     params = 1;
-    locals = local (layout (box.B E)) value_local ∷ local (ty_struct (name, []) (tcons ty_ptr (tcons (layout A) tnil))) value_local
-        ∷ local ty_ptr value_local ∷ local (layout A) value_local ∷ local (layout (box.B E)) value_local ∷ [];
+    locals = local boxed value_local ∷ local (ty_struct name (tcons ty_ptr (tcons (layout heap.the_row) tnil))) value_local
+        ∷ local ty_ptr value_local ∷ local (layout heap.the_row) value_local ∷ local boxed value_local ∷ [];
     body =
         seq (assign (place 2 []) (rv_opd (copy (place 1 (field 0 ∷ [])))))
         (seq (assign (place 3 []) (rv_opd (copy (place 1 (field 1 ∷ [])))))
