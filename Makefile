@@ -215,7 +215,7 @@ program-runs:
 	.ci/program-runs
 	.ci/progress-test
 
-# Tries wrong bodies on a copy of each crate, and lists those that its contracts let through.
+# Tries wrong bodies on a copy of each crate, and lists those that its contracts admit.
 plant:
 	for crate in crates/*/; do (cd "$$crate" && rt plant); done
 

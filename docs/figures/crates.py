@@ -209,7 +209,7 @@ def picture() -> Picture:
         width,
         height,
         'The crates',
-        'Each crate stands above all that it uses; a line joins it to those that it uses '
+        'Each crate is above all that it uses; a line joins it to those that it uses '
         'directly. '
         + ' '.join(f'{name}: {", ".join(used) or "none"}.' for name, used in uses.items()),
     )

@@ -16,7 +16,7 @@ use Rattle.replay_stream.specs.declared.outlet.Outlet.{Outlet}
 use Rattle.replay_stream.specs.Outlet.{is_complete, PassesOn, OutletContinues, TookText, PassesSome, EachOutlet, StreamContinues, AreNumbered, HasPassedAll, StreamsOn}
 use Rattle.replay_stream.specs.Sinks.{FailsIn, SinkState}
 use Rattle.replay_workers.proofs.callers.SameLanes.{port_continues, intake_continues}
-use Rattle.resolver.proofs.callers.Later.{port_same}
+use Rattle.resolver.proofs.callers.Later.{intake_same, port_same}
 use Rattle.replay_stream.proofs.Writing.{fails_then, takes_nothing, takes_then}
 
 -- nothing was passed on

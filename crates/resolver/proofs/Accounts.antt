@@ -73,8 +73,8 @@ Contains-prefix xs ys x begins among =
     subst (λ zs. Contains zs x) (sym begins.1) (Contains-append_left xs begins.0 x among)
 
 -- what holds of the value that there is
-some_at : {X : Type 0} (P : X → Type 0) (o : Option X) (x : X) → o ≡ Some x → P x → IsSomeAnd o P
-some_at P o x e h = subst (λ (o : Option _). IsSomeAnd o P) (sym e) h
+is_some_at : {X : Type 0} (P : X → Type 0) (o : Option X) (x : X) → o ≡ Some x → P x → IsSomeAnd o P
+is_some_at P o x e h = subst (λ (o : Option _). IsSomeAnd o P) (sym e) h
 
 -- where nothing is owed, nothing is owed to the proxy
 owed_none : (owed : List (List Answer)) (proxy : ℕ) → owed_count owed ≡ 0 → proxy < length owed
@@ -386,5 +386,5 @@ module _ (p : Parts) (are : AreParts p) (clients : List Client) (count : length 
             let l = proxy_lanes_of entry.proxy c.0 c.1 in
             let both = holds entry.proxy l.0 c.0 l.1 c.1 in
             let sent = entire_batches entry.proxy c.0 l.0 c.1 l.1 both.0 both.1 in
-            some_at (λ c. IsSent core.set.window entire c.requests.sent index entry) (slice_get clients entry.proxy) c.0 c.1
+            is_some_at (λ c. IsSent core.set.window entire c.requests.sent index entry) (slice_get clients entry.proxy) c.0 c.1
             (known_verdicts.sent core.set.window entire index entry at c.0.requests.sent sent.0 sent.1)
