@@ -95,26 +95,26 @@ module _ {T : Type 0} where
 class Classify(unittest.TestCase):
     """Which crate and kind of work a command line is for."""
 
-    def kind(self, line: str, folder: str = "checkout/crates/tree") -> Job | None:
+    def kind(self, line: str, folder: str = "checkout/crates/wire") -> Job | None:
         return gate_costs.classify(line.split(), folder)
 
     def test_proofs(self) -> None:
         for line in (
-            "kit/bin/rattle build --crate-name tree src/lib.rt --jobs 1 --statements",
-            "kit/bin/rattle check --crate-name tree src/lib.rt --incremental out/incremental",
-            "rattle build --crate-name tree --backend llvm -o out/tree.o",
+            "kit/bin/rattle build --crate-name wire src/lib.rt --jobs 1 --statements",
+            "kit/bin/rattle check --crate-name wire src/lib.rt --incremental out/incremental",
+            "rattle build --crate-name wire --backend llvm -o out/wire.o",
         ):
-            self.assertEqual(self.kind(line), Job("tree", "proof"), line)
+            self.assertEqual(self.kind(line), Job("wire", "proof"), line)
 
     def test_tests(self) -> None:
         line = "kit/bin/rattle build --crate-name codec_tests --test src/lib.rt --backend llvm"
         self.assertEqual(self.kind(line), Job("codec_tests", "tests"))
 
     def test_edits(self) -> None:
-        line = "kit/bin/rattle check --crate-name tree src/lib.rt --jobs 1"
+        line = "kit/bin/rattle check --crate-name wire src/lib.rt --jobs 1"
         for more in ("", " --incremental temporary/rt-edits-3054-y/2"):
             found = self.kind(line + more, "temporary/rt-edit-3054-abc")
-            self.assertEqual(found, Job("tree", "edits"))
+            self.assertEqual(found, Job("wire", "edits"))
 
     def test_others(self) -> None:
         for line in (
@@ -123,8 +123,8 @@ class Classify(unittest.TestCase):
             "kit/bin/rattle fmt --check src/lib.rt",
             "kit/bin/rattle check --crate-name",
             "kit/bin/rattle check src/lib.rt",
-            "python3 bin/rt check --crate-name tree",
-            "kit/bin/rattle-link --crate-name tree",
+            "python3 bin/rt check --crate-name wire",
+            "kit/bin/rattle-link --crate-name wire",
         ):
             self.assertIsNone(self.kind(line), line)
 
@@ -162,13 +162,13 @@ class Table(unittest.TestCase):
     """The table of measurements."""
 
     def test_round_trip(self) -> None:
-        rows = [row("tree", 3, 2, 1), row("lane", 5)]
+        rows = [row("wire", 3, 2, 1), row("lane", 5)]
         text = gate_costs.format_rows(rows, with_header=True)
         self.assertEqual(
             text,
             "date,commit,kit,processors,wall_clock_seconds,"
             "crate,proof_seconds,tests_seconds,edits_seconds\n"
-            "2026-01-01,0123abcd,kit-1,4,60,tree,3,2,1\n"
+            "2026-01-01,0123abcd,kit-1,4,60,wire,3,2,1\n"
             "2026-01-01,0123abcd,kit-1,4,60,lane,5,0,0\n",
         )
         self.assertEqual(gate_costs.parse_table(text), rows)
@@ -177,20 +177,20 @@ class Table(unittest.TestCase):
 
     def test_refused(self) -> None:
         header = gate_costs.format_rows([], with_header=True)
-        for text in ("a,b\n1,2\n", header + "2026-01-01,c,k,4,60,tree,3,2\n"):
+        for text in ("a,b\n1,2\n", header + "2026-01-01,c,k,4,60,wire,3,2\n"):
             with self.assertRaises((KeyError, ValueError)):
                 gate_costs.parse_table(text)
         self.assertEqual(gate_costs.parse_table(header), [])
 
     def test_last_row_of_crate_counts(self) -> None:
-        rows = [row("tree", 9), row("lane", 5, 1), row("tree", 3, 2, 1, "2026-02-01")]
-        self.assertEqual(gate_costs.landed(rows), {"tree": Cost(3, 2, 1), "lane": Cost(5, 1, 0)})
+        rows = [row("wire", 9), row("lane", 5, 1), row("wire", 3, 2, 1, "2026-02-01")]
+        self.assertEqual(gate_costs.landed(rows), {"wire": Cost(3, 2, 1), "lane": Cost(5, 1, 0)})
 
 
 class Comparison(unittest.TestCase):
     """A measurement beside the table."""
 
-    before = {"tree": Cost(60, 60, 60), "lane": Cost(120), "chain": Cost(30), "keys": Cost(90)}
+    before = {"wire": Cost(60, 60, 60), "lane": Cost(120), "chain": Cost(30), "keys": Cost(90)}
 
     def test_add_up(self) -> None:
         jobs = [("a", "proof", 1.0), ("a", "edits", 2.0), ("b", "tests", 4.0), ("a", "proof", 8.0)]
@@ -198,10 +198,10 @@ class Comparison(unittest.TestCase):
         self.assertEqual(found, {"a": Cost(9, 0, 2), "b": Cost(0, 4, 0)})
 
     def test_greatest_growth_first(self) -> None:
-        now = {"chain": Cost(20), "tree": Cost(100, 60, 80), "lane": Cost(121), "new": Cost(5)}
+        now = {"chain": Cost(20), "wire": Cost(100, 60, 80), "lane": Cost(121), "new": Cost(5)}
         found = gate_costs.changes(now, self.before)
-        self.assertEqual([change.crate for change in found], ["tree", "new", "lane", "chain"])
-        self.assertEqual(found[0], Change("tree", 180, 240))
+        self.assertEqual([change.crate for change in found], ["wire", "new", "lane", "chain"])
+        self.assertEqual(found[0], Change("wire", 180, 240))
         self.assertEqual(found[0].growth, 60)
 
     def test_kept_crates_are_not_compared(self) -> None:
@@ -235,12 +235,12 @@ class Comparison(unittest.TestCase):
         self.assertEqual(gate_costs.warning({}, before, 6.0)[1:], ["  none"])
 
     def test_report(self) -> None:
-        lines = gate_costs.report({"lane": Cost(1.6), "tree": Cost(60, 20, 40)}, 61.2, 4)
+        lines = gate_costs.report({"lane": Cost(1.6), "wire": Cost(60, 20, 40)}, 61.2, 4)
         self.assertEqual(
             lines,
             [
                 "processor seconds      proof    tests    edits      all",
-                "tree                      60       20       40      120",
+                "wire                      60       20       40      120",
                 "lane                       2        0        0        2",
                 "all                       62       20       40      122",
                 "61 seconds of wall-clock time on 4 processors, 2.0 processor minutes",
@@ -423,9 +423,9 @@ class ItemTimes(unittest.TestCase):
         self.assertEqual(item_times.report([], 2), ["    0.0 processor seconds for 0 functions"])
 
     def test_line_of_a_function(self) -> None:
-        match = item_times.CHECKED.fullmatch("checked tree::walk::change_leaf, 7 of 80")
-        self.assertEqual(match[1] if match else None, "tree::walk::change_leaf")
-        self.assertIsNone(item_times.CHECKED.fullmatch("fn tree::walk::change_leaf: proved"))
+        match = item_times.CHECKED.fullmatch("checked boundaries::walk::change_leaf, 7 of 80")
+        self.assertEqual(match[1] if match else None, "boundaries::walk::change_leaf")
+        self.assertIsNone(item_times.CHECKED.fullmatch("fn boundaries::walk::change_leaf: proved"))
 
 
 if __name__ == "__main__":

@@ -1,5 +1,5 @@
-//! The bytes that a filter, a tree and an arena report, beside those of the allocator. A program of
-//! its own, since the allocator is one per program.
+//! The bytes that a filter, boundaries and an arena report, beside those of the allocator. A
+//! program of its own, since the allocator is one per program.
 
 use arena::{Arena, Slot};
 use boundaries::Boundaries;
@@ -64,9 +64,9 @@ fn boundaries_report_the_bytes_of_their_nodes() {
     keys.place((), &[]).expect("memory is ample");
     LARGEST.set(0);
     let boundaries = Boundaries::new(Global, 7).expect("memory is ample");
-    // A chunk each for one node and one key. All nodes of a chunk are one allocation.
-    let chunks = boundaries.bytes_held() - keys.bytes_held(0);
-    assert_eq!(chunks, LARGEST.get() + SLOTS * SLOT_BYTES);
+    // There is one node, and one key as in `keys`. All nodes of a chunk are one allocation.
+    let node = boundaries.bytes_held() - keys.bytes_held(0) - SLOT_BYTES;
+    assert_eq!(LARGEST.get(), SLOTS * node);
 }
 
 #[test]

@@ -4,6 +4,7 @@ ghost use Rattle.std.specs.Prelude.{◌≡◌, ℕ, ◌+◌, ◌*◌, ◌≤◌,
 ghost use Rattle.std.specs.Prelude.{slice_get, IsTrue, IfOk, IfSome, IsSomeAnd, OnOk, IsOkUnless};
 ghost use Rattle.std.specs.List.{All, AllZip};
 ghost use Rattle.arena.specs.Arena.{wanted_of, HasRoomFor};
+ghost use Rattle.keys.specs.Hash.{IsHashOf};
 ghost use Rattle.keys.specs.Key.{IsBytes};
 ghost use Rattle.keys.specs.Range.{Holds, IsEmpty};
 ghost use Rattle.boundaries.specs.Boundary.{AreBoundaries, Exceeds, value_at};
@@ -16,11 +17,11 @@ use crate::entry::NodeEntry;
 use crate::greatest_version::greatest;
 use crate::key_bound::KeyBound;
 use crate::key_lengths::{KeyLengths, put_each_length};
-use crate::lookup::{answer_each, questions};
+use crate::lookup::{answer_alone, answer_each, questions};
 use crate::node::{FAN_OUT, HALF_FULL, Node};
 use crate::overwrite::Overwrite;
-use crate::query::QueryList;
-use crate::question::SIDE;
+use crate::query::{QueryList, RangeQuery};
+use crate::question::{Question, SIDE};
 use crate::store::Store;
 use crate::tree::Tree;
 use arena::{Arena, ArenaError};
@@ -129,6 +130,19 @@ impl Boundaries {
         let from = KeyBound::after(range.begin.as_bytes());
         let to = KeyBound::before(range.end.as_bytes());
         greatest(&self.tree.store, &self.tree.root, from, to, i64::MIN)
+    }
+
+    /// Returns whether the version at some key of the query's range, which isn't empty, is above
+    /// its own.
+    pub fn is_above(&self, query: RangeQuery<'_>) -> bool
+        requires boundaries { AreBoundaries self.now.boundaries }
+        requires filled { ¬ IsEmpty query.range }
+        requires hash { IsHashOf query.range query.hash }
+        ensures above { IsTrue result ↔ Exceeds self.now.boundaries
+            (query.entry.range, query.entry.version) }
+    {
+        let question = Question::of(query);
+        answer_alone(&self.tree.store, &self.tree.root, &question)
     }
 
     /// Answers for each of the queries at these places, in order, whether the version at some key

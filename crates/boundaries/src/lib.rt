@@ -34,5 +34,5 @@ mod walk;
 
 pub use boundary_list::Boundaries;
 pub use key_lengths::KeyLengths;
-pub use query::{OneQuery, QueryList, RangeQuery};
+pub use query::{QueryList, RangeQuery};
 pub use question::SIDE;

@@ -49,6 +49,17 @@ pub fn questions<'a, L: QueryList>(queries: &'a L, places: &[usize]) -> ArrayVec
     questions
 }
 
+/// Answers a question alone.
+pub fn answer_alone(store: &Store, root: &Root, question: &Question<'_>) -> bool
+    requires asked { CanAsk store.now root.now.height root.now.slot question.now }
+    ensures above { IsTrue result ↔ Exceeds store.now.keys question.now
+        (items_in store.now.nodes root.now.height root.now.slot) }
+{
+    let approach = find_approach(store, root, question);
+    let look = look_at(store, question, &approach);
+    answer(store, root, question, look)
+}
+
 /// Answers each question, in their order. There are at most [`SIDE`].
 pub fn answer_each(store: &Store, root: &Root, questions: &[Question<'_>]) -> ArrayVec<bool, SIDE>
     requires few { length questions.now ≤ SIDE }

@@ -1,9 +1,9 @@
 //! What a step map is asked.
-ghost use Rattle.std.specs.Prelude.{◌≡◌, ◌<◌, ℤ, List, length, [], ◌∷◌, Some, IsSomeAnd, slice_get};
+ghost use Rattle.std.specs.Prelude.{◌≡◌, ◌<◌, ℤ, List, length, Some, IsSomeAnd, slice_get};
 ghost use Rattle.keys.specs.Hash.{IsHashOf};
 ghost use Rattle.keys.specs.declared.range.Range.{Range as RangeValue};
 
-use keys::{Range, RangeRef};
+use keys::RangeRef;
 
 /// A range that is asked for, with borrowed keys, and the version that the function is compared
 /// with at its keys.
@@ -40,35 +40,4 @@ pub trait QueryList {
         requires within { index < length (queries self.now) }
         ensures query { slice_get (queries self.now) index ≡ Some (result.range, result.version) }
         ensures hash { IsHashOf result.range result.hash };
-}
-
-// One query alone.
-#[derive(Drop)]
-pub struct OneQuery<'a> {
-    pub range: &'a Range,
-    pub version: i64,
-}
-
-impl<'a> QueryList for OneQuery<'a> {
-    ghost queries = { λ q. (q.range.now, q.version) ∷ [] };
-
-    fn len(&self) -> usize {
-        1
-    }
-
-    fn hash(&self, _index: usize) -> Option<u32> {
-        self.range.as_ref().single_hash()
-    }
-
-    fn version(&self, _index: usize) -> i64 {
-        self.version
-    }
-
-    fn query(&self, _index: usize) -> RangeQuery<'_> {
-        RangeQuery {
-            range: self.range.as_ref(),
-            version: self.version,
-            hash: self.range.as_ref().single_hash(),
-        }
-    }
 }

@@ -23,7 +23,7 @@ mod trimmed_memory;
 
 use crate::error::StepError;
 use crate::filter::Filter;
-use boundaries::{Boundaries, KeyLengths, OneQuery, QueryList};
+use boundaries::{Boundaries, KeyLengths, QueryList, RangeQuery};
 use keys::{HashedRange, MAX_KEY_LENGTH, Range};
 use std::alloc::{AllocError, Global};
 use std::collections::VecDeque;
@@ -122,8 +122,12 @@ impl StepMap {
     pub fn exceeds(&self, range: &Range, version: i64) -> bool
         ensures above { IsTrue result ↔ IsAbove self.now range.now version }
     {
-        let query = OneQuery { range, version };
-        !range.is_empty() && self.boundaries.are_above(&query, &[0])[0]
+        let query = RangeQuery {
+            range: range.as_ref(),
+            version,
+            hash: range.as_ref().single_hash(),
+        };
+        !range.is_empty() && self.boundaries.is_above(query)
     }
 
     /// Answers for each query, in order, what `exceeds` returns for its range and its version. The
