@@ -1,3 +1,4 @@
+pub mod HandleBoxes
 pub mod Few
 pub mod ReplyLength
 pub mod Joining
