@@ -1,0 +1,7 @@
+#!/bin/bash
+exec > /work/run/hR-cb.log 2>&1 < /dev/null
+cd /work/hR; python3 /work/run/hR-rows.py; python3 /work/run/hR-break.py || exit
+cd /tmp/hR-ws
+export CARGO_TARGET_DIR=/tmp/hR-target CARGO_PROFILE_DEV_DEBUG=0
+for c in resolver_tests structure_tests replay_tests; do nice -n 5 cargo test --offline --no-fail-fast -p archcaraway-$c --lib; done
+echo DONE $?

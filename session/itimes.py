@@ -1,0 +1,1 @@
+# processor seconds and wall per process of rattle check/build/test, from sampler file
