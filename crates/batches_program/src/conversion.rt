@@ -10,7 +10,7 @@ use std::fs::{File, Files};
 use std::io::BufReader;
 use wire::Sink;
 
-/// Does a conversion, and tells why if it can't.
+/// Does a conversion. If it can't, it reports why.
 pub fn convert_file<R: Files<File = File> + Input + AllocGlobal, O: Sink, E: Sink>(
     rt: &R,
     line: &JobLine<'_>,

@@ -41,7 +41,7 @@ pub fn run<R: Files<File = File> + Env + Input + AllocGlobal, O: Sink, E: Sink>(
     }
 }
 
-// Does what the command line asks for, and tells why if it can't.
+// Does what the command line asks for. If it can't, it reports why.
 fn do_job<R: Files<File = File> + Input + AllocGlobal, O: Sink, E: Sink>(
     rt: &R,
     job: &Job<'_>,
