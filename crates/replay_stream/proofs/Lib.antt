@@ -6,4 +6,5 @@ pub mod Rounds
 pub mod Streams
 pub mod Places
 pub mod Joining
+pub mod Ending
 pub mod StreamRuns

@@ -9,7 +9,7 @@ use Rattle.keys.proofs.callers.Lists.{AllZip-get, element_of_map}
 use Rattle.keyspace.specs.declared.answer.Answer.{Answer}
 use Rattle.keyspace.specs.declared.batch.Batch.{Batch}
 use Rattle.keyspace.specs.Run.{Step, part}
-use Rattle.lane.specs.Lane.{HasEnded, IntakeContinues, IntakeView, PortContinues, PortView}
+use Rattle.lane.specs.Lane.{IntakeView, PortView}
 use Rattle.resolver.specs.declared.client.Client.{Client}
 use Rattle.resolver.specs.declared.turn.Account.{Account}
 use Rattle.resolver.specs.Lanes.{Lanes, has_ended, sent_to}
@@ -22,18 +22,16 @@ use Rattle.replay_output.specs.declared.options.reports.Reports.{Reports}
 use Rattle.replay_output.specs.Streamed.{Printed, printed_for, stream_text}
 use Rattle.replay_stream.specs.declared.outlet.Outlet.{Outlet}
 use Rattle.replay_stream.specs.declared.proxies.Proxy.{Proxy}
-use Rattle.replay_stream.specs.declared.proxies.ProxyTask.{ProxyTask}
 use Rattle.replay_stream.specs.declared.recorder.Recorder.{Recorder}
 use Rattle.replay_stream.specs.declared.streamed.Streamed.{Streamed}
 use Rattle.replay_stream.specs.Outlet.{AreNumbered, HasPassedAll, HavePassedAll, OutletContinues, StreamContinues, TookText, is_complete}
 use Rattle.replay_stream.specs.Proxies.{
-  AreEnds,
   GivenProxy,
   GivenThreads,
   HasJoined,
+  HasResultsOf,
   IsJoined,
   IsNewOutlet,
-  IsStreamedOf,
   Joined,
   SendsAll,
   client_of,
@@ -41,45 +39,44 @@ use Rattle.replay_stream.specs.Proxies.{
   given_proxies,
   given_with,
   outlets_of,
-  threads_by,
   threads_of,
 }
 use Rattle.replay_workers.specs.Stops.{IsStopOf}
 use Rattle.replay_stream.specs.Streaming.{HaveRecords, IsStreamed, IsStreamedFor, LeavesLast, Recorded, recorded_each}
 use Rattle.replay_workers.specs.Reporting.{TakesFrames}
-use Rattle.replay_workers.specs.Worker.{ClientContinues}
 use Rattle.replay_stream.specs.Sinks.{SinkState}
 use Rattle.replay_workers.proofs.callers.Lists.{all_at, found, mapped_at, both}
-use Rattle.replay_stream.proofs.Places.{all_of, given_at, given_one, given_number, has_recorder, is_recorded, length_given, length_recorded, recorded_at, zip_of}
-use Rattle.replay_stream.proofs.Streams.{ends_of, recorded_of, streamed_for}
+use Rattle.replay_stream.proofs.Ending.{ended_at}
+use Rattle.replay_stream.proofs.Places.{given_at, given_one, given_number, has_recorder, is_recorded, length_given, length_recorded, recorded_at}
+use Rattle.replay_stream.proofs.Streams.{recorded_of, streamed_for}
 
-module _ {S W G : Type 0} (reports : Reports) (readers : List S) (outs : List (Option W)) (clients : List Client) (tasks : List (ProxyTask S W G))
+module _ {S W : Type 0} (reports : Reports) (readers : List S) (outs : List (Option W)) (clients : List Client) (started : List (Proxy S W))
     (same : length readers ≡ length clients) (as_many : length outs ≡ length clients)
-    (given : map (λ (t : ProxyTask S W G). given_with t.outlet (threads_by t)) tasks ≡ given_proxies reports 0 clients readers outs)
+    (given : map (λ (p : Proxy S W). given_with p.outlet (threads_of p)) started ≡ given_proxies reports 0 clients readers outs)
   where
-    pub tasks_count : length tasks ≡ length clients
-    tasks_count = sym (length-map tasks (λ (t : ProxyTask S W G). given_with t.outlet (threads_by t))) ∙ ap length given
+    pub started_count : length started ≡ length clients
+    started_count = sym (length-map started (λ (p : Proxy S W). given_with p.outlet (threads_of p))) ∙ ap length given
         ∙ length_given reports 0 clients readers outs same as_many
 
     -- what one proxy was given
-    pub record Place (proxy : ℕ) (task : ProxyTask S W G) : Type 0 where
+    pub record Place (proxy : ℕ) (begun : Proxy S W) : Type 0 where
       pub client : Client
       pub at_client : slice_get clients proxy ≡ Some client
       pub reader : S
       pub at_reader : slice_get readers proxy ≡ Some reader
       pub out : Option W
       pub at_out : slice_get outs proxy ≡ Some out
-      pub was_given : given_with task.outlet (threads_by task) ≡ record { proxy = proxy; client = client; reader = reader; reports = reports; out = out }
+      pub was_given : given_with begun.outlet (threads_of begun) ≡ record { proxy = proxy; client = client; reader = reader; reports = reports; out = out }
 
-    given_here : (proxy : ℕ) (task : ProxyTask S W G) → slice_get tasks proxy ≡ Some task
-        → slice_get (given_proxies reports 0 clients readers outs) proxy ≡ Some (given_with task.outlet (threads_by task))
-    given_here proxy task at =
+    given_here : (proxy : ℕ) (begun : Proxy S W) → slice_get started proxy ≡ Some begun
+        → slice_get (given_proxies reports 0 clients readers outs) proxy ≡ Some (given_with begun.outlet (threads_of begun))
+    given_here proxy begun at =
         ap (λ l. slice_get l proxy) (sym given)
-        ∙ mapped_at (λ (t : ProxyTask S W G). given_with t.outlet (threads_by t)) tasks proxy task at
+        ∙ mapped_at (λ (p : Proxy S W). given_with p.outlet (threads_of p)) started proxy begun at
 
-    pub place_of : (proxy : ℕ) (task : ProxyTask S W G) → slice_get tasks proxy ≡ Some task → Place proxy task
-    place_of proxy task at =
-        let c = found tasks clients proxy task (sym tasks_count) at in
+    pub place_of : (proxy : ℕ) (begun : Proxy S W) → slice_get started proxy ≡ Some begun → Place proxy begun
+    place_of proxy begun at =
+        let c = found started clients proxy begun (sym started_count) at in
         let r = found clients readers proxy c.0 same c.1 in
         let o = found clients outs proxy c.0 as_many c.1 in
         let number : 0 + proxy ≡ proxy = omega arith in
@@ -91,63 +88,50 @@ module _ {S W G : Type 0} (reports : Reports) (readers : List S) (outs : List (O
           out = o.0;
           at_out = o.1;
           was_given =
-              same_Some _ _ (sym (given_here proxy task at) ∙ given_at reports 0 clients readers outs same as_many proxy c.0 r.0 o.0 c.1 r.1 o.1)
+              same_Some _ _ (sym (given_here proxy begun at) ∙ given_at reports 0 clients readers outs same as_many proxy c.0 r.0 o.0 c.1 r.1 o.1)
               ∙ ap (λ (n : ℕ). given_one reports n c.0 r.0 o.0) number;
         }
 
-    pub are_numbered : AreNumbered (map (λ (t : ProxyTask S W G). t.outlet) tasks)
+    pub are_numbered : AreNumbered (outlets_of started)
     are_numbered proxy l at =
-        let t = element_of_map (λ (t : ProxyTask S W G). t.outlet) tasks proxy l at in
+        let t = element_of_map (λ (p : Proxy S W). p.outlet) started proxy l at in
         let number : 0 + proxy ≡ proxy = omega arith in
         ap (λ (l : Outlet). l.proxy) (sym t.2)
-        ∙ given_number reports 0 clients readers outs proxy (given_with t.0.outlet (threads_by t.0)) (given_here proxy t.0 t.1) ∙ number
+        ∙ given_number reports 0 clients readers outs proxy (given_with t.0.outlet (threads_of t.0)) (given_here proxy t.0 t.1) ∙ number
 
     module _ (style : Style) (has_failed : Bool) (before after : SinkState) (ended : List (Proxy S W))
-        (fresh : All (λ (t : ProxyTask S W G). IsNewOutlet t.outlet (threads_by t).answers) tasks)
-        (threads : map threads_of ended ≡ map (λ (t : ProxyTask S W G). threads_by t) tasks)
-        (goes : StreamContinues style false has_failed before after (map (λ (t : ProxyTask S W G). t.outlet) tasks) (outlets_of ended))
+        (fresh : All (λ (p : Proxy S W). IsNewOutlet p.outlet (threads_of p).answers) started)
+        (threads : map threads_of ended ≡ map threads_of started)
+        (goes : StreamContinues style false has_failed before after (outlets_of started) (outlets_of ended))
         (passed : HavePassedAll (outlets_of ended)) where
       pub ended_count : length ended ≡ length clients
-      ended_count = sym (length-map ended threads_of) ∙ ap length threads ∙ length-map tasks (λ (t : ProxyTask S W G). threads_by t)
-          ∙ tasks_count
+      ended_count = sym (length-map ended threads_of) ∙ ap length threads ∙ length-map started threads_of
+          ∙ started_count
 
-      -- a proxy whose outlet has ended, and the task that it was started with
+      -- a proxy whose outlet has ended, and the same when it was started
       pub record Ran (proxy : ℕ) (running : Proxy S W) : Type 0 where
-        pub task : ProxyTask S W G
-        pub at_task : slice_get tasks proxy ≡ Some task
-        pub same_threads : threads_of running ≡ threads_by task
-        pub is_new : IsNewOutlet task.outlet (threads_by task).answers
+        pub begun : Proxy S W
+        pub at_begun : slice_get started proxy ≡ Some begun
+        pub same_threads : threads_of running ≡ threads_of begun
+        pub is_new : IsNewOutlet begun.outlet (threads_of begun).answers
         pub dropped : List Answer
         pub continues :
-            OutletContinues (printed_for proxy goes.printed) dropped (is_complete task.outlet.lost false)
-            (is_complete running.outlet.lost has_failed) task.outlet running.outlet
+            OutletContinues (printed_for proxy goes.printed) dropped (is_complete begun.outlet.lost false)
+            (is_complete running.outlet.lost has_failed) begun.outlet running.outlet
         pub has_passed : HasPassedAll running.outlet
 
       pub ran_at : (proxy : ℕ) (running : Proxy S W) → slice_get ended proxy ≡ Some running → Ran proxy running
       ran_at proxy running at =
-          let t = found ended tasks proxy running (tasks_count ∙ sym ended_count) at in
-          let outlet_at = mapped_at (λ (t : ProxyTask S W G). t.outlet) tasks proxy t.0 t.1 in
-          let ended_at = mapped_at (λ (p : Proxy S W). p.outlet) ended proxy running at in
-          let continues = goes.each.each proxy t.0.outlet running.outlet outlet_at ended_at in
+          let e = ended_at style has_failed before after started ended threads goes passed proxy running at in
           record {
-            task = t.0;
-            at_task = t.1;
-            same_threads =
-                same_Some (threads_of running) (threads_by t.0) (sym (mapped_at threads_of ended proxy running at)
-                ∙ ap (λ l. slice_get l proxy) threads ∙ mapped_at (λ (t : ProxyTask S W G). threads_by t) tasks proxy t.0 t.1);
-            is_new = all_at (λ (t : ProxyTask S W G). IsNewOutlet t.outlet (threads_by t).answers) tasks proxy t.0 fresh t.1;
-            dropped = continues.0;
-            continues = continues.1;
-            has_passed = passed proxy running.outlet ended_at;
+            begun = e.begun;
+            at_begun = e.at_begun;
+            same_threads = e.same_threads;
+            is_new = all_at (λ (p : Proxy S W). IsNewOutlet p.outlet (threads_of p).answers) started proxy e.begun fresh e.at_begun;
+            dropped = e.dropped;
+            continues = e.continues;
+            has_passed = e.has_passed;
           }
-
-      -- the two ends of the lane to each recorder are of one lane
-      pub ends_each : All (λ (p : Proxy S W). AreEnds p.outlet.records (threads_of p).answers) ended
-      ends_each = all_of (λ (p : Proxy S W). AreEnds p.outlet.records (threads_of p).answers) ended (λ place p at.
-          let ran = ran_at place p at in
-          subst (λ (t : GivenThreads S W). AreEnds p.outlet.records t.answers) (sym ran.same_threads)
-          (ends_of ran.task.outlet.records p.outlet.records (threads_by ran.task).answers ran.task.outlet.waiting p.outlet.waiting _
-          ran.is_new.ends ran.continues.passed))
 
       module _ (remaining : S → Option (List ℕ)) (state_of : W → SinkState) (joined : List (Joined W))
           (worked : AllZip (IsJoined remaining state_of) ended joined) where
@@ -158,19 +142,19 @@ module _ {S W G : Type 0} (reports : Reports) (readers : List S) (outs : List (O
         pub record Known (proxy : ℕ) (j : Joined W) : Type 0 where
           pub running : Proxy S W
           pub ran : Ran proxy running
-          pub place : Place proxy ran.task
-          pub has : HasJoined remaining state_of running.outlet (threads_by ran.task) j
-          pub requests : (threads_by ran.task).requests ≡ place.client.requests
-          pub replies : ran.task.outlet.replies ≡ place.client.replies
-          pub reader : (threads_by ran.task).reader ≡ place.reader
-          pub reports_are : (threads_by ran.task).reports ≡ reports
-          pub out : (threads_by ran.task).out ≡ place.out
+          pub place : Place proxy ran.begun
+          pub has : HasJoined remaining state_of running.outlet (threads_of ran.begun) j
+          pub requests : (threads_of ran.begun).requests ≡ place.client.requests
+          pub replies : ran.begun.outlet.replies ≡ place.client.replies
+          pub reader : (threads_of ran.begun).reader ≡ place.reader
+          pub reports_are : (threads_of ran.begun).reports ≡ reports
+          pub out : (threads_of ran.begun).out ≡ place.out
 
         pub known_at : (proxy : ℕ) (j : Joined W) → slice_get joined proxy ≡ Some j → Known proxy j
         known_at proxy j at =
             let p = found joined ended proxy j (ended_count ∙ sym joined_count) at in
             let ran = ran_at proxy p.0 p.1 in
-            let place = place_of proxy ran.task ran.at_task in
+            let place = place_of proxy ran.begun ran.at_begun in
             record {
               running = p.0;
               ran = ran;
@@ -185,33 +169,6 @@ module _ {S W G : Type 0} (reports : Reports) (readers : List S) (outs : List (O
               out = ap (λ (g : GivenProxy S W). g.out) place.was_given;
             }
 
-        -- the clients are those that were given
-        pub clients_joined : AllZip ClientContinues clients (map client_of joined)
-        clients_joined =
-            zip_of ClientContinues clients (map client_of joined) (length-map joined client_of ∙ joined_count) (λ proxy c d at there.
-            let j = element_of_map client_of joined proxy d there in
-            let known = known_at proxy j.0 j.1 in
-            let is : known.place.client ≡ c = same_Some _ c (sym known.place.at_client ∙ at) in
-            let replies = ap (λ (o : Outlet). o.replies) known.has.outlet_is in
-            subst (λ (c : Client). ClientContinues c d) is
-            (subst (λ (d : Client). ClientContinues known.place.client d) j.2
-            (record {
-              requests = subst (λ (p : PortView Batch). PortContinues p j.0.sent.requests) known.requests known.has.sent.requests;
-              replies =
-                  subst (λ (i : IntakeView Answer). IntakeContinues known.place.client.replies i) (sym replies)
-                  (subst (λ (i : IntakeView Answer). IntakeContinues i known.running.outlet.replies) known.replies
-                  known.ran.continues.replies);
-            })))
-
-        -- and each has taken its answers to their end
-        pub clients_ended : (proxy : ℕ) (c : Client) → slice_get (map client_of joined) proxy ≡ Some c → HasEnded c.replies
-        clients_ended proxy c at =
-            let j = element_of_map client_of joined proxy c at in
-            let known = known_at proxy j.0 j.1 in
-            subst (λ (c : Client). HasEnded c.replies) j.2
-            (subst (λ (i : IntakeView Answer). HasEnded i) (sym (ap (λ (o : Outlet). o.replies) known.has.outlet_is))
-            known.ran.has_passed.ended)
-
         -- the proxies that have a writer have a recorder, and no others
         pub have_recorders : (recorders : List (Option (Recorder W))) → recorders ≡ map (λ (j : Joined W). j.recorder) joined
             → HaveRecords (map is_some outs) recorders
@@ -221,13 +178,13 @@ module _ {S W G : Type 0} (reports : Reports) (readers : List S) (outs : List (O
             let o = element_of_map is_some outs proxy has has_at in
             let out_is : known.place.out ≡ o.0 = same_Some _ o.0 (sym known.place.at_out ∙ o.1) in
             ap is_some (sym j.2)
-            ∙ has_recorder state_of (threads_by known.ran.task).out (threads_by known.ran.task).answers _ _ j.0.recorder known.has.recorder
+            ∙ has_recorder state_of (threads_of known.ran.begun).out (threads_of known.ran.begun).answers _ _ j.0.recorder known.has.recorder
             ∙ ap is_some (known.out ∙ out_is) ∙ o.2
 
         module _ (options : Options) (style_is : style ≡ options.style) (reports_is : reports ≡ options.reports) (log : List Step)
             (lanes : List Lanes) (account : Account) (streamed : Streamed W) (new : All (IsNewClient options.capacity) clients)
             (settled : Settled options.window log lanes (map client_of joined) account)
-            (entire : account.stop ≡ None → account.complete ≡ true) (of_joined : IsStreamedOf joined streamed) where
+            (entire : account.stop ≡ None → account.complete ≡ true) (of_joined : HasResultsOf joined streamed) where
           abbrev complete : Bool
           complete = account.complete && streamed.all_sent
 
@@ -244,13 +201,13 @@ module _ {S W G : Type 0} (reports : Reports) (readers : List S) (outs : List (O
               subst (λ (o : Option W). IsStreamedFor options.reports options.window log complete has_failed account.stop (bytes_of proxy j known)
               proxy (printed_for proxy goes.printed) (failure_with j) (recorded_of state_of o j.recorder)) known.out
               (subst (λ (r : S). IsStreamedFor options.reports options.window log complete has_failed account.stop (remaining r)
-              proxy (printed_for proxy goes.printed) (failure_with j) (recorded_of state_of (threads_by ran.task).out j.recorder))
+              proxy (printed_for proxy goes.printed) (failure_with j) (recorded_of state_of (threads_of ran.begun).out j.recorder))
               known.reader
               (subst (λ (r : Reports). IsStreamedFor r options.window log complete has_failed account.stop
-              (remaining (threads_by ran.task).reader) proxy (printed_for proxy goes.printed) (failure_with j)
-              (recorded_of state_of (threads_by ran.task).out j.recorder)) (known.reports_are ∙ reports_is)
+              (remaining (threads_of ran.begun).reader) proxy (printed_for proxy goes.printed) (failure_with j)
+              (recorded_of state_of (threads_of ran.begun).out j.recorder)) (known.reports_are ∙ reports_is)
               (streamed_for state_of remaining options.window log (has_ended lanes proxy) streamed.all_sent has_failed (sent_to lanes proxy) account
-              proxy (threads_by ran.task) ran.task.outlet known.running.outlet j (printed_for proxy goes.printed) ran.dropped
+              proxy (threads_of ran.begun) ran.begun.outlet known.running.outlet j (printed_for proxy goes.printed) ran.dropped
               (ap (λ (p : PortView Batch). p.sent) (known.requests ∙ client.requests))
               (ap (λ (i : IntakeView Answer). i.taken) (known.replies ∙ client.replies)) ran.is_new.none_waits ran.is_new.ends ran.continues
               ran.has_passed known.has (settled.each proxy (client_of j) here) (settled.reported proxy (client_of j) here)
@@ -284,12 +241,12 @@ module _ {S W G : Type 0} (reports : Reports) (readers : List S) (outs : List (O
                 read =
                     subst (λ (r : S). TakesFrames options.reports (remaining r) sends.left (part log back.place ++ back.batch ∷ []))
                     known.reader
-                    (subst (λ (r : Reports). TakesFrames r (remaining (threads_by known.ran.task).reader) sends.left
+                    (subst (λ (r : Reports). TakesFrames r (remaining (threads_of known.ran.begun).reader) sends.left
                     (part log back.place ++ back.batch ∷ [])) (known.reports_are ∙ reports_is)
-                    (subst (λ (l : List Batch). TakesFrames (threads_by known.ran.task).reports (remaining (threads_by known.ran.task).reader)
+                    (subst (λ (l : List Batch). TakesFrames (threads_of known.ran.begun).reports (remaining (threads_of known.ran.begun).reader)
                     sends.left (l ++ back.batch ∷ [])) sent
-                    (subst (λ (u : Option Batch). TakesFrames (threads_by known.ran.task).reports
-                    (remaining (threads_by known.ran.task).reader) sends.left (sends.batches ++ option_to_list u)) back.unsent
+                    (subst (λ (u : Option Batch). TakesFrames (threads_of known.ran.begun).reports
+                    (remaining (threads_of known.ran.begun).reader) sends.left (sends.batches ++ option_to_list u)) back.unsent
                     sends.frames)));
               }
 
@@ -316,8 +273,8 @@ module _ {S W G : Type 0} (reports : Reports) (readers : List S) (outs : List (O
               (recorded_each state_of outs streamed.recorders.items) complete account.stop
           is_streamed met =
               let clients_same : length clients ≡ length (map remaining readers) = sym same ∙ sym (length-map readers remaining) in
-              let tasks_same : length (map (λ (t : ProxyTask S W G). t.outlet) tasks) ≡ length (map remaining readers) =
-              length-map tasks (λ (t : ProxyTask S W G). t.outlet) ∙ tasks_count ∙ clients_same in
+              let started_same : length (outlets_of started) ≡ length (map remaining readers) =
+              length-map started (λ (p : Proxy S W). p.outlet) ∙ started_count ∙ clients_same in
               record {
                 log = log;
                 printed = goes.printed;
@@ -332,9 +289,9 @@ module _ {S W G : Type 0} (reports : Reports) (readers : List S) (outs : List (O
                     let out_is : known.place.out ≡ o.0 = same_Some _ o.0 (sym known.place.at_out ∙ o.1) in
                     ap is_some (same_Some r _ (sym r_at ∙ recorded_here proxy j.0 j.1 known))
                     ∙ ap (λ (o : Option W). is_some (recorded_of state_of o j.0.recorder)) (sym known.out)
-                    ∙ is_recorded state_of (threads_by known.ran.task).out (threads_by known.ran.task).answers _ _ j.0.recorder
+                    ∙ is_recorded state_of (threads_of known.ran.begun).out (threads_of known.ran.begun).answers _ _ j.0.recorder
                     known.has.recorder ∙ ap is_some (known.out ∙ out_is) ∙ o.2;
-                known = subst (λ (n : ℕ). All (λ (p : Printed). p.proxy < n) goes.printed) tasks_same goes.known;
+                known = subst (λ (n : ℕ). All (λ (p : Printed). p.proxy < n) goes.printed) started_same goes.known;
                 each = λ proxy bytes failure r at failure_at r_at.
                     let j = joined_for (map remaining readers) proxy bytes (sym clients_same) at in
                     let known = known_at proxy j.0 j.1 in

@@ -29,15 +29,22 @@ recorded_of state_of (Some out) None = None
 recorded_of state_of None recorder = None
 
 -- the ends of a lane to a recorder stay its ends
-pub ends_of : (first new : Option (PortView Answer)) (answers : Option (IntakeView Answer)) (was waits : Option Answer)
-    (taken : List Answer) → AreNewEnds first answers → PassesOn first new was waits taken → AreEnds new answers
-ends_of None None None was waits taken ends passed = tt
-ends_of None None (Some answers) was waits taken ends passed = absurd ends
-ends_of None (Some new) answers was waits taken ends passed = absurd passed
-ends_of (Some first) None answers was waits taken ends passed = absurd passed
-ends_of (Some first) (Some new) None was waits taken ends passed = absurd ends
-ends_of (Some first) (Some new) (Some answers) was waits taken ends passed =
-    record { lane = passed.0.lane ∙ ends.0.lane; capacity = passed.0.capacity ∙ ends.0.capacity }
+pub ends_stay : (first new : Option (PortView Answer)) (answers : Option (IntakeView Answer)) (was waits : Option Answer)
+    (taken : List Answer) → AreEnds first answers → PassesOn first new was waits taken → AreEnds new answers
+ends_stay None None None was waits taken ends passed = tt
+ends_stay None None (Some answers) was waits taken ends passed = absurd ends
+ends_stay None (Some new) answers was waits taken ends passed = absurd passed
+ends_stay (Some first) None answers was waits taken ends passed = absurd passed
+ends_stay (Some first) (Some new) None was waits taken ends passed = absurd ends
+ends_stay (Some first) (Some new) (Some answers) was waits taken ends passed =
+    record { lane = passed.0.lane ∙ ends.lane; capacity = passed.0.capacity ∙ ends.capacity }
+
+-- the ends of a new lane are ends
+pub ends_new : (first : Option (PortView Answer)) (answers : Option (IntakeView Answer)) → AreNewEnds first answers → AreEnds first answers
+ends_new None None ends = tt
+ends_new None (Some answers) ends = absurd ends
+ends_new (Some first) None ends = absurd ends
+ends_new (Some first) (Some answers) ends = ends.0
 
 module _ {W : Type 0} (state_of : W → SinkState) where
   -- the records are of what the outlet has passed on

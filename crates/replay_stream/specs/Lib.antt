@@ -4,4 +4,5 @@ pub mod Sinks
 pub mod Recorder
 pub mod Outlet
 pub mod Proxies
+pub mod Ending
 pub mod Streaming

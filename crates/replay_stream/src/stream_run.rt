@@ -1,25 +1,29 @@
 //! A stream: senders read and send, and recorders write records, while this thread turns the
 //! resolver and prints the answers.
 
-ghost use Rattle.std.specs.Prelude.{◌≡◌, ◌≤◌, ◌&&◌, ℕ, true, Some, is_some, map, slice_get};
-ghost use Rattle.std.specs.Prelude.{vec_len, IfOk, IsTrue, OnErr};
+ghost use Rattle.std.specs.Prelude.{◌≡◌, ◌≤◌, ◌&&◌, ℕ, [], true, negsuc, Some, is_some};
+ghost use Rattle.std.specs.Prelude.{map, slice_get, vec_capacity, vec_len, IfOk, IsTrue, OnErr};
+ghost use Rattle.std.specs.List.{All};
 ghost use Rattle.limits.specs.declared.settings.TheConstants.{MAX_PROXIES};
 ghost use Rattle.replay_stream.specs.Recorder.{is_unwritten, unwritten_cause};
 ghost use Rattle.replay_stream.specs.Streaming.{HaveRecords, IsStreamed, recorded_each};
 ghost use Rattle.resolver.specs.Core.{Continues};
 ghost use Rattle.resolver.specs.Lanes.{Lanes, Each, LanesContinue};
-ghost use Rattle.resolver.specs.Resolver.{IsResolving, IsThrough};
+ghost use Rattle.resolver.specs.Opens.{Opens};
+ghost use Rattle.resolver.specs.Resolver.{AreClients, IsResolving, IsThrough};
+ghost use Rattle.replay_stream.specs.Ending.{EndsStream, clients_of};
 ghost use Rattle.replay_stream.specs.Outlet.{AreNumbered, HavePassedAll, StreamsOn};
-ghost use Rattle.replay_stream.specs.Proxies.{outlets_of, threads_of};
+ghost use Rattle.replay_stream.specs.Proxies.{AreEnds, IsNewOutlet, IsStreamedOf};
+ghost use Rattle.replay_stream.specs.Proxies.{given_proxies, given_with, outlets_of, threads_of};
 ghost use Rattle.replay_stream.specs.Sinks.{state_by};
 ghost use Rattle.replay_workers.specs.Stops.{IsAccountedFor};
 
 use crate::outlet::{Passed, Printer};
 use crate::proxies::{Proxy, connect_all, join_all, start_all};
 use crate::streamed::Streamed;
-use replay_output::{Options, StartError};
+use replay_output::{Options, StartError, Style};
 use replay_workers::{Gatekeeper, ShareKeeper, Watch, admit, open_resolver};
-use resolver::{Account, Resolver, Turn};
+use resolver::{Account, Client, Resolver, Turn};
 use std::alloc::Global;
 use std::sync::{Arc, Wait};
 use std::thread;
@@ -64,25 +68,110 @@ pub fn run_stream<
         ≡ state_by O.given O.failures out.old) }
 {
     let count = readers.len();
-    let mut streamed = Streamed::with_room(alloc, count)?;
-    let mut watch = Watch::new(alloc, count)?;
-    let (mut resolver, clients) = open_resolver(alloc, count, options)?;
+    let (streamed, watch, resolver, clients) = open_all(alloc, count, options)?;
+    let proxies = start_proxies(rt, alloc, options, readers, records, clients, gatekeeper)?;
+    Ok(run_to_end(
+        rt,
+        alloc,
+        options.style,
+        resolver,
+        &**gatekeeper,
+        watch,
+        proxies,
+        streamed,
+        out,
+    ))
+}
+
+// Opens a resolver, and makes an empty outcome with room for the results of all proxies.
+fn open_all<W: Drop>(
+    alloc: Global,
+    proxies: usize,
+    options: Options,
+) -> Result<(Streamed<W>, Watch, Resolver, Vec<Client>), StartError>
+    requires least { 1 ≤ proxies }
+    requires most { proxies ≤ MAX_PROXIES }
+    ensures empty { IfOk result (λ opened. IsStreamedOf [] opened.0) }
+    ensures room { IfOk result (λ opened. proxies ≤ vec_capacity opened.0.clients) }
+    ensures opens { IfOk result (λ opened. Opens (negsuc 0) proxies options.capacity
+        options.window options.limit opened.2 opened.3.items) }
+{
+    let streamed = Streamed::with_room(alloc, proxies)?;
+    let watch = Watch::new(alloc, proxies)?;
+    let (resolver, clients) = open_resolver(alloc, proxies, options)?;
+    Ok((streamed, watch, resolver, clients))
+}
+
+// Makes the outlet of each proxy, and starts its threads. After an error no thread is joined.
+fn start_proxies<
+    S: Source + Send + Drop + 'static,
+    W: Sink + Send + Drop + 'static,
+    G: Gatekeeper + ShareKeeper + Send + Sync + Drop + 'static,
+    R: Threads + Wait + Copy + Send + 'static,
+>(
+    rt: &R,
+    alloc: Global,
+    options: Options,
+    readers: Vec<S>,
+    records: Vec<Option<W>>,
+    clients: Vec<Client>,
+    gatekeeper: &Arc<G, Global>,
+) -> Result<Vec<Proxy<S, W>>, StartError>
+    requires some { 1 ≤ vec_len readers }
+    requires readers { vec_len readers ≡ vec_len clients }
+    requires records { vec_len records ≡ vec_len clients }
+    ensures given { IfOk result (λ proxies.
+        map (λ proxy. given_with proxy.outlet (threads_of proxy)) proxies.items
+        ≡ given_proxies options.reports 0 clients.items readers.items records.items) }
+    ensures new { IfOk result (λ proxies. All (λ proxy.
+        IsNewOutlet proxy.outlet (threads_of proxy).answers) proxies.items) }
+{
     let tasks = connect_all(alloc, options, readers, records, clients, gatekeeper)?;
-    let mut proxies = start_all(rt, alloc, tasks)?;
-    let mut printer = Printer::new(alloc, options.style);
+    let proxies = start_all(rt, alloc, tasks)?;
+    Ok(proxies)
+}
+
+// Turns the resolver until all outlets have ended, joins all threads and settles the account.
+// Separate from `run_stream`, since each step is proved with all values that its function holds.
+fn run_to_end<S: Source, W: Sink + Drop, G: Gatekeeper + ShareKeeper, R: Threads + Wait, O: Sink>(
+    rt: &R,
+    alloc: Global,
+    style: Style,
+    resolver: Resolver,
+    gatekeeper: &G,
+    watch: Watch,
+    proxies: Vec<Proxy<S, W>>,
+    streamed: Streamed<W>,
+    out: &mut O,
+) -> (Streamed<W>, Account)
+    requires numbered { AreNumbered (outlets_of proxies.items) }
+    requires clients { AreClients resolver.lanes (clients_of proxies.items) }
+    requires ends { All (λ proxy. AreEnds proxy.outlet.records (threads_of proxy).answers)
+        proxies.items }
+    requires empty { IsStreamedOf [] streamed }
+    requires room { vec_len proxies ≤ vec_capacity streamed.clients }
+    ensures ends { EndsStream S.remaining (state_by W.given W.failures) style
+        (state_by O.given O.failures out.old) (state_by O.given O.failures out.new)
+        resolver proxies.items result.0 result.1 }
+{
+    let mut resolver = resolver;
+    let mut watch = watch;
+    let mut proxies = proxies;
+    let mut printer = Printer::new(alloc, style);
     turn_to_end(
         rt,
         &mut resolver,
-        &**gatekeeper,
+        gatekeeper,
         &mut watch,
         &mut proxies,
         &mut printer,
         out,
     );
+    let mut streamed = streamed;
     streamed.failed = printer.failed;
     let mut streamed = join_all(rt, proxies, streamed);
     let account = resolver.settle(streamed.clients.as_mut_slice());
-    Ok((streamed, account))
+    (streamed, account)
 }
 
 // Turns the resolver until it is done; after a stop, until a turn leaves nothing owed. Before each

@@ -20,7 +20,8 @@ use Rattle.replay_workers.specs.declared.threads.Worked.{Worked}
 use Rattle.replay_workers.specs.declared.worker.Finished.{Finished}
 use Rattle.wire.specs.Batches.{EndsWith}
 use Rattle.replay_workers.specs.Worker.{HasWorkedOver}
-use Rattle.replay_workers.specs.Threads.{given_each, finished_of, streams_of, HasWorkedOn, IsOutcomeOf, failure_of}
+use Rattle.replay_workers.specs.Threads.{given_each, finished_of, streams_of, HasWorkedOn, failure_of}
+use Rattle.replay_workers.specs.Ended.{HasResultsOf}
 use Rattle.replay_workers.specs.Run.{EndsAt, IsServedOver, LeavesBatchOver, IsRunOver, is_complete}
 use Rattle.replay_workers.specs.Stops.{IsStopOf}
 use Rattle.replay_workers.proofs.callers.Lists.{all_at, found, both, mapped_at}
@@ -32,7 +33,7 @@ module _ {B : Type 0} (Gives : B → B → Batch → Type 0) (IsEnd : B → Type
     (workers : List (Worked B)) (outcome : RunOutcome) (ended : List B) (log : List Step) (lanes : List Lanes) (account : Account)
     (same : length streams ≡ length clients) (new : All (IsNewClient options.capacity) clients)
     (worked : AllZip (HasWorkedOn Gives IsEnd IsFault Stays) (given_each options.style share 0 clients streams) workers)
-    (of_finished : IsOutcomeOf (finished_of workers) outcome) (of_ended : ended ≡ streams_of workers)
+    (of_finished : HasResultsOf (finished_of workers) outcome) (of_ended : ended ≡ streams_of workers)
     (settled : Settled options.window log lanes (map (λ (f : Finished). f.client) (finished_of workers)) account)
     (entire : account.stop ≡ None → account.complete ≡ true)
     (met : IfSome account.stop (IsStopOf options.limit options.window log)) where
