@@ -10,11 +10,13 @@ ghost use Rattle.arena.specs.Arena.{size_of, slots_of, wanted_of, record_at, hea
 ghost use Rattle.arena.specs.Arena.{spare_of, with_header, IsLive, HasRoomFor};
 ghost use Rattle.arena.specs.declared.size.TheConstants.{MAX_LENGTH, SIZES};
 
+mod growth;
+
 use crate::ahead::read_ahead;
 use crate::chunk::Chunk;
 use crate::error::ArenaError;
-use crate::size::{MAX_LENGTH, SIZES, count_sizes, size_of, slots_of};
-use crate::slot::{MAX_CHUNKS, Slot};
+use crate::size::{MAX_LENGTH, SIZES, count_sizes, size_of};
+use crate::slot::Slot;
 use crate::spares::Spares;
 use std::alloc::{Allocator, Global};
 use std::fmt;
@@ -246,66 +248,6 @@ impl<H: Copy, A: Allocator + Copy> Arena<H, A> {
             bytes = bytes.saturating_add(chunk.bytes_held(header_bytes));
         }
         bytes
-    }
-
-    // Adds chunks until `wanted` slots of the size are spare.
-    fn fill_up(&mut self, size: usize, wanted: usize) -> Result<(), ArenaError>
-        requires size { size < SIZES }
-        ensures room { OnOk result (wanted ≤ spare_of self.new size) }
-        ensures records { self.new.records ≡ self.old.records }
-        ensures spare_stays { spare_of self.old size ≤ spare_of self.new size }
-        ensures other_sizes { (s : ℕ) → s ≢ size → spare_of self.new s ≡ spare_of self.old s }
-        ensures enough { wanted ≤ spare_of self.old size → IsOk result }
-        ensures no_more { wanted ≤ spare_of self.old size
-            → spare_of self.new size ≡ spare_of self.old size }
-        ensures most { spare_of self.old size < wanted
-            → spare_of self.new size < wanted + slots_of size }
-        ensures memory { IsOkUnless result ArenaError.Memory }
-    {
-        while self.spares.count(size) < wanted {
-            self.grow(size)?;
-        }
-        Ok(())
-    }
-
-    // Adds a chunk if no slot of the size is spare.
-    fn spare_one(&mut self, size: usize) -> Result<(), ArenaError>
-        requires size { size < SIZES }
-        ensures some { OnOk result (0 < spare_of self.new size) }
-        ensures spare { OnOk result (spare_of self.new size
-            ≡ (if spare_of self.old size == 0 then slots_of size else spare_of self.old size)) }
-        ensures records { self.new.records ≡ self.old.records }
-        ensures other_sizes { (s : ℕ) → s ≢ size → spare_of self.new s ≡ spare_of self.old s }
-        ensures enough { 0 < spare_of self.old size → IsOk result }
-        ensures unchanged { OnErr result (self.new ≡ self.old) }
-        ensures memory { IsOkUnless result ArenaError.Memory }
-    {
-        if self.spares.count(size) == 0 {
-            self.grow(size)?;
-        }
-        Ok(())
-    }
-
-    // Adds a chunk of spare slots of the size.
-    fn grow(&mut self, size: usize) -> Result<(), ArenaError>
-        requires size { size < SIZES }
-        ensures records { self.new.records ≡ self.old.records }
-        ensures spare { OnOk result (spare_of self.new size
-            ≡ spare_of self.old size + slots_of size) }
-        ensures more { OnOk result (spare_of self.old size < spare_of self.new size) }
-        ensures other_sizes { (s : ℕ) → s ≢ size → spare_of self.new s ≡ spare_of self.old s }
-        ensures unchanged { OnErr result (self.new ≡ self.old) }
-        ensures memory { IsOkUnless result ArenaError.Memory }
-    {
-        let number = self.chunks.len();
-        if number == MAX_CHUNKS {
-            return Err(ArenaError::Memory);
-        }
-        self.chunks.reserve(1)?;
-        let chunk = Chunk::new(self.alloc, size)?;
-        self.spares.add(self.alloc, size, number, slots_of(size))?;
-        self.chunks.push_reserved(chunk);
-        Ok(())
     }
 
     // Gives a spare slot of the size to a record.
