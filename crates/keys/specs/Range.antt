@@ -12,7 +12,7 @@ IsEmpty range = range.begin ≡ range.end
 abbrev pub IsSingle : Range → Type 0
 IsSingle range = range.end ≡ range.begin ++ 0 ∷ []
 
--- the same of the two ends, as code decides it
+-- true if the end is the begin with a zero byte after it
 abbrev pub is_single_key : List ℕ → List ℕ → Bool
 is_single_key begin end = bytes_eq end (begin ++ 0 ∷ [])
 
