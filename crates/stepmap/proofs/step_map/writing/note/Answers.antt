@@ -3,7 +3,7 @@ use Rattle.std.specs.Prelude.{◌≤ℤ◌}
 use Rattle.std.proofs.lemmas.Int.{ints}
 use Rattle.stepmap.specs.Filter.{bound}
 use Rattle.boundaries.proofs.callers.SingleKeys.{single_holds}
-use Rattle.stepmap.proofs.step_map.note.Goals as goal
+use Rattle.stepmap.proofs.step_map.writing.note.Goals as goal
 
 pub returns-in-Some-clause-on_range : goal.returns-in-Some-clause-on_range
 returns-in-Some-clause-on_range c = λ key holds.
