@@ -4,7 +4,6 @@ ghost use Rattle.std.specs.Prelude.{◌≡◌, IfOk, false};
 ghost use Rattle.clap.specs.Words.{app_of, rule_of};
 ghost use Rattle.replay_arguments.specs.Command.{capacity_rule, check_rule, explain_rule};
 ghost use Rattle.replay_arguments.specs.Command.{file_rule, frames_rule, json_rule, limit_rule};
-ghost use Rattle.replay_arguments.specs.Command.{flag_rule, number_rule, valued_rule, words_rule};
 ghost use Rattle.replay_arguments.specs.Command.{only_rule, output_rule, program_app, quiet_rule};
 ghost use Rattle.replay_arguments.specs.Command.{replay_app, replies_rule, report_all_rule, resolvers_rule};
 ghost use Rattle.replay_arguments.specs.Command.{split_points_rule, stream_rule, summary_rule};
@@ -12,10 +11,13 @@ ghost use Rattle.replay_arguments.specs.Command.{summary_to_rule, top_rule};
 ghost use Rattle.replay_arguments.specs.Command.{verbose_rule, versions_rule, window_rule};
 ghost use Rattle.replay_arguments.specs.Command.{with_files, with_printing, with_resolving};
 
+mod forms;
+
 use crate::arguments::details::MAX_TOP;
 use crate::arguments::shard_options::MAX_RESOLVERS;
 use clap::builder::ValueParser;
 use clap::{Arg, ArgAction, Command};
+use forms::{flag, number, valued, words};
 use limits::{MAX_CAPACITY, MAX_LIMIT, MAX_WINDOW};
 use std::alloc::{AllocError, Global};
 
@@ -144,16 +146,6 @@ fn split_points<'a>(alloc: Global) -> Arg<'a>
     )
 }
 
-// An option `--name N`.
-fn number<'a>(alloc: Global, name: &'a str, default: &'a str, parser: ValueParser<'a>) -> Arg<'a>
-    ensures rule { rule_of result ≡ number_rule name.entry.now default.entry.now parser.entry }
-    ensures local { result.global ≡ false }
-{
-    valued(alloc, name, "N")
-        .default_value(default)
-        .value_parser(parser)
-}
-
 fn frames<'a>(alloc: Global) -> Arg<'a>
     ensures rule { rule_of result ≡ frames_rule }
     ensures local { result.global ≡ false }
@@ -275,30 +267,4 @@ fn file<'a>(alloc: Global) -> Arg<'a>
     words(alloc, "FILE").help(
         "Files of batch frames, from 1 to 64; file p is that of proxy p, - is standard input",
     )
-}
-
-// An option without a value.
-fn flag<'a>(alloc: Global, name: &'a str) -> Arg<'a>
-    ensures rule { rule_of result ≡ flag_rule name.entry.now }
-    ensures local { result.global ≡ false }
-{
-    Arg::new(alloc, name).long(name).action(ArgAction::SetTrue)
-}
-
-// An option with a value.
-fn valued<'a>(alloc: Global, name: &'a str, value: &'a str) -> Arg<'a>
-    ensures rule { rule_of result ≡ valued_rule name.entry.now }
-    ensures local { result.global ≡ false }
-{
-    Arg::new(alloc, name).long(name).value_name(value)
-}
-
-// One word or more.
-fn words<'a>(alloc: Global, name: &'a str) -> Arg<'a>
-    ensures rule { rule_of result ≡ words_rule name.entry.now }
-    ensures local { result.global ≡ false }
-{
-    Arg::new(alloc, name)
-        .action(ArgAction::Append)
-        .required(true)
 }
