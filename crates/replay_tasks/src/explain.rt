@@ -8,7 +8,7 @@ ghost use Rattle.replay_tasks.specs.Explained.{explanation_form};
 ghost use Rattle.replay_tasks.specs.Met.{HasMet};
 ghost use Rattle.replay_tasks.specs.Replayed.{written};
 
-use crate::met::{Ended, Met, is_unwritten};
+use crate::met::Ended;
 use crate::reached::Reached;
 use limits::MAX_PROXIES;
 use replay_explanations::{Explainer, ExplanationForm};
@@ -93,14 +93,7 @@ pub fn explain_over<
         &mut failures,
         ending,
     );
-    Ended {
-        status: report.status,
-        met: Met {
-            stop: account.stop,
-            version: reached.version,
-            output_failed: is_unwritten(&report.printed),
-        },
-    }
+    Ended::after(&report, account.stop, reached.version)
 }
 
 // Returns the form of the explanations of lines in this form.

@@ -3,7 +3,7 @@
 ghost use Rattle.std.specs.Prelude.{◌≡◌, None, false, true};
 
 use limits::Stop;
-use replay_output::{PrintError, Status};
+use replay_output::{PrintError, Report, Status};
 
 /// What a run met of which its fixed lines say a part, or nothing.
 #[derive(Clone, Copy, Debug, PartialEq, Eq)]
@@ -37,6 +37,25 @@ impl Ended {
                 stop: None,
                 version: None,
                 output_failed: false,
+            },
+        }
+    }
+
+    /// The end of a program after a run that met this stop and reached this version, by what was
+    /// printed of it.
+    pub fn after(report: &Report, stop: Option<Stop>, version: Option<i64>) -> Self
+        ensures status { result.status ≡ report.now.status }
+        ensures stop { result.met.stop ≡ stop }
+        ensures version { result.met.version ≡ version }
+        ensures output_failed { result.met.output_failed ≡ true
+            → report.now.printed ≡ Err PrintError.Write }
+    {
+        Ended {
+            status: report.status,
+            met: Met {
+                stop,
+                version,
+                output_failed: is_unwritten(&report.printed),
             },
         }
     }

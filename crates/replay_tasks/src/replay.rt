@@ -5,7 +5,7 @@ ghost use Rattle.std.specs.Io.KnownBytes.{Keeps};
 ghost use Rattle.replay_tasks.specs.Met.{HasMet};
 ghost use Rattle.replay_tasks.specs.Replayed.{IsReplayed, FailsToReplay, written};
 
-use crate::met::{Ended, Met, is_unwritten};
+use crate::met::Ended;
 use crate::reached::Reached;
 use limits::MAX_PROXIES;
 use observer::Unobserved;
@@ -81,12 +81,5 @@ pub fn replay_over<
     // lane takes.
     let ending = Ending::new(account.complete && all_sent, account.stop);
     let report = print_report(alloc, out, error, &mut lines, &mut failures, ending);
-    Ended {
-        status: report.status,
-        met: Met {
-            stop: account.stop,
-            version: reached.version,
-            output_failed: is_unwritten(&report.printed),
-        },
-    }
+    Ended::after(&report, account.stop, reached.version)
 }

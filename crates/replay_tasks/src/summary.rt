@@ -2,7 +2,7 @@
 //! answers summarized.
 
 ghost use Rattle.std.specs.Prelude.{◌≡◌, ◌≢◌, ◌↔◌, ◌<◌, ◌≤◌, ◌+◌, ◌&&◌, ℕ, None, Some, length, map};
-ghost use Rattle.std.specs.Prelude.{IsErr, OnOk, true, vec_len};
+ghost use Rattle.std.specs.Prelude.{Err, IsErr, OnOk, true, vec_len};
 ghost use Rattle.std.specs.Io.KnownBytes.{Appends, Keeps};
 ghost use Rattle.replay_output.specs.Failures.{failure_lines, with_loss};
 ghost use Rattle.replay_tasks.specs.Met.{HasMet};
@@ -10,13 +10,13 @@ ghost use Rattle.replay_tasks.specs.Replayed.{written};
 ghost use Rattle.replay_tasks.specs.Summarized.{FailsToSummarize, IsSummarized};
 
 use crate::explain::report_loss;
-use crate::met::{Ended, Met, is_unwritten};
+use crate::met::Ended;
 use crate::reached::Reached;
 use limits::MAX_PROXIES;
 use observer::Unobserved;
 use ranges::text_of_top;
 use replay_hot_ranges::HotRanges;
-use replay_output::{Ending, Options, ProxyFailure, Report, Status, fail_to_start};
+use replay_output::{Ending, Options, PrintError, ProxyFailure, Report, Status, fail_to_start};
 use replay_summary::SummaryForm;
 use replay_workers::{Gatekeeper, RunOutcome, ShareKeeper, run_observed};
 use std::alloc::Global;
@@ -158,14 +158,7 @@ fn summarize_alone<
         &mut failures,
         ending,
     );
-    Ended {
-        status: report.status,
-        met: Met {
-            stop: account.stop,
-            version: reached.version,
-            output_failed: is_unwritten(&report.printed),
-        },
-    }
+    Ended::after(&report, account.stop, reached.version)
 }
 
 // Summarizes with the ranges that conflict most.
@@ -234,23 +227,12 @@ fn summarize_with_top<
                 &mut failures,
                 ending,
             );
-            Ended {
-                status: report.status,
-                met: Met {
-                    stop: account.stop,
-                    version: reached.version,
-                    output_failed: is_unwritten(&report.printed),
-                },
-            }
+            Ended::after(&report, account.stop, reached.version)
         }
-        Err(_) => Ended {
-            status: report_last_loss(error, &mut failures, ending).status,
-            met: Met {
-                stop: account.stop,
-                version: reached.version,
-                output_failed: false,
-            },
-        },
+        Err(_) => {
+            let report = report_last_loss(error, &mut failures, ending);
+            Ended::after(&report, account.stop, reached.version)
+        }
     }
 }
 
@@ -264,6 +246,8 @@ fn is_complete(all_taken: bool, all_sent: bool) -> bool
 // Notes the loss of the last proxy, and prints what failed.
 fn report_last_loss<E: Sink>(error: &mut E, failures: &mut [ProxyFailure], ending: Ending) -> Report
     requires some { 1 ≤ length failures.old }
+    ensures printed { (proxy : ℕ) → proxy + 1 ≡ length failures.old
+        → result.printed ≡ Err (PrintError.Memory proxy) }
     ensures loss { (proxy : ℕ) → proxy + 1 ≡ length failures.old
         → failures.new ≡ with_loss proxy failures.old }
     ensures failure_lines { OnOk result.reported (Appends (E.given error.old) (E.given error.new)

@@ -27,6 +27,15 @@ pub met_nothing : (options : Options) (files : List (Option (List ℕ))) (met : 
 met_nothing options files met error none =
     subst (λ (s : Option Stop). IfSome s (λ stop. MetStop options files stop met.version × ReportsStop stop error)) (sym none) tt
 
+-- what it met is the stop and the version, whatever became of the output
+pub met_as : (options : Options) (files : List (Option (List ℕ))) (met : Met) (stop : Option Stop) (version : Option ℤ) (error : Written)
+    → met.stop ≡ stop → met.version ≡ version
+    → HasMet options files (record { stop = stop; version = version; output_failed = met.output_failed }) error
+    → HasMet options files met error
+met_as options files met stop version error stop_is version_is has =
+    subst (λ (s : Option Stop). IfSome s (λ stop. MetStop options files stop met.version × ReportsStop stop error)) (sym stop_is)
+    (subst (λ (v : Option ℤ). IfSome stop (λ s. MetStop options files s v × ReportsStop s error)) (sym version_is) has)
+
 -- what it met doesn't depend on which lines are shown
 pub met_quieted : (options : Options) (files : List (Option (List ℕ))) (met : Met) (error : Written)
     → HasMet (options_quieted options) files met error → HasMet options files met error

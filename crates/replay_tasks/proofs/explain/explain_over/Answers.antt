@@ -15,7 +15,7 @@ use Rattle.replay_workers.specs.Run.{IsObservedRun, is_complete}
 use Rattle.replay_tasks.specs.Explained.{Explained, TakesToExplain, explained_line, explained_lines, explanation_form, explanations_of}
 use Rattle.replay_tasks.specs.Replayed.{written, Took, TookPrefix}
 use Rattle.replay_tasks.proofs.Explaining.{seen_as, texts_are}
-use Rattle.replay_tasks.proofs.callers.Meeting.{has_met, met_nothing, not_failed, seen_by_other, stop_reported}
+use Rattle.replay_tasks.proofs.callers.Meeting.{has_met, met_as, met_nothing, not_failed, seen_by_other, stop_reported}
 use Rattle.replay_tasks.proofs.callers.Replaying.{complete_from, ending_is, held_ok, are_lines, is_replayed_over, ran_as_and_failed}
 use Rattle.replay_tasks.proofs.explain.explain_over.Goals.{then-account, else-account}
 use Rattle.replay_tasks.proofs.explain.explain_over.Goals as goal
@@ -82,6 +82,7 @@ returns g c =
     } in
     let ending = ending_is complete account.stop c.new-ending.result c.new-ending.ensures.ending in
     let report = c.print_explained-report.ensures in
+    let status = sym c.after.ensures.status in
     let reported = c.print_explained-report.new.failures in
     let out = written (g.O.Sink.given c.args.out.now) (g.O.Sink.given c.print_explained-report.new.out)
     (g.O.Sink.failures c.args.out.now) (g.O.Sink.failures c.print_explained-report.new.out) in
@@ -92,7 +93,7 @@ returns g c =
     (Took out (lines_by (explained_line options.style explained) (map answers_of received)))) texts (report.lines options.style (sym form_is) are) in
     record {
       done = λ is.
-          let parts = report.done.0 is in
+          let parts = report.done.0 (status ∙ is) in
           let nothing = subst (λ (e : Ending). NothingFailed failures e) ending parts.2 in
           let all = observed.seen.all (run.no_stop (complete_from complete account.stop nothing.complete)) in
           is_replayed_over options files received failures complete account.stop run
@@ -100,7 +101,7 @@ returns g c =
           c.answers_report_verdicts.ensures.known_verdicts nothing
           (subst (λ (ps : List Processed). Took out (explained_lines options ps (map answers_of received))) all
           (held_ok c.print_explained-report.result.printed _ lines parts.0));
-      quiet = report.quiet;
+      quiet = λ is. report.quiet (status ∙ is);
       failed = λ is.
           inr (record {
             explained = list;
@@ -125,14 +126,16 @@ returns g c =
                 (λ all.
                 let done =
                 report.done.1 (all.0, all.1, subst (λ (e : Ending). NothingFailed failures e) (sym ending) all.2) in
-                cc (done, is));
+                cc (done, status ∙ is));
           });
-      met = has_met options files lines_taken outcome.failures.items (is_complete outcome account) Seen reached.version account.stop
-          c.is_unwritten.result error both
+      met = met_as options files c.after.result.met account.stop reached.version error c.after.ensures.stop
+          c.after.ensures.version
+          (has_met options files lines_taken outcome.failures.items (is_complete outcome account) Seen reached.version account.stop
+          c.after.result.met.output_failed error both
           (stop_reported [] c.print_explained-report.result.reported error reported complete account.stop
           (subst (λ (e : Ending). OnOk c.print_explained-report.result.reported (Took error (failure_lines reported e))) ending report.failure_lines)
-          report.reported.0);
-      output_failed = λ is. report.write.0 (c.is_unwritten.ensures.write is);
-      ends = report.ends;
-      same = report.same;
+          report.reported.0));
+      output_failed = λ is. report.write.0 (c.after.ensures.output_failed is);
+      ends = λ is. report.ends (status ∙ is);
+      same = λ is. report.same (status ∙ is);
     }

@@ -10,7 +10,7 @@ use Rattle.replay_output.proofs.callers.Texts.{are_lines_by}
 use Rattle.replay_output.specs.Failures.{failure_lines, NothingFailed}
 use Rattle.replay_workers.specs.Run.{IsRun, is_complete}
 use Rattle.replay_tasks.specs.Replayed.{written, Took}
-use Rattle.replay_tasks.proofs.callers.Meeting.{has_met, met_nothing, not_failed, stop_reported}
+use Rattle.replay_tasks.proofs.callers.Meeting.{has_met, met_as, met_nothing, not_failed, stop_reported}
 use Rattle.replay_tasks.proofs.callers.Replaying.{ending_is, held_ok, are_lines, is_replayed, ran_and_failed}
 use Rattle.replay_tasks.proofs.replay.replay_over.Goals.{then-account, else-account}
 use Rattle.replay_tasks.proofs.replay.replay_over.Goals as goal
@@ -55,6 +55,7 @@ returns g c =
     let run = subst (λ (b : Bool). IsRun options files received failures b account.stop) (sym entire) of_both in
     let ending = ending_is complete account.stop c.new-ending.result c.new-ending.ensures.ending in
     let report = c.print_report-report.ensures in
+    let status = sym c.after.ensures.status in
     let reported = c.print_report-report.new.failures in
     let out = written (g.O.Sink.given c.args.out.now) (g.O.Sink.given c.print_report-report.new.out)
     (g.O.Sink.failures c.args.out.now) (g.O.Sink.failures c.print_report-report.new.out) in
@@ -65,12 +66,12 @@ returns g c =
     let lines = report.lines (line options.style) by in
     record {
       done = λ is.
-          let parts = report.done.0 is in
+          let parts = report.done.0 (status ∙ is) in
           is_replayed options files received failures complete account.stop run (λ answers. Took out (lines_of options.style answers))
           c.answers_report_verdicts.ensures.known_verdicts
           (subst (λ (e : Ending). NothingFailed failures e) ending parts.2)
           (held_ok c.print_report-report.result.printed _ lines parts.0);
-      quiet = report.quiet;
+      quiet = λ is. report.quiet (status ∙ is);
       failed = λ is.
           inr (ran_and_failed options files received failures complete account.stop run (lines_of options.style) TakesToSort out error reported
           c.print_report-report.result.printed c.print_report-report.result.reported lines
@@ -86,14 +87,16 @@ returns g c =
           (λ all.
           let done =
           report.done.1 (all.0, all.1, subst (λ (e : Ending). NothingFailed failures e) (sym ending) all.2) in
-          cc (done, is)));
-      met = has_met options files (map (vec_items {X = Line} {Z = Global}) outcome.lines.items) outcome.failures.items
-          (is_complete outcome account) (λ _. Unit {0}) c.run_observed-run.new.observer.version account.stop c.is_unwritten.result error
+          cc (done, status ∙ is)));
+      met = met_as options files c.after.result.met account.stop c.run_observed-run.new.observer.version error c.after.ensures.stop
+          c.after.ensures.version
+          (has_met options files (map (vec_items {X = Line} {Z = Global}) outcome.lines.items) outcome.failures.items
+          (is_complete outcome account) (λ _. Unit {0}) c.run_observed-run.new.observer.version account.stop c.after.result.met.output_failed error
           (c.in-Ok.ensures.observed (tt, c.new-reached.ensures.none))
           (stop_reported [] c.print_report-report.result.reported error reported complete account.stop
           (subst (λ (e : Ending). OnOk c.print_report-report.result.reported (Took error (failure_lines reported e))) ending report.failure_lines)
-          report.reported.0);
-      output_failed = λ is. report.write.0 (c.is_unwritten.ensures.write is);
-      ends = report.ends;
-      same = report.same;
+          report.reported.0));
+      output_failed = λ is. report.write.0 (c.after.ensures.output_failed is);
+      ends = λ is. report.ends (status ∙ is);
+      same = λ is. report.same (status ∙ is);
     }

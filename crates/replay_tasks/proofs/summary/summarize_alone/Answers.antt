@@ -13,7 +13,7 @@ use Rattle.replay_workers.specs.Occupied.{IsOccupancyOver}
 use Rattle.replay_workers.specs.Run.{IsMeasuredRun, is_complete}
 use Rattle.replay_tasks.specs.Replayed.{written, Took, TookPrefix, ending_of}
 use Rattle.replay_tasks.specs.Summarized.{TakesToSummarize, run_summary, with_ranges}
-use Rattle.replay_tasks.proofs.callers.Meeting.{has_met, met_nothing, not_failed, stop_reported}
+use Rattle.replay_tasks.proofs.callers.Meeting.{has_met, met_as, met_nothing, not_failed, stop_reported}
 use Rattle.replay_tasks.proofs.Ranges.{no_ranges}
 use Rattle.replay_tasks.proofs.Measuring.{measured_for_any, occupied_over}
 use Rattle.replay_tasks.proofs.callers.Replaying.{complete_from, ending_is, held_ok, are_lines, is_replayed_over, ran_as_and_failed}
@@ -68,6 +68,7 @@ returns g c =
     (run.no_stop (complete_from complete account.stop nothing.complete)) in
     let ending = ending_is complete account.stop c.new-ending.result c.new-ending.ensures.ending in
     let report = c.print_summary-report.ensures in
+    let status = sym c.after.ensures.status in
     let reported = c.print_summary-report.new.failures in
     let out = written (g.O.Sink.given c.args.out.now) (g.O.Sink.given c.print_summary-report.new.out)
     (g.O.Sink.failures c.args.out.now) (g.O.Sink.failures c.print_summary-report.new.out) in
@@ -83,13 +84,13 @@ returns g c =
     → TookPrefix out (text (map answers_of received))) alone (report.prefix options.style are) in
     record {
       done = λ is.
-          let parts = report.done.0 is in
+          let parts = report.done.0 (status ∙ is) in
           let nothing = subst (λ (e : Ending). NothingFailed failures e) ending parts.2 in
           is_replayed_over options files received failures complete account.stop run
           (λ log answers. (o : Occupancy) × IsOccupancyOver options.limit options.window log o × Took out (run_summary form (Some o) answers))
           c.answers_report_verdicts.ensures.known_verdicts nothing
           (occupancy, over nothing, held_ok c.print_summary-report.result.printed _ lines parts.0);
-      quiet = report.quiet;
+      quiet = λ is. report.quiet (status ∙ is);
       failed = λ is.
           inr (record {
             occupancy = occupancy;
@@ -108,15 +109,17 @@ returns g c =
                 (λ all.
                 let done =
                 report.done.1 (all.0, all.1, subst (λ (e : Ending). NothingFailed failures e) (sym ending) all.2) in
-                cc (done, is));
+                cc (done, status ∙ is));
           });
-      met = has_met options files (map (vec_items {X = Line} {Z = Global}) outcome.lines.items) outcome.failures.items
-          (is_complete outcome account) (λ _. Unit {0}) c.run_observed-run.new.observer.version account.stop c.is_unwritten.result error
+      met = met_as options files c.after.result.met account.stop c.run_observed-run.new.observer.version error c.after.ensures.stop
+          c.after.ensures.version
+          (has_met options files (map (vec_items {X = Line} {Z = Global}) outcome.lines.items) outcome.failures.items
+          (is_complete outcome account) (λ _. Unit {0}) c.run_observed-run.new.observer.version account.stop c.after.result.met.output_failed error
           (c.in-Ok.ensures.observed (tt, c.new-reached.ensures.none))
           (stop_reported [] c.print_summary-report.result.reported error reported complete account.stop
           (subst (λ (e : Ending). OnOk c.print_summary-report.result.reported (Took error (failure_lines reported e))) ending report.failure_lines)
-          report.reported.0);
-      output_failed = λ is. report.write.0 (c.is_unwritten.ensures.write is);
-      ends = report.ends;
-      same = report.same;
+          report.reported.0));
+      output_failed = λ is. report.write.0 (c.after.ensures.output_failed is);
+      ends = λ is. report.ends (status ∙ is);
+      same = λ is. report.same (status ∙ is);
     }

@@ -1,5 +1,5 @@
 use Rattle.std.proofs.Common.{◌≡◌, [], Bool, List, map, Some, None, refl, ap, sym, subst, inr, inl, ◌∙◌, arith, rules, w64, to_z, of_z, Vec, Global}
-use Rattle.std.specs.Prelude.{Err, ℕ, false, ◌-◌, ◌≤◌, length, OnOk, vec_items}
+use Rattle.std.specs.Prelude.{Err, ℕ, ◌-◌, ◌≤◌, length, OnOk, vec_items}
 use Rattle.std.proofs.lemmas.Int.{ints, to_z-of_z}
 use Rattle.std.proofs.lemmas.List.{length-map}
 use Rattle.std.proofs.lemmas.Option.{none-some}
@@ -23,7 +23,7 @@ use Rattle.replay_tasks.specs.Replayed.{written, Took, TookPrefix}
 use Rattle.replay_tasks.specs.Summarized.{TakesToSummarize, run_summary, summary_and_top, with_ranges}
 use Rattle.replay_tasks.proofs.Counting.{ran_and_lost, seen_chain}
 use Rattle.replay_tasks.proofs.Measuring.{measured_as, measured_by_other, occupied_over}
-use Rattle.replay_tasks.proofs.callers.Meeting.{has_met, met_nothing, not_failed, stop_reported}
+use Rattle.replay_tasks.proofs.callers.Meeting.{has_met, met_as, met_nothing, not_failed, stop_reported}
 use Rattle.replay_tasks.proofs.callers.Replaying.{complete_from, ending_is, held_ok, are_lines, is_replayed_over, ran_as_and_failed}
 use Rattle.replay_tasks.proofs.summary.summarize_with_top.Goals as goal
 
@@ -91,7 +91,7 @@ returns-in-Ok-text_of_top-clause-done g c = λ is.
     λ i answers. with_ranges form (run_summary form (Some occupancy) answers) ((c.deref.ensures.value ∙ of_top.is_text) i) in
     let lines = subst (λ (text : List (List Answer) → List ℕ). OnOk printed (Took out (text (map answers_of received)))) text_is
     (report.lines options.style are) in
-    let parts = report.done.0 is in
+    let parts = report.done.0 (sym c.after.ensures.status ∙ is) in
     let nothing = subst (λ (e : Ending). NothingFailed failures e) ending parts.2 in
     let no_stop = run.no_stop (complete_from complete account.stop nothing.complete) in
     let all = observed.seen.all no_stop in
@@ -182,7 +182,7 @@ returns-in-Ok-text_of_top-clause-failed g c = λ is.
           (λ all.
           let done =
           report.done.1 (all.0, all.1, subst (λ (e : Ending). NothingFailed failures e) (sym ending) all.2) in
-          cc (done, is));
+          cc (done, c.after.ensures.status, is));
     })
 
 pub returns-clause-failed : goal.returns-clause-failed
@@ -212,12 +212,12 @@ returns-clause-failed g c = λ is.
     let list = observed.seen.list in
     let ran = measured_as options files received failures complete occupancy account.stop Seen measured in
     let ending = ending_is complete account.stop c.new-ending.result c.new-ending.ensures.ending in
-    let report = c.report_last_loss.ensures in
-    let reported = c.report_last_loss.new.failures in
+    let report = c.report_last_loss-report.ensures in
+    let reported = c.report_last_loss-report.new.failures in
     let out = written (g.O.Sink.given c.args.out.now) (g.O.Sink.given c.args.out.now)
     (g.O.Sink.failures c.args.out.now) (g.O.Sink.failures c.args.out.now) in
-    let error = written (g.E.Sink.given c.args.error.now) (g.E.Sink.given c.report_last_loss.new.error)
-    (g.E.Sink.failures c.args.error.now) (g.E.Sink.failures c.report_last_loss.new.error) in
+    let error = written (g.E.Sink.given c.args.error.now) (g.E.Sink.given c.report_last_loss-report.new.error)
+    (g.E.Sink.failures c.args.error.now) (g.E.Sink.failures c.report_last_loss-report.new.error) in
     let some : 1 ≤ length failures = omega (
       arith,
       run.failures_count,
@@ -234,9 +234,9 @@ returns-clause-failed g c = λ is.
       nothing_without = λ none. refl;
       failed = ran_and_lost options files received failures complete account.stop run
           (IsMeasuredRun (λ seen. seen ≡ list) occupancy options files) ran (run_summary c.args.wanted.form (Some occupancy)) TakesToSummarize out error
-          last reported c.report_last_loss.result.reported (omega (arith, some))
+          last reported c.report_last_loss-report.result.reported (omega (arith, some))
           (inr (omega (arith, some, run.failures_count, run.received_count))) refl
-          (subst (λ (e : Ending). OnOk c.report_last_loss.result.reported (Took error (failure_lines reported e))) ending report.failure_lines)
+          (subst (λ (e : Ending). OnOk c.report_last_loss-report.result.reported (Took error (failure_lines reported e))) ending report.failure_lines)
           report.reported.0 (report.loss last (omega (arith, some)));
     })
 
@@ -251,16 +251,32 @@ returns-in-Ok-text_of_top-clause-met g c =
     let reached = c.run_observed-run.new.observer in
     let start : HasSeen c.new-reached.result.observer [] =
     subst (λ (h : HotRanges). HasSeen h []) (sym c.new-reached.ensures.observer) c.new-hot.ensures.none in
-    has_met c.args.options (map g.S.Source.remaining c.args.readers.items) (map (vec_items {X = Line} {Z = Global}) outcome.lines.items)
-    outcome.failures.items (is_complete outcome account) (HasSeen reached.observer) reached.version account.stop c.is_unwritten.result
+    met_as c.args.options (map g.S.Source.remaining c.args.readers.items) c.after.result.met account.stop reached.version error
+    c.after.ensures.stop c.after.ensures.version
+    (has_met c.args.options (map g.S.Source.remaining c.args.readers.items) (map (vec_items {X = Line} {Z = Global}) outcome.lines.items)
+    outcome.failures.items (is_complete outcome account) (HasSeen reached.observer) reached.version account.stop c.after.result.met.output_failed
     error (c.in-Ok.ensures.observed (start, c.new-reached.ensures.none))
     (stop_reported [] c.print_summary-report.result.reported error c.print_summary-report.new.failures complete account.stop
     (subst (λ (e : Ending). OnOk c.print_summary-report.result.reported (Took error (failure_lines c.print_summary-report.new.failures e))) ending
     c.print_summary-report.ensures.failure_lines)
-    c.print_summary-report.ensures.reported.0)
+    c.print_summary-report.ensures.reported.0))
 
 pub returns-in-Ok-text_of_top-clause-output_failed : goal.returns-in-Ok-text_of_top-clause-output_failed
-returns-in-Ok-text_of_top-clause-output_failed g c = λ is. c.print_summary-report.ensures.write.0 (c.is_unwritten.ensures.write is)
+returns-in-Ok-text_of_top-clause-output_failed g c = λ is. c.print_summary-report.ensures.write.0 (c.after.ensures.output_failed is)
+
+pub returns-clause-output_failed : goal.returns-clause-output_failed
+returns-clause-output_failed g c = λ is.
+    let failures = c.deref_mut-in-Err-text_of_top.result.now in
+    let some : 1 ≤ length failures = omega (
+      arith,
+      ap (λ (f : List ProxyFailure). length f) c.deref_mut-in-Err-text_of_top.ensures.value,
+      c.in-Ok.ensures.run.failures_count,
+      length-map c.args.readers.items g.S.Source.remaining,
+      c.requires.least_files,
+      c.args.readers.ok.0,
+    ) in
+    let printed = c.report_last_loss-report.ensures.printed (length failures - 1) (omega (arith, some)) in
+    cc (printed, c.after-in-Err-text_of_top.ensures.output_failed is)
 
 pub returns-clause-met : goal.returns-clause-met
 returns-clause-met g c =
@@ -268,15 +284,17 @@ returns-clause-met g c =
     let account = c.in-Ok.ended.1 in
     let complete = c.is_complete-complete.result in
     let ending = ending_is complete account.stop c.new-ending.result c.new-ending.ensures.ending in
-    let error = written (g.E.Sink.given c.args.error.now) (g.E.Sink.given c.report_last_loss.new.error)
-    (g.E.Sink.failures c.args.error.now) (g.E.Sink.failures c.report_last_loss.new.error) in
+    let error = written (g.E.Sink.given c.args.error.now) (g.E.Sink.given c.report_last_loss-report.new.error)
+    (g.E.Sink.failures c.args.error.now) (g.E.Sink.failures c.report_last_loss-report.new.error) in
     let reached = c.run_observed-run.new.observer in
     let start : HasSeen c.new-reached.result.observer [] =
     subst (λ (h : HotRanges). HasSeen h []) (sym c.new-reached.ensures.observer) c.new-hot.ensures.none in
-    has_met c.args.options (map g.S.Source.remaining c.args.readers.items) (map (vec_items {X = Line} {Z = Global}) outcome.lines.items)
-    outcome.failures.items (is_complete outcome account) (HasSeen reached.observer) reached.version account.stop false
+    met_as c.args.options (map g.S.Source.remaining c.args.readers.items) c.after-in-Err-text_of_top.result.met account.stop reached.version error
+    c.after-in-Err-text_of_top.ensures.stop c.after-in-Err-text_of_top.ensures.version
+    (has_met c.args.options (map g.S.Source.remaining c.args.readers.items) (map (vec_items {X = Line} {Z = Global}) outcome.lines.items)
+    outcome.failures.items (is_complete outcome account) (HasSeen reached.observer) reached.version account.stop c.after-in-Err-text_of_top.result.met.output_failed
     error (c.in-Ok.ensures.observed (start, c.new-reached.ensures.none))
-    (stop_reported [] c.report_last_loss.result.reported error c.report_last_loss.new.failures complete account.stop
-    (subst (λ (e : Ending). OnOk c.report_last_loss.result.reported (Took error (failure_lines c.report_last_loss.new.failures e))) ending
-    c.report_last_loss.ensures.failure_lines)
-    c.report_last_loss.ensures.reported.0)
+    (stop_reported [] c.report_last_loss-report.result.reported error c.report_last_loss-report.new.failures complete account.stop
+    (subst (λ (e : Ending). OnOk c.report_last_loss-report.result.reported (Took error (failure_lines c.report_last_loss-report.new.failures e))) ending
+    c.report_last_loss-report.ensures.failure_lines)
+    c.report_last_loss-report.ensures.reported.0))
