@@ -4,6 +4,7 @@ pub mod Working
 pub mod Firsts
 pub mod Watching
 pub mod Runs
+pub mod Settling
 pub mod Seen
 pub mod Keeping
 pub mod Occupying

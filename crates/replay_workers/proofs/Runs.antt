@@ -20,8 +20,7 @@ use Rattle.replay_workers.specs.declared.threads.Worked.{Worked}
 use Rattle.replay_workers.specs.declared.worker.Finished.{Finished}
 use Rattle.wire.specs.Batches.{EndsWith}
 use Rattle.replay_workers.specs.Worker.{HasWorkedOver}
-use Rattle.replay_workers.specs.Threads.{given_each, finished_of, streams_of, HasWorkedOn, failure_of}
-use Rattle.replay_workers.specs.Ended.{HasResultsOf}
+use Rattle.replay_workers.specs.Threads.{given_each, finished_of, streams_of, HasWorkedOn, HasResultsOf, failure_of}
 use Rattle.replay_workers.specs.Run.{EndsAt, IsServedOver, LeavesBatchOver, IsRunOver, is_complete}
 use Rattle.replay_workers.specs.Stops.{IsStopOf}
 use Rattle.replay_workers.proofs.callers.Lists.{all_at, found, both, mapped_at}

@@ -20,7 +20,6 @@ use Rattle.replay_workers.specs.declared.threads.Worked.{Worked}
 use Rattle.wire.specs.Batches.{EndsWith}
 use Rattle.replay_workers.specs.Worker.{HasWorkedOver, ClientContinues}
 use Rattle.replay_workers.specs.Threads.{Given, finished_of, given_each, given_to, HasWorkedOn, ReturnsBatch, IsOutcomeOf, failure_of}
-use Rattle.replay_workers.specs.Ended.{given_clients, returned_clients}
 use Rattle.replay_workers.specs.Run.{HasCapacity}
 use Rattle.replay_workers.proofs.callers.Lists.{at_also, at_last}
 
@@ -50,12 +49,14 @@ pub outcome_also : (finished : List Finished) (old new : RunOutcome) (f : Finish
     → (old.all_sent ≡ true → f.unsent ≡ None → new.all_sent ≡ true) → IsOutcomeOf (finished ++ f ∷ []) new
 outcome_also finished old new f of clients lines failures sent sends = record {
   clients = clients ∙ ap (λ l. l ++ f.client ∷ []) of.clients ∙ sym (map-append (λ (f : Finished). f.client) finished (f ∷ []));
-  lines = lines ∙ ap (λ l. l ++ f.lines ∷ []) of.lines ∙ sym (map-append (λ (f : Finished). f.lines) finished (f ∷ []));
-  failures = failures ∙ ap (λ l. l ++ failure_of f ∷ []) of.failures ∙ sym (map-append failure_of finished (f ∷ []));
-  all_sent = λ all.
-      let both = sent all in
-      All-push (λ (f : Finished). f.unsent ≡ None) finished f (of.all_sent both.0) both.1;
-  unsent = returns_batch_also finished f old.all_sent new.all_sent f.unsent refl of.unsent sends;
+  results = record {
+    lines = lines ∙ ap (λ l. l ++ f.lines ∷ []) of.results.lines ∙ sym (map-append (λ (f : Finished). f.lines) finished (f ∷ []));
+    failures = failures ∙ ap (λ l. l ++ failure_of f ∷ []) of.results.failures ∙ sym (map-append failure_of finished (f ∷ []));
+    all_sent = λ all.
+        let both = sent all in
+        All-push (λ (f : Finished). f.unsent ≡ None) finished f (of.results.all_sent both.0) both.1;
+    unsent = returns_batch_also finished f old.all_sent new.all_sent f.unsent refl of.results.unsent sends;
+  };
 }
 
 pub given_count : {B : Type 0} (style : Style) (share first : ℕ) (clients : List Client) (streams : List B)
@@ -65,14 +66,6 @@ given_count style share first (c ∷ clients) [] same = absurd (omega (arith, sa
 given_count style share first (c ∷ clients) (r ∷ streams) same =
     let rest = given_count style share (first + 1) clients streams (omega (arith, same)) in
     omega (arith, rest)
-
--- the clients that were given are those of the tasks
-pub clients_given : {B : Type 0} (style : Style) (share first : ℕ) (clients : List Client) (streams : List B)
-    → length streams ≡ length clients → given_clients (given_each style share first clients streams) ≡ clients
-clients_given style share first [] streams same = refl
-clients_given style share first (c ∷ clients) [] same = absurd (omega (arith, same))
-clients_given style share first (c ∷ clients) (r ∷ streams) same =
-    ap (λ (l : List Client). c ∷ l) (clients_given style share (first + 1) clients streams (omega (arith, same)))
 
 -- each task has a stream of which this is true
 pub given_all : {B : Type 0} (P : B → Type 0) (style : Style) (share first : ℕ) (clients : List Client) (streams : List B)
@@ -123,12 +116,16 @@ module _ {B : Type 0} (Gives : B → B → Batch → Type 0) (IsEnd : B → Type
       HasWorkedOver Gives IsEnd IsFault (λ left. EndsWith Stays left worked.batches) style proxy first given worked.finished
 
   -- each client is handed back as the one that was given
-  pub clients_back : (given : List (Given B)) (worked : List (Worked B)) → AllZip (HasWorkedOn Gives IsEnd IsFault Stays) given worked
-      → AllZip ClientContinues (given_clients given) (returned_clients worked)
-  clients_back [] [] all = tt
-  clients_back [] (f ∷ worked) all = absurd all
-  clients_back (one ∷ given) [] all = absurd all
-  clients_back (one ∷ given) (f ∷ worked) all = (all.0.client, clients_back given worked all.1)
+  pub clients_back : (style : Style) (share first : ℕ) (clients : List Client) (streams : List B) (worked : List (Worked B))
+      → length streams ≡ length clients
+      → AllZip (HasWorkedOn Gives IsEnd IsFault Stays) (given_each style share first clients streams) worked
+      → AllZip ClientContinues clients (map (λ (f : Finished). f.client) (finished_of worked))
+  clients_back style share first [] streams [] same all = tt
+  clients_back style share first [] streams (f ∷ worked) same all = absurd all
+  clients_back style share first (c ∷ clients) [] worked same all = absurd (omega (arith, same))
+  clients_back style share first (c ∷ clients) (r ∷ streams) [] same all = absurd all
+  clients_back style share first (c ∷ clients) (r ∷ streams) (f ∷ worked) same all =
+      (all.0.client, clients_back style share (first + 1) clients streams worked (omega (arith, same)) all.1)
 
   pub finished_count : (style : Style) (share first : ℕ) (clients : List Client) (streams : List B) (worked : List (Worked B))
       → length streams ≡ length clients

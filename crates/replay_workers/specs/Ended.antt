@@ -1,6 +1,6 @@
 -- How a run ends: what its workers returned, and what the account says of their clients. This project's own.
-use Rattle.std.specs.Prelude.{◌≡◌, ℕ, ℤ, true, false, List, [], map, None, IfSome}
-use Rattle.std.specs.List.{All, AllZip}
+use Rattle.std.specs.Prelude.{◌≡◌, ℕ, ℤ, true, List, [], map, None, IfSome}
+use Rattle.std.specs.List.{AllZip}
 use Rattle.keyspace.specs.declared.batch.Batch.{Batch}
 use Rattle.keyspace.specs.Processed.{Processed}
 use Rattle.keyspace.specs.Run.{Step}
@@ -15,26 +15,15 @@ use Rattle.replay_summary.specs.declared.occupancy.Occupancy.{Occupancy}
 use Rattle.replay_workers.specs.declared.outcome.RunOutcome.{RunOutcome}
 use Rattle.replay_workers.specs.declared.threads.Worked.{Worked}
 use Rattle.replay_workers.specs.declared.worker.Finished.{Finished}
-use Rattle.replay_workers.specs.Threads.{Given, HasWorkedOn, ReturnsBatch, failure_of, finished_of, streams_of}
+use Rattle.replay_workers.specs.Threads.{Given, HasResultsOf, HasWorkedOn, finished_of, streams_of}
 use Rattle.replay_workers.specs.Occupied.{IsOccupancyOf}
 use Rattle.replay_workers.specs.Stops.{IsAccountedFor, IsStopOf}
 
--- the clients that workers were given
-abbrev pub given_clients : {B : Type 0} → List (Given B) → List Client
-given_clients given = map (λ one. one.client) given
-
--- the clients that they returned
+-- the clients that these workers returned
 abbrev pub returned_clients : {B : Type 0} → List (Worked B) → List Client
 returned_clients each = map (λ (f : Finished). f.client) (finished_of each)
 
--- the outcome has the results of these workers, each at its index, whatever clients it has
-pub record HasResultsOf (finished : List Finished) (outcome : RunOutcome) : Type 0 where
-  pub lines : outcome.lines.items ≡ map (λ f. f.lines) finished
-  pub failures : outcome.failures.items ≡ map failure_of finished
-  pub all_sent : outcome.all_sent ≡ true → All (λ f. f.unsent ≡ None) finished
-  pub unsent : outcome.all_sent ≡ false → ReturnsBatch finished
-
--- All workers of these tasks were joined. The clients of the outcome are those that they returned.
+-- All workers of these tasks were joined. The outcome has their results and their clients, which may have looked at their lanes since.
 pub record HasJoined {B : Type 0} (Gives : B → B → Batch → Type 0) (IsEnd : B → Type 0) (IsFault : B → WireError → Type 0)
     (Stays : B → B → Type 0) (given : List (Given B)) (outcome : RunOutcome) (streams : List B) : Type 0 where
   pub workers : List (Worked B)

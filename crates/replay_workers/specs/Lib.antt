@@ -11,6 +11,5 @@ pub mod Watch
 pub mod Threads
 pub mod Stops
 pub mod Occupied
-pub mod Opened
 pub mod Ended
 pub mod Run

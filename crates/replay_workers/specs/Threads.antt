@@ -1,5 +1,5 @@
 -- The task of each worker, and what the workers return. This project's own.
-use Rattle.std.specs.Prelude.{◌≡◌, ℕ, ◌+◌, true, false, List, [], ◌∷◌, map, Option, None, Some, slice_get}
+use Rattle.std.specs.Prelude.{◌≡◌, ℕ, ◌+◌, true, false, List, [], ◌∷◌, map, None, Some, slice_get}
 use Rattle.std.specs.List.{All}
 use Rattle.keyspace.specs.declared.batch.Batch.{Batch}
 use Rattle.wire.specs.declared.error.WireError.{WireError}
@@ -83,10 +83,14 @@ pub record ReturnsBatch (finished : List Finished) : Type 0 where
   pub batch : Batch
   pub unsent : worker.unsent ≡ Some batch
 
--- the outcome is of what was handed back, each at its place
-pub record IsOutcomeOf (finished : List Finished) (outcome : RunOutcome) : Type 0 where
-  pub clients : outcome.clients.items ≡ map (λ f. f.client) finished
+-- the outcome has the results of these workers, each at its index, whatever clients it has
+pub record HasResultsOf (finished : List Finished) (outcome : RunOutcome) : Type 0 where
   pub lines : outcome.lines.items ≡ map (λ f. f.lines) finished
   pub failures : outcome.failures.items ≡ map failure_of finished
   pub all_sent : outcome.all_sent ≡ true → All (λ f. f.unsent ≡ None) finished
   pub unsent : outcome.all_sent ≡ false → ReturnsBatch finished
+
+-- the outcome is of what was handed back, each at its place
+pub record IsOutcomeOf (finished : List Finished) (outcome : RunOutcome) : Type 0 where
+  pub clients : outcome.clients.items ≡ map (λ f. f.client) finished
+  pub results : HasResultsOf finished outcome

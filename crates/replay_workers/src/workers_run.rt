@@ -1,33 +1,32 @@
 //! A run: the workers read, send and take, while this thread turns the resolver.
 
 ghost use Rattle.std.specs.Prelude.{◌≡◌, ℕ, ◌≤◌, true, length, map, vec_items, vec_len, Some};
-ghost use Rattle.std.specs.Prelude.{[], None, slice_get, IfOk, vec_capacity};
+ghost use Rattle.std.specs.Prelude.{[], None, slice_get, IfOk};
 ghost use Rattle.std.specs.List.{All};
 ghost use Rattle.replay_workers.specs.NextAdmitted.{AllWait, IsNext};
 ghost use Rattle.limits.specs.declared.settings.TheConstants.{MAX_PROXIES};
 ghost use Rattle.resolver.specs.Core.{Continues};
 ghost use Rattle.resolver.specs.Lanes.{Lanes, Each, LanesContinue};
 ghost use Rattle.resolver.specs.Resolver.{AreClients, IsResolving, IsThrough, StandsOver};
+ghost use Rattle.resolver.specs.Share.{share_of};
 ghost use Rattle.resolver.specs.Turns.{Turns};
-ghost use Rattle.replay_workers.specs.Ended.{HasJoined, IsAccountFrom, given_clients};
-ghost use Rattle.replay_workers.specs.Ended.{returned_clients};
-ghost use Rattle.replay_workers.specs.Opened.{IsOpened};
+ghost use Rattle.replay_workers.specs.Ended.{HasJoined, IsAccountFrom, returned_clients};
 ghost use Rattle.replay_workers.specs.Occupied.{IsMeasured};
 ghost use Rattle.replay_workers.specs.Run.{EndsAt, HasCapacity, is_complete};
 ghost use Rattle.replay_workers.specs.Run.{IsMeasuredRun, IsMeasuredRunOver, IsObservedRun};
 ghost use Rattle.replay_workers.specs.Run.{IsObservedRunOver, IsRun, IsRunOver};
 ghost use Rattle.replay_workers.specs.Stops.{IsAccountedFor};
-ghost use Rattle.replay_workers.specs.Threads.{IsOutcomeOf, given_to};
+ghost use Rattle.replay_workers.specs.Threads.{given_each};
 
 use crate::gatekeeper::{Gatekeeper, ShareKeeper};
-use crate::opening::open_resolver;
+use crate::opening::{make_room, open_resolver};
 use crate::outcome::RunOutcome;
 use crate::reporting_batches::asking_each;
-use crate::threads::{StartedWorkers, join_all, start_workers};
+use crate::threads::{join_all, start_workers};
 use crate::watch::Watch;
 use limits::Stop;
 use observer::{Observer, Unobserved};
-use replay_output::{Options, Reports, StartError};
+use replay_output::{Options, Reports, StartError, Style};
 use replay_summary::Occupancy;
 use resolver::{Account, Client, Resolver, Turn};
 use std::alloc::Global;
@@ -154,77 +153,56 @@ pub fn run_over<
         (λ ended. All (HasCapacity options.capacity) ended.0.clients.items) }
     ensures setting { O.setting observer.new ≡ O.setting observer.old }
 {
-    let (opened, clients) = open_run(alloc, streams.len(), options)?;
-    let workers = start_workers(rt, alloc, options.style, streams, clients, gatekeeper)?;
-    Ok(turn_and_join(rt, opened, &**gatekeeper, observer, workers))
-}
-
-// What a run holds beside its workers.
-#[derive(Drop)]
-struct OpenedRun<B> {
-    resolver: Resolver,
-    watch: Watch,
-    outcome: RunOutcome,
-    streams: Vec<B>,
-}
-
-// Opens a resolver, and takes the memory for what the workers return.
-fn open_run<B: Drop>(
-    alloc: Global,
-    proxies: usize,
-    options: Options,
-) -> Result<(OpenedRun<B>, Vec<Client>), StartError>
-    requires least { 1 ≤ proxies }
-    requires most { proxies ≤ MAX_PROXIES }
-    ensures opened { IfOk result (λ opened. IsOpened proxies options opened.0 opened.1.items) }
-{
-    let outcome = RunOutcome::with_room(alloc, proxies)?;
-    let streams = Vec::with_capacity(alloc, proxies)?;
-    let watch = Watch::new(alloc, proxies)?;
-    let (resolver, clients) = open_resolver(alloc, proxies, options)?;
-    let opened = OpenedRun {
-        resolver,
-        watch,
-        outcome,
+    let (mut resolver, clients) = open_resolver(alloc, streams.len(), options)?;
+    run_workers(
+        rt,
+        alloc,
+        options.style,
         streams,
-    };
-    Ok((opened, clients))
+        clients,
+        &mut resolver,
+        gatekeeper,
+        observer,
+    )
 }
 
-// Turns the resolver to its end, joins the workers and settles their clients. Takes no memory but
-// in turns and in the observer.
-fn turn_and_join<B: Batches + Drop, G: ShareKeeper, R: Threads + Wait, O: Observer>(
+// Starts a worker for each of these clients and its stream, turns the resolver to its end, joins
+// the workers and settles their clients. The memory for what they return is taken before the first
+// one is started.
+fn run_workers<
+    B: Batches + Send + Drop + 'static,
+    G: Gatekeeper + ShareKeeper + Send + Sync + Drop + 'static,
+    R: Threads + Wait + Copy + Send + 'static,
+    O: Observer,
+>(
     rt: &R,
-    opened: OpenedRun<B>,
-    gatekeeper: &G,
+    alloc: Global,
+    style: Style,
+    streams: Vec<B>,
+    clients: Vec<Client>,
+    resolver: &mut Resolver,
+    gatekeeper: &Arc<G, Global>,
     observer: &mut O,
-    workers: Vec<StartedWorkers<B>>,
-) -> (RunOutcome, Vec<B>, Account)
-    requires clients { AreClients opened.resolver.lanes
-        (given_clients (map given_to workers.items)) }
-    requires empty { IsOutcomeOf [] opened.outcome }
-    requires none { opened.streams.items ≡ [] }
-    requires room { vec_len workers ≤ vec_capacity opened.outcome.clients }
-    requires streams_room { vec_len workers ≤ vec_capacity opened.streams }
-    ensures ended { (joined : HasJoined B.gives B.is_at_end B.is_at_fault B.stays
-        (map given_to workers.items) result.0 result.1.items)
-        × IsAccountFrom opened.resolver (O.has_seen observer.old []) (O.has_seen observer.new)
-        result.0.occupancy (returned_clients joined.workers) result.2 }
+) -> Result<(RunOutcome, Vec<B>, Account), StartError>
+    requires some { 1 ≤ vec_len streams }
+    requires each { vec_len streams ≡ vec_len clients }
+    requires fresh { All (λ batches. B.refusal batches ≡ None) streams.items }
+    requires clients { AreClients resolver.old.lanes clients.items }
+    ensures ended { IfOk result (λ ended.
+        (joined : HasJoined B.gives B.is_at_end B.is_at_fault B.stays
+        (given_each style (share_of (vec_len streams)) 0 clients.items streams.items)
+        ended.0 ended.1.items)
+        × IsAccountFrom resolver.old (O.has_seen observer.old []) (O.has_seen observer.new)
+        ended.0.occupancy (returned_clients joined.workers) ended.2) }
     ensures setting { O.setting observer.new ≡ O.setting observer.old }
 {
-    let OpenedRun {
-        resolver,
-        watch,
-        outcome,
-        streams,
-    } = opened;
-    let mut resolver = resolver;
-    let mut watch = watch;
-    let occupancy = turn_to_end(rt, &mut resolver, gatekeeper, &mut watch, observer);
-    let (mut outcome, streams) = join_all(rt, workers, outcome, streams);
+    let (outcome, ended, mut watch) = make_room(alloc, streams.len())?;
+    let workers = start_workers(rt, alloc, style, streams, clients, gatekeeper)?;
+    let occupancy = turn_to_end(rt, resolver, &**gatekeeper, &mut watch, observer);
+    let (mut outcome, ended) = join_all(rt, workers, outcome, ended);
     outcome.occupancy = occupancy;
     let account = resolver.settle(outcome.clients.as_mut_slice());
-    (outcome, streams, account)
+    Ok((outcome, ended, account))
 }
 
 // Turns the resolver until it is done; after a stop, until a turn leaves nothing owed. If all

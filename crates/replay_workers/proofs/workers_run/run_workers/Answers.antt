@@ -1,38 +1,65 @@
-use Rattle.std.proofs.Common.{◌≡◌, ℕ, List, ap, sym, subst, ◌∙◌, ℤ, length}
-use Rattle.std.specs.Prelude.{negsuc, map, Option, IfSome, slice_get}
+use Rattle.std.proofs.Common.{◌≡◌, ℕ, List, ap, sym, subst, ◌∙◌, ℤ, arith, length}
+use Rattle.std.specs.Prelude.{negsuc, Option, IfSome, slice_get, vec_len}
+use Rattle.std.specs.List.{AllZip}
 use Rattle.resolver.specs.declared.client.Client.{Client}
 use Rattle.limits.specs.declared.stop.Stop.{Stop}
 use Rattle.keyspace.specs.Run.{Step}
 use Rattle.resolver.specs.Observed.{HasSeen}
 use Rattle.resolver.specs.Resolver.{AreClients, SameClients, StandsOver}
 use Rattle.resolver.specs.Settled.{Settled}
+use Rattle.resolver.specs.Share.{share_of}
 use Rattle.resolver.proofs.callers.Lists.{written_back}
 use Rattle.replay_workers.specs.Ended.{returned_clients}
 use Rattle.replay_workers.specs.Occupied.{IsOccupancyOf}
 use Rattle.replay_workers.specs.Stops.{IsStopOf}
-use Rattle.replay_workers.specs.Threads.{given_to}
+use Rattle.replay_workers.specs.Threads.{HasWorkedOn, given_each}
 use Rattle.replay_workers.proofs.callers.SameLanes.{clients_continue}
-use Rattle.replay_workers.proofs.Working.{clients_back, clients_ended}
-use Rattle.replay_workers.proofs.workers_run.turn_and_join.Goals as goal
+use Rattle.replay_workers.proofs.Working.{clients_back, clients_ended, started_count}
+use Rattle.replay_workers.proofs.workers_run.run_workers.Goals as goal
+
+pub join_all-outcome-requires-clause-room : goal.join_all-outcome-requires-clause-room
+join_all-outcome-requires-clause-room g c =
+    let streams = c.args.streams.items in
+    let clients = c.args.clients.items in
+    let same : length streams ≡ length clients = omega (arith, c.requires.each, c.args.streams.ok.0, c.args.clients.ok.0) in
+    let count = started_count c.args.style (share_of (vec_len c.args.streams)) clients streams c.in_ok-workers.workers.items same
+    c.in_ok-workers.ensures.given in
+    omega (arith, count, c.in_ok-outcome.ensures.room, c.len.ensures)
+
+pub join_all-outcome-requires-clause-streams_room : goal.join_all-outcome-requires-clause-streams_room
+join_all-outcome-requires-clause-streams_room g c =
+    let streams = c.args.streams.items in
+    let clients = c.args.clients.items in
+    let same : length streams ≡ length clients = omega (arith, c.requires.each, c.args.streams.ok.0, c.args.clients.ok.0) in
+    let count = started_count c.args.style (share_of (vec_len c.args.streams)) clients streams c.in_ok-workers.workers.items same
+    c.in_ok-workers.ensures.given in
+    omega (arith, count, c.in_ok-outcome.ensures.streams_room, c.len.ensures)
 
 pub settle-account-requires : goal.settle-account-requires
 settle-account-requires g c =
+    let streams = c.args.streams.items in
+    let clients = c.args.clients.items in
+    let same : length streams ≡ length clients = omega (arith, c.requires.each, c.args.streams.ok.0, c.args.clients.ok.0) in
     let lanes = c.turn_to_end-occupancy.new.resolver.lanes in
     let worked = c.join_all-outcome.ensures.worked in
-    let given = map given_to c.args.workers.items in
+    let all_returned = subst (λ given. AllZip (HasWorkedOn g.B.Batches.gives g.B.Batches.is_at_end g.B.Batches.is_at_fault g.B.Batches.stays) given worked.0)
+    c.in_ok-workers.ensures.given worked.1 in
     record {
       clients = subst (λ (clients : List Client). AreClients lanes clients)
           (sym (c.as_mut_slice.ensures.value ∙ worked.2.clients))
-          (clients_continue c.args.opened.resolver.lanes lanes _ (returned_clients worked.0) c.requires.clients
+          (clients_continue c.args.resolver.now.lanes lanes clients (returned_clients worked.0) c.requires.clients
           c.turn_to_end-occupancy.ensures.lanes
-          (clients_back g.B.Batches.gives g.B.Batches.is_at_end g.B.Batches.is_at_fault g.B.Batches.stays given worked.0 worked.1));
+          (clients_back g.B.Batches.gives g.B.Batches.is_at_end g.B.Batches.is_at_fault g.B.Batches.stays c.args.style
+          (share_of (vec_len c.args.streams)) 0 clients streams worked.0 same all_returned));
     }
 
 pub returns-clause-ended : goal.returns-clause-ended
 returns-clause-ended g c =
     let worked = c.join_all-outcome.ensures.worked in
-    let given = map given_to c.args.workers.items in
-    let first = c.args.opened.resolver in
+    let given = given_each c.args.style (share_of (vec_len c.args.streams)) 0 c.args.clients.items c.args.streams.items in
+    let all_returned = subst (λ given. AllZip (HasWorkedOn g.B.Batches.gives g.B.Batches.is_at_end g.B.Batches.is_at_fault g.B.Batches.stays) given worked.0)
+    c.in_ok-workers.ensures.given worked.1 in
+    let first = c.args.resolver.now in
     let resolver = c.turn_to_end-occupancy.new.resolver in
     let account = c.settle-account.result in
     let back = returned_clients worked.0 in
@@ -45,7 +72,7 @@ returns-clause-ended g c =
     let now = c.settle-account.new.clients in
     let same_clients = subst (λ (l : List Client). SameClients l now) returned c.settle-account.ensures.clients in
     let all_ended = clients_ended g.B.Batches.gives g.B.Batches.is_at_end g.B.Batches.is_at_fault g.B.Batches.stays
-    given worked.0 worked.1 in
+    given worked.0 all_returned in
     let settled : (log : List Step) → StandsOver resolver log → Settled window log resolver.lanes back account =
     λ log stands. subst (λ (back : List Client). Settled window log resolver.lanes back account) returned
     (subst (λ (window : ℤ). Settled window log resolver.lanes c.as_mut_slice.result.now account) window_is
@@ -61,12 +88,12 @@ returns-clause-ended g c =
     (
       record {
         workers = worked.0;
-        worked = worked.1;
+        worked = all_returned;
         results = record {
-          lines = worked.2.lines;
-          failures = worked.2.failures;
-          all_sent = worked.2.all_sent;
-          unsent = worked.2.unsent;
+          lines = worked.2.results.lines;
+          failures = worked.2.results.failures;
+          all_sent = worked.2.results.all_sent;
+          unsent = worked.2.results.unsent;
         };
         clients = subst (SameClients back)
             (sym (written_back outcome.clients.len now outcome.clients.items
@@ -104,6 +131,3 @@ returns-clause-ended g c =
             };
       },
     )
-
-pub returns-clause-setting : goal.returns-clause-setting
-returns-clause-setting g c = c.turn_to_end-occupancy.ensures.setting
