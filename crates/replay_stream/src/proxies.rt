@@ -103,14 +103,14 @@ fn connect<S: Drop, W: Drop, G: Drop>(
     let Client { requests, replies } = client;
     let mut outlet = Outlet::new(alloc, assignment.proxy, replies)?;
     let recorder = add_recorder(alloc, options, &mut outlet, out)?;
-    let sender = SenderTask {
+    let sender = SenderTask::new(
         assignment,
         requests,
         reader,
-        reports: options.reports,
-        gatekeeper: Arc::try_clone(gatekeeper)?,
-        progress: Arc::try_clone(&outlet.progress)?,
-    };
+        options.reports,
+        gatekeeper,
+        &outlet.progress,
+    )?;
     Ok(ProxyTask {
         outlet,
         sender,
@@ -181,15 +181,34 @@ fn start<
         sender,
         recorder,
     } = task;
-    let recorder = match recorder {
-        None => None,
-        Some(recorder) => Some(start_recorder(rt, alloc, recorder)?),
-    };
+    let recorder = start_recorder_if_any(rt, alloc, recorder)?;
+    let sender = start_sender(rt, alloc, sender)?;
     Ok(Proxy {
         outlet,
-        sender: start_sender(rt, alloc, sender)?,
+        sender,
         recorder,
     })
+}
+
+// Starts the recorder of a proxy, if it has one.
+fn start_recorder_if_any<
+    W: Sink + Send + Drop + 'static,
+    R: Threads + Wait + Copy + Send + 'static,
+>(
+    rt: &R,
+    alloc: Global,
+    task: Option<RecorderTask<W>>,
+) -> Result<Option<StartedRecorder<W>>, StartError>
+    ensures answers { IfOk result (λ recorder.
+        option_map (λ r. r.handle.promise.answers.value) recorder
+        ≡ option_map (λ r. r.answers) task) }
+    ensures out { IfOk result (λ recorder. option_map (λ r. r.handle.promise.out.value) recorder
+        ≡ option_map (λ r. r.out) task) }
+{
+    match task {
+        None => Ok(None),
+        Some(task) => Ok(Some(start_recorder(rt, alloc, task)?)),
+    }
 }
 
 /// Joins all threads, and puts their results and the outlets into the outcome, in order. Takes no
