@@ -181,8 +181,7 @@ fn start<
         sender,
         recorder,
     } = task;
-    let recorder = start_recorder_if_any(rt, alloc, recorder)?;
-    let sender = start_sender(rt, alloc, sender)?;
+    let (sender, recorder) = start_threads(rt, alloc, sender, recorder)?;
     Ok(Proxy {
         outlet,
         sender,
@@ -190,25 +189,36 @@ fn start<
     })
 }
 
-// Starts the recorder of a proxy, if it has one.
-fn start_recorder_if_any<
+// Starts a sender, and a recorder if there is one.
+fn start_threads<
+    S: Source + Send + Drop + 'static,
     W: Sink + Send + Drop + 'static,
+    G: Gatekeeper + ShareKeeper + Send + Sync + Drop + 'static,
     R: Threads + Wait + Copy + Send + 'static,
 >(
     rt: &R,
     alloc: Global,
-    task: Option<RecorderTask<W>>,
-) -> Result<Option<StartedRecorder<W>>, StartError>
-    ensures answers { IfOk result (λ recorder.
-        option_map (λ r. r.handle.promise.answers.value) recorder
-        ≡ option_map (λ r. r.answers) task) }
-    ensures out { IfOk result (λ recorder. option_map (λ r. r.handle.promise.out.value) recorder
-        ≡ option_map (λ r. r.out) task) }
+    sender: SenderTask<S, G>,
+    recorder: Option<RecorderTask<W>>,
+) -> Result<(StartedSender<S>, Option<StartedRecorder<W>>), StartError>
+    ensures requests { IfOk result (λ started. started.0.handle.promise.requests.value
+        ≡ sender.requests) }
+    ensures reader { IfOk result (λ started. started.0.handle.promise.reader.value
+        ≡ sender.reader) }
+    ensures reports { IfOk result (λ started. started.0.handle.promise.reports
+        ≡ sender.reports) }
+    ensures answers { IfOk result (λ started.
+        option_map (λ r. r.handle.promise.answers.value) started.1
+        ≡ option_map (λ r. r.answers) recorder) }
+    ensures out { IfOk result (λ started. option_map (λ r. r.handle.promise.out.value) started.1
+        ≡ option_map (λ r. r.out) recorder) }
 {
-    match task {
-        None => Ok(None),
-        Some(task) => Ok(Some(start_recorder(rt, alloc, task)?)),
-    }
+    let recorder = match recorder {
+        None => None,
+        Some(recorder) => Some(start_recorder(rt, alloc, recorder)?),
+    };
+    let sender = start_sender(rt, alloc, sender)?;
+    Ok((sender, recorder))
 }
 
 /// Joins all threads, and puts their results and the outlets into the outcome, in order. Takes no

@@ -4,7 +4,7 @@ use Rattle.resolver.specs.Opens.{Opens}
 use Rattle.replay_stream.proofs.stream_run.run_stream.Goals as goal
 
 pub stream_through-requires-clause-opens : goal.stream_through-requires-clause-opens
-stream_through-requires-clause-opens g c =
+stream_through-requires-clause-opens g c κs within =
     let options = c.args.options in
     let count : c.len.result ≡ vec_len c.args.readers = omega (arith, c.len.ensures) in
     subst (λ (n : ℕ). Opens (negsuc 0) n options.capacity options.window options.limit c.in_ok-resolver.resolver c.in_ok-resolver.clients.items)
