@@ -1,42 +1,95 @@
--- The proxies of a stream that has ended, each at its index.
-use Rattle.std.specs.Prelude.{◌≡◌, ℕ, ◌+◌, Bool, false, List, [], ◌∷◌, length, map, Option, Some, slice_get, drop}
-use Rattle.std.specs.List.{AllZip, All}
-use Rattle.std.proofs.Common.{refl, sym, ap, subst, ◌∙◌, arith}
+-- The end of a stream: its resolver later, and its proxies, each at its index.
+use Rattle.std.specs.Prelude.{◌≡◌, ℕ, negsuc, Bool, false, List, [], ◌∷◌, length, map, Some, slice_get, drop, Result, Ok, Err, IfErr, is_some}
+use Rattle.std.specs.List.{All}
+use Rattle.std.proofs.Common.{refl, sym, ap, subst, ◌∙◌, arith, inl, inr}
 use Rattle.std.proofs.lemmas.List.{length-map}
-use Rattle.std.proofs.lemmas.Slice.Zip.{AllZip-long}
 use Rattle.std.proofs.lemmas.Option.{same_Some}
-use Rattle.keys.proofs.callers.Lists.{AllZip-get, element_of_map}
 use Rattle.keyspace.specs.declared.answer.Answer.{Answer}
-use Rattle.lane.specs.Lane.{HasEnded, IntakeContinues, IntakeView}
-use Rattle.resolver.specs.declared.client.Client.{Client}
+use Rattle.limits.specs.declared.stop.Stop.{Stop}
+use Rattle.resolver.specs.declared.turn.Turn.{Turn}
+use Rattle.resolver.specs.declared.turn.Turn.TheVariants as turn
+use Rattle.resolver.specs.Owed.{owed_count}
+use Rattle.resolver.specs.Resolver.{ResolverState, IsThrough}
+use Rattle.resolver.specs.Turns.{Turns}
+use Rattle.resolver.proofs.callers.Later.{Continues-then, lanes_same}
 use Rattle.replay_output.specs.declared.options.style.Style.{Style}
-use Rattle.replay_output.specs.declared.options.reports.Reports.{Reports}
 use Rattle.replay_output.specs.Streamed.{printed_for}
 use Rattle.replay_stream.specs.declared.outlet.Outlet.{Outlet}
 use Rattle.replay_stream.specs.declared.proxies.Proxy.{Proxy}
 use Rattle.replay_stream.specs.declared.proxies.ProxyTask.{ProxyTask}
-use Rattle.replay_stream.specs.Ending.{clients_of}
-use Rattle.replay_stream.specs.Outlet.{HasPassedAll, HavePassedAll, OutletContinues, StreamContinues, is_complete}
-use Rattle.replay_stream.specs.Proxies.{
-  AreEnds,
-  GivenProxy,
-  GivenThreads,
-  HasJoined,
-  IsJoined,
-  IsNewOutlet,
-  Joined,
-  client_of,
-  given_proxies,
-  given_with,
-  outlets_of,
-  threads_by,
-  threads_of,
-}
+use Rattle.replay_stream.specs.Ending.{ResolverContinues, RunsThrough}
+use Rattle.replay_stream.specs.Outlet.{HasPassedAll, HavePassedAll, OutletContinues, StreamContinues, StreamsOn, is_complete}
+use Rattle.replay_stream.specs.Proxies.{AreEnds, GivenThreads, IsNewOutlet, outlets_of, threads_by, threads_of}
 use Rattle.replay_stream.specs.Sinks.{SinkState}
-use Rattle.replay_workers.specs.Worker.{ClientContinues}
 use Rattle.replay_workers.proofs.callers.Lists.{all_at, found, mapped_at}
-use Rattle.replay_stream.proofs.Places.{all_of, zip_of}
+use Rattle.replay_workers.proofs.callers.SameLanes.{lanes_continue}
+use Rattle.replay_workers.proofs.callers.Stopping.{accounted_turn}
+use Rattle.replay_stream.proofs.Outlets.{stream_same}
+use Rattle.replay_stream.proofs.Places.{all_of}
 use Rattle.replay_stream.proofs.Streams.{ends_new, ends_stay}
+
+-- a resolver continues as itself, by a turn, and by one step after another
+pub resolver_same : (r : ResolverState) → ResolverContinues r r
+resolver_same r = record {
+  accounted = λ first. first;
+  resolving = λ first. first;
+  core = record { window = refl; limit = refl; proxies = refl };
+  lanes = lanes_same r.lanes;
+}
+
+pub resolver_turned : (old new : ResolverState) (result : Result Turn Stop) → Turns result old new → ResolverContinues old new
+resolver_turned old new result turns = record {
+  accounted = λ first. accounted_turn old new result turns first;
+  resolving = λ first. turns.resolving (negsuc 0) first;
+  core = turns.steps.continues;
+  lanes = turns.steps.lanes;
+}
+
+pub resolver_then : (first second third : ResolverState) → ResolverContinues first second → ResolverContinues second third
+    → ResolverContinues first third
+resolver_then first second third g h = record {
+  accounted = λ before. h.accounted (g.accounted before);
+  resolving = λ before. h.resolving (g.resolving before);
+  core = Continues-then first.core second.core third.core g.core h.core;
+  lanes = lanes_continue first.lanes second.lanes third.lanes g.lanes h.lanes;
+}
+
+runs_through : (old new : ResolverState) (result : Result Turn Stop) → Turns result old new → IsThrough new → RunsThrough old new
+runs_through old new result turns through = record {
+  continues = resolver_turned old new result turns;
+  through = through;
+  closed = λ proxy l at. (turns.closed proxy l at).1 through;
+}
+
+-- this turn leaves nothing to do
+pub runs_done : (old new : ResolverState) (result : Result Turn Stop) → Turns result old new → result ≡ Ok turn.Done → RunsThrough old new
+runs_done old new result turns is =
+    let done = turns.done.0 is in
+    runs_through old new result turns (record { nothing_owed = done.2; no_more = inl done.1 })
+
+pub runs_stopped : (old new : ResolverState) (result : Result Turn Stop) (stop : Stop) → Turns result old new → result ≡ Err stop
+    → owed_count new.core.owed ≡ 0 → RunsThrough old new
+runs_stopped old new result stop turns is none =
+    let met = subst (λ (r : Result Turn Stop). IfErr r (λ (s : Stop). new.core.stop ≡ Some s)) is turns.steps.stop in
+    runs_through old new result turns (record { nothing_owed = none; no_more = inr (ap is_some met) })
+
+pub runs_then : (first second third : ResolverState) → ResolverContinues first second → RunsThrough second third
+    → RunsThrough first third
+runs_then first second third goes runs = record {
+  continues = resolver_then first second third goes runs.continues;
+  through = runs.through;
+  closed = runs.closed;
+}
+
+-- a stream that begins with a new printer
+pub stream_begun : (style : Style) (has_failed : Bool) (before after : SinkState) (started ended : List Outlet) (printer : Style)
+    (failed : Bool) (first : List Outlet) → printer ≡ style → failed ≡ false → first ≡ started
+    → StreamsOn printer failed has_failed before after first ended → StreamContinues style false has_failed before after started ended
+stream_begun style has_failed before after started ended printer failed first styled new same goes =
+    subst (λ (l : List Outlet). StreamContinues style false has_failed before after l ended) same
+    (subst (λ (f : Bool). StreamContinues style f has_failed before after first ended) new
+    (subst (λ (s : Style). StreamContinues s failed has_failed before after first ended) styled
+    (goes failed before first (stream_same printer failed before first))))
 
 module _ {S W : Type 0} (style : Style) (has_failed : Bool) (before after : SinkState) (started ended : List (Proxy S W))
     (threads : map threads_of ended ≡ map threads_of started)
@@ -83,59 +136,6 @@ module _ {S W : Type 0} (style : Style) (has_failed : Bool) (before after : Sink
       (all_at (λ (p : Proxy S W). AreEnds p.outlet.records (threads_of p).answers) started place ran.begun ends ran.at_begun)
       ran.continues.passed))
 
-  module _ (remaining : S → Option (List ℕ)) (state_of : W → SinkState) (joined : List (Joined W))
-      (worked : AllZip (IsJoined remaining state_of) ended joined) where
-    pub joined_count : length joined ≡ length started
-    joined_count = AllZip-long (IsJoined remaining state_of) ended joined worked ∙ ended_count
-
-    -- all that is known of one proxy
-    record Known (proxy : ℕ) (j : Joined W) : Type 0 where
-      running : Proxy S W
-      ran : Ended proxy running
-      has : HasJoined remaining state_of running.outlet (threads_of ran.begun) j
-
-    known_at : (proxy : ℕ) (j : Joined W) → slice_get joined proxy ≡ Some j → Known proxy j
-    known_at proxy j at =
-        let p = found joined ended proxy j (ended_count ∙ sym joined_count) at in
-        let ran = ended_at proxy p.0 p.1 in
-        record {
-          running = p.0;
-          ran = ran;
-          has =
-              subst (λ (given : GivenThreads S W). HasJoined remaining state_of p.0.outlet given j) ran.same_threads
-              (AllZip-get (IsJoined remaining state_of) ended joined proxy p.0 j worked p.1 at);
-        }
-
-    -- the clients are those that were given
-    pub clients_joined : AllZip ClientContinues (clients_of started) (map client_of joined)
-    clients_joined =
-        zip_of ClientContinues (clients_of started) (map client_of joined)
-        (length-map joined client_of ∙ joined_count ∙ sym (length-map started (λ (p : Proxy S W). (given_with p.outlet (threads_of p)).client)))
-        (λ proxy c d at there.
-        let j = element_of_map client_of joined proxy d there in
-        let known = known_at proxy j.0 j.1 in
-        let begun = known.ran.begun in
-        let client = (given_with begun.outlet (threads_of begun)).client in
-        let is : client ≡ c =
-        same_Some client c (sym (mapped_at (λ (p : Proxy S W). (given_with p.outlet (threads_of p)).client) started proxy begun known.ran.at_begun) ∙ at) in
-        let replies = ap (λ (o : Outlet). o.replies) known.has.outlet_is in
-        subst (λ (c : Client). ClientContinues c d) is
-        (subst (λ (d : Client). ClientContinues client d) j.2
-        (record {
-          requests = known.has.sent.requests;
-          replies =
-              subst (λ (i : IntakeView Answer). IntakeContinues begun.outlet.replies i) (sym replies) known.ran.continues.replies;
-        })))
-
-    -- and each has taken its answers to their end
-    pub clients_ended : (proxy : ℕ) (c : Client) → slice_get (map client_of joined) proxy ≡ Some c → HasEnded c.replies
-    clients_ended proxy c at =
-        let j = element_of_map client_of joined proxy c at in
-        let known = known_at proxy j.0 j.1 in
-        subst (λ (c : Client). HasEnded c.replies) j.2
-        (subst (λ (i : IntakeView Answer). HasEnded i) (sym (ap (λ (o : Outlet). o.replies) known.has.outlet_is))
-        known.ran.has_passed.ended)
-
 -- what was started has what its tasks had
 module _ {S W G : Type 0} where
   pub started_same : {X : Type 0} (f : Outlet → GivenThreads S W → X) (started : List (Proxy S W)) (tasks : List (ProxyTask S W G))
@@ -181,13 +181,3 @@ pub new_ends : {S W : Type 0} (started : List (Proxy S W))
 new_ends {S} {W} started fresh = all_of (λ (p : Proxy S W). AreEnds p.outlet.records (threads_of p).answers) started (λ place p at.
     ends_new p.outlet.records (threads_of p).answers
     (all_at (λ (p : Proxy S W). IsNewOutlet p.outlet (threads_of p).answers) started place p fresh at).ends)
-
--- the clients are those that were given
-pub clients_given : {S W : Type 0} (reports : Reports) (first : ℕ) (clients : List Client) (readers : List S) (outs : List (Option W))
-    → length readers ≡ length clients → length outs ≡ length clients
-    → map (λ (g : GivenProxy S W). g.client) (given_proxies reports first clients readers outs) ≡ clients
-clients_given reports first [] readers outs same as_many = refl
-clients_given reports first (c ∷ clients) [] outs same as_many = absurd (omega (arith, same))
-clients_given reports first (c ∷ clients) (r ∷ readers) [] same as_many = absurd (omega (arith, as_many))
-clients_given reports first (c ∷ clients) (r ∷ readers) (o ∷ outs) same as_many =
-    ap (λ (l : List Client). c ∷ l) (clients_given reports (first + 1) clients readers outs (omega (arith, same)) (omega (arith, as_many)))

@@ -82,13 +82,11 @@ module _ {W : Type 0} where
       → streamed.recorders.items ≡ [] → streamed.unwritten.items ≡ [] → streamed.all_sent ≡ true → IsStreamedOf [] streamed
   nothing_joined streamed clients failures recorders unwritten all_sent = record {
     clients = clients;
-    results = record {
-      failures = failures;
-      recorders = recorders;
-      unwritten = unwritten;
-      all_sent = λ _ k d inside. absurd (omega arith);
-      unsent = λ none. absurd (false≢true (sym none ∙ all_sent));
-    };
+    failures = failures;
+    recorders = recorders;
+    unwritten = unwritten;
+    all_sent = λ _ k d inside. absurd (omega arith);
+    unsent = λ none. absurd (false≢true (sym none ∙ all_sent));
   }
 
   -- one proxy more was joined
@@ -101,17 +99,15 @@ module _ {W : Type 0} where
       → (old.all_sent ≡ true → j.sent.unsent ≡ None → new.all_sent ≡ true) → IsStreamedOf (joined ++ j ∷ []) new
   streamed_also joined old new j of clients failures recorders unwritten sent sends = record {
     clients = clients ∙ ap (λ l. l ++ client_of j ∷ []) of.clients ∙ sym (map-append client_of joined (j ∷ []));
-    results = record {
-      failures = failures ∙ ap (λ l. l ++ failure_with j ∷ []) of.results.failures ∙ sym (map-append failure_with joined (j ∷ []));
-      recorders =
-          recorders ∙ ap (λ l. l ++ j.recorder ∷ []) of.results.recorders
-          ∙ sym (map-append (λ (j : Joined W). j.recorder) joined (j ∷ []));
-      unwritten =
-          unwritten ∙ ap (λ l. l ++ is_unwritten (unwritten_cause j.recorder) ∷ []) of.results.unwritten
-          ∙ sym (map-append (λ (j : Joined W). is_unwritten (unwritten_cause j.recorder)) joined (j ∷ []));
-      all_sent = λ all.
-          let both = sent all in
-          All-push SendsAll joined j (of.results.all_sent both.0) both.1;
-      unsent = leaves_also joined j old.all_sent new.all_sent j.sent.unsent refl of.results.unsent sends;
-    };
+    failures = failures ∙ ap (λ l. l ++ failure_with j ∷ []) of.failures ∙ sym (map-append failure_with joined (j ∷ []));
+    recorders =
+        recorders ∙ ap (λ l. l ++ j.recorder ∷ []) of.recorders
+        ∙ sym (map-append (λ (j : Joined W). j.recorder) joined (j ∷ []));
+    unwritten =
+        unwritten ∙ ap (λ l. l ++ is_unwritten (unwritten_cause j.recorder) ∷ []) of.unwritten
+        ∙ sym (map-append (λ (j : Joined W). is_unwritten (unwritten_cause j.recorder)) joined (j ∷ []));
+    all_sent = λ all.
+        let both = sent all in
+        All-push SendsAll joined j (of.all_sent both.0) both.1;
+    unsent = leaves_also joined j old.all_sent new.all_sent j.sent.unsent refl of.unsent sends;
   }

@@ -1,5 +1,5 @@
 -- What a writer was given, one text after another.
-use Rattle.std.specs.Prelude.{◌≡◌, ℕ, ◌+◌, ◌<◌, List, [], ◌++◌}
+use Rattle.std.specs.Prelude.{◌≡◌, ℕ, ◌<◌, List, [], ◌++◌}
 use Rattle.std.proofs.Common.{refl, subst, ◌∙◌}
 use Rattle.wire.proofs.callers.Given.{appends_none, appends_then}
 use Rattle.replay_output.proofs.callers.Known.{begins_then}

@@ -1,45 +1,37 @@
--- The end of a stream: its proxies, and the account of its resolver. This project's own.
-use Rattle.std.specs.Prelude.{◌≡◌, ℕ, ℤ, true, false, List, map, Option, None, IfSome}
+-- The end of a stream: its resolver and its proxies. This project's own.
+use Rattle.std.specs.Prelude.{◌≡◌, ℕ, true, false, List, map, Option, Some, slice_get}
 use Rattle.std.specs.List.{AllZip}
-use Rattle.keyspace.specs.Run.{Step}
-use Rattle.resolver.specs.declared.client.Client.{Client}
-use Rattle.resolver.specs.declared.turn.Account.{Account}
-use Rattle.resolver.specs.Lanes.{Lanes}
-use Rattle.resolver.specs.Resolver.{ResolverState}
-use Rattle.resolver.specs.Settled.{Settled}
+use Rattle.resolver.specs.Core.{Continues}
+use Rattle.resolver.specs.Lanes.{Lanes, Each, LanesContinue}
+use Rattle.resolver.specs.Resolver.{ResolverState, IsResolving, IsThrough}
 use Rattle.replay_output.specs.declared.options.style.Style.{Style}
 use Rattle.replay_stream.specs.declared.proxies.Proxy.{Proxy}
 use Rattle.replay_stream.specs.declared.streamed.Streamed.{Streamed}
 use Rattle.replay_stream.specs.Outlet.{HavePassedAll, StreamContinues}
-use Rattle.replay_stream.specs.Proxies.{HasResultsOf, IsJoined, Joined, client_of, given_with, outlets_of, threads_of}
+use Rattle.replay_stream.specs.Proxies.{IsJoined, IsStreamedOf, Joined, outlets_of, threads_of}
 use Rattle.replay_stream.specs.Sinks.{SinkState}
-use Rattle.replay_workers.specs.Stops.{IsAccountedFor, IsStopOf}
+use Rattle.replay_workers.specs.Stops.{IsAccountedFor}
 
--- the clients of these proxies, whose ends their outlets and senders hold
-abbrev pub clients_of : {S W : Type 0} → List (Proxy S W) → List Client
-clients_of {S} {W} proxies = map (λ (p : Proxy S W). (given_with p.outlet (threads_of p)).client) proxies
+-- the same resolver later
+pub record ResolverContinues (old new : ResolverState) : Type 0 where
+  pub accounted : IsAccountedFor old → IsAccountedFor new
+  pub resolving : IsResolving old → IsResolving new
+  pub core : Continues old.core new.core
+  pub lanes : Each (λ _ l m. LanesContinue l m) old.lanes new.lanes
 
--- The account of a run from its start, settled with these clients.
-pub record IsAccountOf (window : ℤ) (limit : ℕ) (clients : List Client) (account : Account) : Type 0 where
-  pub log : List Step
-  pub lanes : List Lanes
-  pub settled : Settled window log lanes clients account
-  -- without a stop it is complete
-  pub entire : account.stop ≡ None → account.complete ≡ true
-  -- the stop is that of the log
-  pub met : IfSome account.stop (IsStopOf limit window log)
+-- the same resolver later, when nothing is left to do and its reply lanes are closed
+pub record RunsThrough (old new : ResolverState) : Type 0 where
+  pub continues : ResolverContinues old new
+  pub through : IsThrough new
+  pub closed : (proxy : ℕ) (l : Lanes) → slice_get new.lanes proxy ≡ Some l → l.replies.closed ≡ true
 
 -- The stream of the proxies that were started has ended: their outlets have passed all answers on, and their threads were joined.
 pub record EndsStream {S W : Type 0} (remaining : S → Option (List ℕ)) (state_of : W → SinkState) (style : Style)
-    (before after : SinkState) (resolver : ResolverState) (started : List (Proxy S W)) (streamed : Streamed W) (account : Account)
-    : Type 0 where
+    (before after : SinkState) (started : List (Proxy S W)) (streamed : Streamed W) : Type 0 where
   pub ended : List (Proxy S W)
   pub threads : map threads_of ended ≡ map threads_of started
   pub streams : StreamContinues style false streamed.failed before after (outlets_of started) (outlets_of ended)
   pub passed : HavePassedAll (outlets_of ended)
   pub joined : List (Joined W)
   pub each : AllZip (IsJoined remaining state_of) ended joined
-  pub results : HasResultsOf joined streamed
-  pub accounted :
-      IsAccountedFor resolver
-      → IsAccountOf resolver.core.set.window resolver.core.set.map.limit (map client_of joined) account
+  pub results : IsStreamedOf joined streamed

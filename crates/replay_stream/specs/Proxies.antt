@@ -149,15 +149,11 @@ pub record LeavesUnsent {W : Type 0} (joined : List (Joined W)) : Type 0 where
   pub batch : Batch
   pub unsent : worker.sent.unsent ≡ Some batch
 
--- the results in the outcome, except the clients, are of what was joined, each at its index
-pub record HasResultsOf {W : Type 0} (joined : List (Joined W)) (streamed : Streamed W) : Type 0 where
+-- the outcome is of what was joined, each at its index
+pub record IsStreamedOf {W : Type 0} (joined : List (Joined W)) (streamed : Streamed W) : Type 0 where
+  pub clients : streamed.clients.items ≡ map client_of joined
   pub failures : streamed.failures.items ≡ map failure_with joined
   pub recorders : streamed.recorders.items ≡ map (λ j. j.recorder) joined
   pub unwritten : streamed.unwritten.items ≡ map (λ j. is_unwritten (unwritten_cause j.recorder)) joined
   pub all_sent : streamed.all_sent ≡ true → All SendsAll joined
   pub unsent : streamed.all_sent ≡ false → LeavesUnsent joined
-
--- the outcome is of what was joined, each at its index
-pub record IsStreamedOf {W : Type 0} (joined : List (Joined W)) (streamed : Streamed W) : Type 0 where
-  pub clients : streamed.clients.items ≡ map client_of joined
-  pub results : HasResultsOf joined streamed

@@ -15,7 +15,8 @@ use crate::streamed::Streamed;
 use crate::threads::{
     RecorderTask, SenderTask, StartedRecorder, StartedSender, start_recorder, start_sender,
 };
-use lane::{agree, lane};
+use keyspace::Answer;
+use lane::{Intake, agree, lane};
 use replay_output::{Options, StartError};
 use replay_workers::{Assignment, Gatekeeper, ShareKeeper};
 use resolver::{Client, share};
@@ -81,7 +82,7 @@ pub fn connect_all<S: Drop, W: Drop, G: Drop>(
     Ok(tasks)
 }
 
-// Makes the outlet of a proxy. If it has a writer of records, a lane leads to its recorder.
+// Makes the outlet of a proxy, and puts together what its threads are started with.
 fn connect<S: Drop, W: Drop, G: Drop>(
     alloc: Global,
     options: Options,
@@ -101,21 +102,38 @@ fn connect<S: Drop, W: Drop, G: Drop>(
     ensures new { IfOk result (λ task. IsNewOutlet task.outlet (threads_by task).answers) }
 {
     let Client { requests, replies } = client;
-    let mut outlet = Outlet::new(alloc, assignment.proxy, replies)?;
-    let recorder = add_recorder(alloc, options, &mut outlet, out)?;
-    let sender = SenderTask {
+    let (outlet, recorder) = make_outlet(alloc, options, assignment.proxy, replies, out)?;
+    let sender = SenderTask::new(
         assignment,
         requests,
         reader,
-        reports: options.reports,
-        gatekeeper: Arc::try_clone(gatekeeper)?,
-        progress: Arc::try_clone(&outlet.progress)?,
-    };
+        options.reports,
+        gatekeeper,
+        &outlet.progress,
+    )?;
     Ok(ProxyTask {
         outlet,
         sender,
         recorder,
     })
+}
+
+// Makes the outlet of a proxy. If it has a writer of records, a lane leads to its recorder.
+fn make_outlet<W: Drop>(
+    alloc: Global,
+    options: Options,
+    proxy: usize,
+    replies: Intake<Answer>,
+    out: Option<W>,
+) -> Result<(Outlet, Option<RecorderTask<W>>), AllocError>
+    ensures proxy { IfOk result (λ made. made.0.proxy ≡ proxy) }
+    ensures replies { IfOk result (λ made. made.0.replies ≡ replies) }
+    ensures out { IfOk result (λ made. option_map (λ r. r.out) made.1 ≡ out) }
+    ensures new { IfOk result (λ made. IsNewOutlet made.0 (option_map (λ r. r.answers) made.1)) }
+{
+    let mut outlet = Outlet::new(alloc, proxy, replies)?;
+    let recorder = add_recorder(alloc, options, &mut outlet, out)?;
+    Ok((outlet, recorder))
 }
 
 // If there is a writer of records, connects the outlet with its recorder by a new lane. Returns
@@ -181,15 +199,44 @@ fn start<
         sender,
         recorder,
     } = task;
+    let (sender, recorder) = start_threads(rt, alloc, sender, recorder)?;
+    Ok(Proxy {
+        outlet,
+        sender,
+        recorder,
+    })
+}
+
+// Starts a sender, and a recorder if there is one.
+fn start_threads<
+    S: Source + Send + Drop + 'static,
+    W: Sink + Send + Drop + 'static,
+    G: Gatekeeper + ShareKeeper + Send + Sync + Drop + 'static,
+    R: Threads + Wait + Copy + Send + 'static,
+>(
+    rt: &R,
+    alloc: Global,
+    sender: SenderTask<S, G>,
+    recorder: Option<RecorderTask<W>>,
+) -> Result<(StartedSender<S>, Option<StartedRecorder<W>>), StartError>
+    ensures requests { IfOk result (λ started. started.0.handle.promise.requests.value
+        ≡ sender.requests) }
+    ensures reader { IfOk result (λ started. started.0.handle.promise.reader.value
+        ≡ sender.reader) }
+    ensures reports { IfOk result (λ started. started.0.handle.promise.reports
+        ≡ sender.reports) }
+    ensures answers { IfOk result (λ started.
+        option_map (λ r. r.handle.promise.answers.value) started.1
+        ≡ option_map (λ r. r.answers) recorder) }
+    ensures out { IfOk result (λ started. option_map (λ r. r.handle.promise.out.value) started.1
+        ≡ option_map (λ r. r.out) recorder) }
+{
     let recorder = match recorder {
         None => None,
         Some(recorder) => Some(start_recorder(rt, alloc, recorder)?),
     };
-    Ok(Proxy {
-        outlet,
-        sender: start_sender(rt, alloc, sender)?,
-        recorder,
-    })
+    let sender = start_sender(rt, alloc, sender)?;
+    Ok((sender, recorder))
 }
 
 /// Joins all threads, and puts their results and the outlets into the outcome, in order. Takes no

@@ -1,22 +1,18 @@
 //! A stream: senders read and send, and recorders write records, while this thread turns the
 //! resolver and prints the answers.
 
-ghost use Rattle.std.specs.Prelude.{◌≡◌, ◌≤◌, ◌&&◌, ℕ, [], true, negsuc, Some, is_some};
-ghost use Rattle.std.specs.Prelude.{map, slice_get, vec_capacity, vec_len, IfOk, IsTrue, OnErr};
+ghost use Rattle.std.specs.Prelude.{◌≡◌, ◌≤◌, ◌&&◌, [], is_some, map, negsuc, vec_capacity};
+ghost use Rattle.std.specs.Prelude.{vec_len, IfOk, IsTrue, OnErr};
 ghost use Rattle.std.specs.List.{All};
 ghost use Rattle.limits.specs.declared.settings.TheConstants.{MAX_PROXIES};
 ghost use Rattle.replay_stream.specs.Recorder.{is_unwritten, unwritten_cause};
 ghost use Rattle.replay_stream.specs.Streaming.{HaveRecords, IsStreamed, recorded_each};
-ghost use Rattle.resolver.specs.Core.{Continues};
-ghost use Rattle.resolver.specs.Lanes.{Lanes, Each, LanesContinue};
 ghost use Rattle.resolver.specs.Opens.{Opens};
-ghost use Rattle.resolver.specs.Resolver.{AreClients, IsResolving, IsThrough};
-ghost use Rattle.replay_stream.specs.Ending.{EndsStream, clients_of};
+ghost use Rattle.replay_stream.specs.Ending.{EndsStream, ResolverContinues, RunsThrough};
 ghost use Rattle.replay_stream.specs.Outlet.{AreNumbered, HavePassedAll, StreamsOn};
 ghost use Rattle.replay_stream.specs.Proxies.{AreEnds, IsNewOutlet, IsStreamedOf};
 ghost use Rattle.replay_stream.specs.Proxies.{given_proxies, given_with, outlets_of, threads_of};
 ghost use Rattle.replay_stream.specs.Sinks.{state_by};
-ghost use Rattle.replay_workers.specs.Stops.{IsAccountedFor};
 
 use crate::outlet::{Passed, Printer};
 use crate::proxies::{Proxy, connect_all, join_all, start_all};
@@ -67,39 +63,72 @@ pub fn run_stream<
     ensures nothing { OnErr result (state_by O.given O.failures out.new
         ≡ state_by O.given O.failures out.old) }
 {
-    let count = readers.len();
-    let (streamed, watch, resolver, clients) = open_all(alloc, count, options)?;
+    let (mut resolver, clients) = open_resolver(alloc, readers.len(), options)?;
+    stream_through(
+        rt,
+        alloc,
+        readers,
+        records,
+        options,
+        clients,
+        &mut resolver,
+        gatekeeper,
+        out,
+    )
+}
+
+// Runs a new resolver: starts the threads of all proxies, turns it to its end, joins the threads
+// and settles the account. Takes all other memory before it starts a thread.
+fn stream_through<
+    S: Source + Send + Drop + 'static,
+    W: Sink + Send + Drop + 'static,
+    G: Gatekeeper + ShareKeeper + Send + Sync + Drop + 'static,
+    R: Threads + Wait + Copy + Send + 'static,
+    O: Sink,
+>(
+    rt: &R,
+    alloc: Global,
+    readers: Vec<S>,
+    records: Vec<Option<W>>,
+    options: Options,
+    clients: Vec<Client>,
+    resolver: &mut Resolver,
+    gatekeeper: &Arc<G, Global>,
+    out: &mut O,
+) -> Result<(Streamed<W>, Account), StartError>
+    requires least_readers { 1 ≤ vec_len readers }
+    requires as_many { vec_len records ≡ vec_len readers }
+    requires opens { Opens (negsuc 0) (vec_len readers) options.capacity options.window
+        options.limit resolver.old clients.items }
+    ensures run { IfOk result (λ ended. IsStreamed options (map S.remaining readers.items)
+        (map is_some records.items) (state_by O.given O.failures out.old)
+        (state_by O.given O.failures out.new) ended.0.failed ended.0.failures.items
+        (recorded_each (state_by W.given W.failures) records.items ended.0.recorders.items)
+        (ended.1.complete && ended.0.all_sent) ended.1.stop) }
+    ensures unwritten { IfOk result (λ ended. ended.0.unwritten.items
+        ≡ map (λ recorder. is_unwritten (unwritten_cause recorder)) ended.0.recorders.items) }
+    ensures recorders { IfOk result (λ ended.
+        HaveRecords (map is_some records.items) ended.0.recorders.items) }
+    ensures nothing { OnErr result (state_by O.given O.failures out.new
+        ≡ state_by O.given O.failures out.old) }
+{
+    let count = clients.len();
+    let mut watch = Watch::new(alloc, count)?;
+    let streamed = Streamed::with_room(alloc, count)?;
     let proxies = start_proxies(rt, alloc, options, readers, records, clients, gatekeeper)?;
-    Ok(run_to_end(
+    let mut streamed = run_to_end(
         rt,
         alloc,
         options.style,
         resolver,
         &**gatekeeper,
-        watch,
+        &mut watch,
         proxies,
         streamed,
         out,
-    ))
-}
-
-// Opens a resolver, and makes an empty outcome with room for the results of all proxies.
-fn open_all<W: Drop>(
-    alloc: Global,
-    proxies: usize,
-    options: Options,
-) -> Result<(Streamed<W>, Watch, Resolver, Vec<Client>), StartError>
-    requires least { 1 ≤ proxies }
-    requires most { proxies ≤ MAX_PROXIES }
-    ensures empty { IfOk result (λ opened. IsStreamedOf [] opened.0) }
-    ensures room { IfOk result (λ opened. proxies ≤ vec_capacity opened.0.clients) }
-    ensures opens { IfOk result (λ opened. Opens (negsuc 0) proxies options.capacity
-        options.window options.limit opened.2 opened.3.items) }
-{
-    let streamed = Streamed::with_room(alloc, proxies)?;
-    let watch = Watch::new(alloc, proxies)?;
-    let (resolver, clients) = open_resolver(alloc, proxies, options)?;
-    Ok((streamed, watch, resolver, clients))
+    );
+    let account = resolver.settle(streamed.clients.as_mut_slice());
+    Ok((streamed, account))
 }
 
 // Makes the outlet of each proxy, and starts its threads. After an error no thread is joined.
@@ -131,51 +160,45 @@ fn start_proxies<
     Ok(proxies)
 }
 
-// Turns the resolver until all outlets have ended, joins all threads and settles the account.
-// Separate from `run_stream`, since each step is proved with all values that its function holds.
+// Turns the resolver until all outlets have ended, and joins all threads.
 fn run_to_end<S: Source, W: Sink + Drop, G: Gatekeeper + ShareKeeper, R: Threads + Wait, O: Sink>(
     rt: &R,
     alloc: Global,
     style: Style,
-    resolver: Resolver,
+    resolver: &mut Resolver,
     gatekeeper: &G,
-    watch: Watch,
+    watch: &mut Watch,
     proxies: Vec<Proxy<S, W>>,
     streamed: Streamed<W>,
     out: &mut O,
-) -> (Streamed<W>, Account)
+) -> Streamed<W>
     requires numbered { AreNumbered (outlets_of proxies.items) }
-    requires clients { AreClients resolver.lanes (clients_of proxies.items) }
     requires ends { All (λ proxy. AreEnds proxy.outlet.records (threads_of proxy).answers)
         proxies.items }
     requires empty { IsStreamedOf [] streamed }
     requires room { vec_len proxies ≤ vec_capacity streamed.clients }
+    ensures runs { RunsThrough resolver.old resolver.new }
     ensures ends { EndsStream S.remaining (state_by W.given W.failures) style
-        (state_by O.given O.failures out.old) (state_by O.given O.failures out.new)
-        resolver proxies.items result.0 result.1 }
+        (state_by O.given O.failures out.old) (state_by O.given O.failures out.new) proxies.items
+        result }
 {
-    let mut resolver = resolver;
-    let mut watch = watch;
     let mut proxies = proxies;
     let mut printer = Printer::new(alloc, style);
     turn_to_end(
         rt,
-        &mut resolver,
+        resolver,
         gatekeeper,
-        &mut watch,
+        watch,
         &mut proxies,
         &mut printer,
         out,
     );
     let mut streamed = streamed;
     streamed.failed = printer.failed;
-    let mut streamed = join_all(rt, proxies, streamed);
-    let account = resolver.settle(streamed.clients.as_mut_slice());
-    (streamed, account)
+    join_all(rt, proxies, streamed)
 }
 
-// Turns the resolver until it is done; after a stop, until a turn leaves nothing owed. Before each
-// turn it passes on what has come. If all proxies wait for each other, a batch is admitted. Returns
+// Turns the resolver until it is through, and passes on what has come before each turn. Returns
 // once all answers were passed on.
 fn turn_to_end<S: Source, W: Sink, G: Gatekeeper + ShareKeeper, R: Wait, O: Sink>(
     rt: &R,
@@ -187,13 +210,7 @@ fn turn_to_end<S: Source, W: Sink, G: Gatekeeper + ShareKeeper, R: Wait, O: Sink
     out: &mut O,
 )
     requires numbered { AreNumbered (outlets_of proxies.old) }
-    ensures through { IsThrough resolver.new }
-    ensures closed { (proxy : ℕ) (l : Lanes) → slice_get resolver.new.lanes proxy ≡ Some l
-        → l.replies.closed ≡ true }
-    ensures accounted { IsAccountedFor resolver.old → IsAccountedFor resolver.new }
-    ensures resolving { IsResolving resolver.old → IsResolving resolver.new }
-    ensures continues { Continues resolver.old.core resolver.new.core }
-    ensures lanes { Each (λ _ l m. LanesContinue l m) resolver.old.lanes resolver.new.lanes }
+    ensures runs { RunsThrough resolver.old resolver.new }
     ensures streams { StreamsOn printer.old.style printer.old.failed printer.new.failed
         (state_by O.given O.failures out.old)
         (state_by O.given O.failures out.new) (outlets_of proxies.old) (outlets_of proxies.new) }
@@ -202,27 +219,39 @@ fn turn_to_end<S: Source, W: Sink, G: Gatekeeper + ShareKeeper, R: Wait, O: Sink
 {
     for _ in rt.forever() {
         let ended = pass_each(proxies, printer, out, gatekeeper);
-        match resolver.turn() {
-            Ok(Turn::Took(_)) => watch.forget(),
-            Ok(Turn::Idle) => {
-                admit(resolver, gatekeeper, watch);
-                thread::yield_now();
-            }
-            Ok(Turn::Done) => {
-                if ended {
-                    return;
-                }
-                thread::yield_now();
-            }
-            Err(_) => {
-                if ended && resolver.owed() == 0 {
-                    return;
-                }
-                thread::yield_now();
-            }
+        let through = take_turn(resolver, gatekeeper, watch);
+        if ended && through {
+            return;
         }
     }
     unreachable!()
+}
+
+// Takes a turn. If it took no batch, admits one if all proxies wait for each other, and lets other
+// threads run. Returns whether the resolver is done, or after a stop, whether nothing is owed.
+fn take_turn<G: ShareKeeper>(resolver: &mut Resolver, gatekeeper: &G, watch: &mut Watch) -> bool
+    ensures continues { ResolverContinues resolver.old resolver.new }
+    ensures through { IsTrue result → RunsThrough resolver.old resolver.new }
+{
+    match resolver.turn() {
+        Ok(Turn::Took(_)) => {
+            watch.forget();
+            false
+        }
+        Ok(Turn::Idle) => {
+            admit(resolver, gatekeeper, watch);
+            thread::yield_now();
+            false
+        }
+        Ok(Turn::Done) => {
+            thread::yield_now();
+            true
+        }
+        Err(_) => {
+            thread::yield_now();
+            resolver.owed() == 0
+        }
+    }
 }
 
 // Passes on at most one answer of each proxy. Returns whether all outlets have ended.

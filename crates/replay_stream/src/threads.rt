@@ -12,7 +12,7 @@ use keyspace::{Answer, Batch};
 use lane::{Intake, Port};
 use replay_output::{Reports, StartError};
 use replay_workers::{Assignment, Gatekeeper, ShareKeeper};
-use std::alloc::Global;
+use std::alloc::{AllocError, Global};
 use std::snapshot::Snapshot;
 use std::sync::{Arc, Wait};
 use std::thread;
@@ -73,6 +73,31 @@ pub struct StartedSender<S: Source> {
 #[derive(Drop)]
 pub struct StartedRecorder<W: Sink> {
     handle: PromisedHandle<Recorder<W>, Recording<W>>,
+}
+
+impl<S: Drop, G: Drop> SenderTask<S, G> {
+    /// Creates the task of a sender, with its own handles to what it shares with other threads.
+    pub fn new(
+        assignment: Assignment,
+        requests: Port<Batch>,
+        reader: S,
+        reports: Reports,
+        gatekeeper: &Arc<G, Global>,
+        progress: &Arc<AnswerProgress, Global>,
+    ) -> Result<Self, AllocError>
+        ensures requests { IfOk result (λ task. task.requests ≡ requests) }
+        ensures reader { IfOk result (λ task. task.reader ≡ reader) }
+        ensures reports { IfOk result (λ task. task.reports ≡ reports) }
+    {
+        Ok(SenderTask {
+            assignment,
+            requests,
+            reader,
+            reports,
+            gatekeeper: Arc::try_clone(gatekeeper)?,
+            progress: Arc::try_clone(progress)?,
+        })
+    }
 }
 
 impl<S: Source + Drop, G: Gatekeeper + ShareKeeper + Drop> SenderTask<S, G> {

@@ -1,20 +1,14 @@
 use Rattle.std.proofs.Common.{◌≡◌}
 use Rattle.std.specs.Prelude.{map}
-use Rattle.resolver.specs.Core.{Continues}
-use Rattle.resolver.specs.Lanes.{Each, LanesContinue}
-use Rattle.resolver.specs.Resolver.{IsResolving}
+use Rattle.replay_stream.specs.Ending.{ResolverContinues}
 use Rattle.replay_stream.specs.Outlet.{AreNumbered, StreamsOn}
 use Rattle.replay_stream.specs.Proxies.{outlets_of, threads_of}
-use Rattle.replay_workers.specs.Stops.{IsAccountedFor}
 use Rattle.replay_stream.specs.Sinks.{state_by}
 use Rattle.replay_stream.proofs.stream_run.turn_to_end.Given as goal
 
 abbrev pub invariant-loop : goal.invariant-loop
 invariant-loop g l = record {
-  resolving : IsResolving l.fn.resolver → IsResolving l.resolver;
-  accounted : IsAccountedFor l.fn.resolver → IsAccountedFor l.resolver;
-  continues : Continues l.fn.resolver.core l.resolver.core;
-  lanes : Each (λ _ l m. LanesContinue l m) l.fn.resolver.lanes l.resolver.lanes;
+  continues : ResolverContinues l.fn.resolver l.resolver;
   style : l.printer.style ≡ l.fn.printer.style;
   numbered : AreNumbered (outlets_of l.proxies);
   threads : map threads_of l.proxies ≡ map threads_of l.fn.proxies;
