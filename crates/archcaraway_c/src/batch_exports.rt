@@ -11,6 +11,7 @@ use crate::batch_handle::BatchHandle;
 use crate::batch_object::BatchObject;
 use crate::key_span::KeySpan;
 use crate::refusal::{OK, Refusal};
+use crate::to_heap::move_to_heap;
 use limits::Stop;
 use std::alloc::Global;
 
@@ -19,14 +20,8 @@ use std::alloc::Global;
 pub extern "C" fn archcaraway_export_batch_new(alloc: Global, at: &mut *mut u8) -> i32
     ensures made { (result ≡ pos 0) ⊎ (result ≡ pos 1) }
 {
-    let Ok(batch) = BatchObject::new(alloc) else {
-        return Refusal::Stop(Stop::Memory).status();
-    };
-    match Box::new(alloc, batch) {
-        Ok(batch) => {
-            *at = Box::into_raw(batch).cast();
-            OK
-        }
+    match BatchObject::new(alloc) {
+        Ok(batch) => move_to_heap(alloc, batch, at),
         Err(_) => Refusal::Stop(Stop::Memory).status(),
     }
 }

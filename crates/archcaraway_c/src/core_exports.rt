@@ -15,7 +15,7 @@ ghost use Rattle.archcaraway_c.specs.declared.refusal.Refusal.{Refusal};
 use crate::core_handle::CoreHandle;
 use crate::core_object::CoreObject;
 use crate::refusal::{OK, Refusal};
-use limits::Stop;
+use crate::to_heap::move_to_heap;
 use std::alloc::Global;
 
 /// Creates a resolver, and writes its pointer.
@@ -30,16 +30,9 @@ pub extern "C" fn archcaraway_export_core_new(
     ensures argument { (result ≡ pos 202) ↔ (¬ AreCoreNumbers proxies window limit) }
     ensures made { AreCoreNumbers proxies window limit → (result ≡ pos 0) ⊎ (result ≡ pos 1) }
 {
-    let object = match CoreObject::new(alloc, proxies, window, limit) {
-        Ok(object) => object,
-        Err(refusal) => return refusal.status(),
-    };
-    match Box::new(alloc, object) {
-        Ok(core) => {
-            *at = Box::into_raw(core).cast();
-            OK
-        }
-        Err(_) => Refusal::Stop(Stop::Memory).status(),
+    match CoreObject::new(alloc, proxies, window, limit) {
+        Ok(object) => move_to_heap(alloc, object, at),
+        Err(refusal) => refusal.status(),
     }
 }
 

@@ -5,6 +5,7 @@ ghost use Rattle.std.specs.Prelude.{◌++◌, ℕ, List, [], length, replicate, 
 ghost use Rattle.std.specs.Prelude.{IfOk, IfErr};
 ghost use Rattle.keyspace.specs.Run.{Step, Finish};
 ghost use Rattle.resolver.specs.Core.{Given as GivenSoFar, Continues};
+ghost use Rattle.limits.specs.declared.settings.TheConstants.{MAX_PROXIES};
 ghost use Rattle.limits.specs.declared.stop.Stop.{Stop as StopValue};
 ghost use Rattle.resolver.specs.Stands.{Stands};
 ghost use Rattle.archcaraway_c.specs.BatchFrame.{IsFrame, IsNoFrame};
@@ -25,7 +26,7 @@ use crate::waiting_answers::{count_waiting, nothing_waits, write_answer};
 use keyspace::{Answer, Batch};
 use limits::{MAX_PROXIES, Stop};
 use resolver::Core;
-use std::alloc::Global;
+use std::alloc::{AllocError, Global};
 use std::marker::Model;
 
 /// A core that C holds by a handle. An answer that was taken from the core waits here until it fits
@@ -71,12 +72,23 @@ impl CoreObject {
         if proxies < 1 || proxies > MAX_PROXIES || !are_set_numbers(window, limit) {
             return Err(Refusal::Argument);
         }
-        let Ok(waiting) = nothing_waits(alloc, proxies) else {
-            return Err(Refusal::Stop(Stop::Memory));
-        };
         let Ok(core) = Core::new(alloc, proxies, window, limit as usize) else {
             return Err(Refusal::Stop(Stop::Memory));
         };
+        match CoreObject::around(alloc, core) {
+            Ok(object) => Ok(object),
+            Err(_) => Err(Refusal::Stop(Stop::Memory)),
+        }
+    }
+
+    // Puts an object around a core, with a place for an answer per proxy.
+    fn around(alloc: Global, core: Core) -> Result<Self, AllocError>
+        requires few { length core.owed ≤ MAX_PROXIES }
+        ensures core { IfOk result (λ object. object.core ≡ core) }
+        ensures waiting { IfOk result (λ object.
+            object.waiting ≡ replicate (length core.owed) None) }
+    {
+        let waiting = nothing_waits(alloc, core.proxies())?;
         Ok(CoreObject {
             alloc,
             core,

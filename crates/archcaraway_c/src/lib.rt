@@ -43,6 +43,7 @@ mod set_object;
 mod shard_exports;
 mod start_exports;
 mod stats_exports;
+mod to_heap;
 mod trim_exports;
 mod waiting_answers;
 

@@ -9,11 +9,11 @@ ghost use Rattle.archcaraway_c.specs.Status.{stop_status, refusal_status, bytes_
 ghost use Rattle.archcaraway_c.specs.SetObject.{IsReplied, SetRefuses};
 ghost use Rattle.archcaraway_c.specs.declared.refusal.Refusal.{Refusal};
 
-use crate::refusal::{OK, Refusal};
+use crate::refusal::OK;
 use crate::set_handle::SetHandle;
 use crate::set_object::SetObject;
+use crate::to_heap::move_to_heap;
 use conflict::WhenFull;
-use limits::Stop;
 use std::alloc::Global;
 
 /// Creates a conflict set, and writes its pointer.
@@ -27,16 +27,9 @@ pub extern "C" fn archcaraway_export_set_new(
     ensures argument { (result ≡ pos 202) ↔ (¬ AreSetNumbers window limit) }
     ensures made { AreSetNumbers window limit → (result ≡ pos 0) ⊎ (result ≡ pos 1) }
 {
-    let object = match SetObject::new(alloc, window, limit) {
-        Ok(object) => object,
-        Err(refusal) => return refusal.status(),
-    };
-    match Box::new(alloc, object) {
-        Ok(set) => {
-            *at = Box::into_raw(set).cast();
-            OK
-        }
-        Err(_) => Refusal::Stop(Stop::Memory).status(),
+    match SetObject::new(alloc, window, limit) {
+        Ok(object) => move_to_heap(alloc, object, at),
+        Err(refusal) => refusal.status(),
     }
 }
 

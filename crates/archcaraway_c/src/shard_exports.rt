@@ -16,8 +16,8 @@ ghost use Rattle.archcaraway_c.specs.declared.combine_refusal.CombineRefusal.{Co
 
 use crate::points_handle::PointsHandle;
 use crate::points_object::PointsObject;
-use crate::points_refusal::PointsRefusal;
 use crate::refusal::OK;
+use crate::to_heap::move_to_heap;
 use std::alloc::Global;
 
 /// Takes keys as split points, and writes their pointer, and the index of the first key at fault or
@@ -36,19 +36,12 @@ pub extern "C" fn archcaraway_export_split_points_new(
         × PointsRefuse keys.now lengths.now refusal }
 {
     *bad = lengths.len();
-    let object = match PointsObject::new(alloc, keys, lengths) {
-        Ok(object) => object,
+    match PointsObject::new(alloc, keys, lengths) {
+        Ok(points) => move_to_heap(alloc, points, at),
         Err(refusal) => {
             *bad = refusal.bad_key(lengths.len());
-            return refusal.status();
+            refusal.status()
         }
-    };
-    match Box::new(alloc, object) {
-        Ok(points) => {
-            *at = Box::into_raw(points).cast();
-            OK
-        }
-        Err(_) => PointsRefusal::Memory.status(),
     }
 }
 

@@ -5,9 +5,8 @@ ghost use Rattle.std.specs.Prelude.{◌≡◌, ◌⊎◌, ◌↔◌, pos};
 ghost use Rattle.archcaraway_c.specs.Starts.{AreSetNumbersAt, AreCoreNumbersAt, IsTooSmall};
 
 use crate::core_object::CoreObject;
-use crate::refusal::{OK, Refusal};
 use crate::set_object::SetObject;
-use limits::Stop;
+use crate::to_heap::move_to_heap;
 use std::alloc::Global;
 
 /// Creates a conflict set that starts at a version, and writes its pointer.
@@ -25,16 +24,9 @@ pub extern "C" fn archcaraway_export_set_new_at(
     ensures made { AreSetNumbersAt window limit version → (¬ IsTooSmall limit version)
         → (result ≡ pos 0) ⊎ (result ≡ pos 1) }
 {
-    let object = match SetObject::new_at(alloc, window, limit, version) {
-        Ok(object) => object,
-        Err(refusal) => return refusal.status(),
-    };
-    match Box::new(alloc, object) {
-        Ok(set) => {
-            *at = Box::into_raw(set).cast();
-            OK
-        }
-        Err(_) => Refusal::Stop(Stop::Memory).status(),
+    match SetObject::new_at(alloc, window, limit, version) {
+        Ok(object) => move_to_heap(alloc, object, at),
+        Err(refusal) => refusal.status(),
     }
 }
 
@@ -54,15 +46,8 @@ pub extern "C" fn archcaraway_export_core_new_at(
     ensures made { AreCoreNumbersAt proxies window limit version → (¬ IsTooSmall limit version)
         → (result ≡ pos 0) ⊎ (result ≡ pos 1) }
 {
-    let object = match CoreObject::new_at(alloc, proxies, window, limit, version) {
-        Ok(object) => object,
-        Err(refusal) => return refusal.status(),
-    };
-    match Box::new(alloc, object) {
-        Ok(core) => {
-            *at = Box::into_raw(core).cast();
-            OK
-        }
-        Err(_) => Refusal::Stop(Stop::Memory).status(),
+    match CoreObject::new_at(alloc, proxies, window, limit, version) {
+        Ok(object) => move_to_heap(alloc, object, at),
+        Err(refusal) => refusal.status(),
     }
 }

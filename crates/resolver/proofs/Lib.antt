@@ -12,7 +12,6 @@ pub mod Standing
 pub mod Observing
 pub mod AtIndex
 pub mod DeliveredAnswers
-pub mod NewCore
 pub mod OpenedCore
 pub mod FromVersion
 pub mod ReadingFrom

@@ -1,5 +1,5 @@
 -- A core that starts at a version, as the reference resolver is after the opening log.
-use Rattle.std.proofs.Common.{◌≡◌, ℕ, ◌<◌, ◌&&◌, ◌==◌, true, false, cond, List, [], ◌∷◌, length, replicate, Some, None, refl, sym, ap, ◌∙◌, inl, inr, arith}
+use Rattle.std.proofs.Common.{◌≡◌, ℕ, zero, suc, ◌<◌, ◌&&◌, ◌==◌, true, false, cond, List, [], ◌∷◌, length, replicate, Some, None, refl, sym, ap, ◌∙◌, inl, inr, arith}
 use Rattle.std.specs.Prelude.{ℤ, pos, negsuc, ◌≤ℤ◌, ◌<ℤ◌}
 use Rattle.std.specs.Ordering.{int_eq}
 use Rattle.std.proofs.lemmas.Bool.{and_parts, cond_both, cases_Bool, eqb-true}
@@ -25,7 +25,6 @@ use Rattle.resolver.specs.Core.{core_of, IsCore, IsIn}
 use Rattle.resolver.specs.OpeningLog.{opening_batch, opening_log, OpeningsStart}
 use Rattle.resolver.proofs.Answered.{answers_to-one}
 use Rattle.resolver.proofs.Kept.{and-true}
-use Rattle.resolver.proofs.NewCore.{none_owed}
 
 -- the least version but 0 is -1
 none_before : (n : ℕ) → negsuc 0 ≤ℤ negsuc n → negsuc n ≡ negsuc 0
@@ -73,6 +72,12 @@ kept_past window proxies (pos n) p v reply =
     omega (arith, ints, same))
     (λ test is. cc)
 kept_past window proxies (negsuc n) p v reply = λ is. cc
+
+-- nothing is owed to any proxy
+none_owed : (proxies proxy : ℕ) → owed_to proxy (replicate proxies []) ≡ []
+none_owed zero proxy = refl
+none_owed (suc proxies) zero = refl
+none_owed (suc proxies) (suc proxy) = none_owed proxies proxy
 
 module _ (window : ℤ) (proxies : ℕ) (set : SetState) (held : List Held) (replies : Kept) (owed : OwedView)
     (none_held : held ≡ []) (none : owed.answers ≡ replicate proxies []) where

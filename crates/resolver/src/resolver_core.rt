@@ -23,7 +23,7 @@ use conflict::ConflictSet;
 use keyspace::{Answer, Batch};
 use limits::Stop;
 use observer::{Observer, Unobserved};
-use opened::replies_at;
+use opened::answers_at;
 use std::alloc::Global;
 use std::marker::Model;
 
@@ -66,18 +66,10 @@ impl Core {
         requires settings { AreSettings proxies window limit }
         ensures new { IfOk result (IsNewCore proxies window limit []) }
     {
-        let Ok(set) = ConflictSet::new(alloc, window, limit) else {
-            return Err(OpenError::Memory);
-        };
-        Ok(Core {
-            alloc,
-            set,
-            version: -1,
-            gate: Gate::new(alloc),
-            replies: Replies::new(alloc),
-            owed: Owed::new(alloc, proxies)?,
-            stop: None,
-        })
+        match Core::new_at(alloc, proxies, window, limit, -1) {
+            Ok(core) => Ok(core),
+            Err(_) => Err(OpenError::Memory),
+        }
     }
 
     /// Creates a resolver that starts at a version, from -1 on: the first batch that it processes
@@ -102,10 +94,7 @@ impl Core {
         ensures not_gate { result ≢ Err Stop.GateFull }
     {
         let set = ConflictSet::new_at(alloc, window, limit, version)?;
-        let Ok(replies) = replies_at(alloc, proxies, version) else {
-            return Err(Stop::Memory);
-        };
-        let Ok(owed) = Owed::new(alloc, proxies) else {
+        let Ok((replies, owed)) = answers_at(alloc, proxies, version) else {
             return Err(Stop::Memory);
         };
         Ok(Core {

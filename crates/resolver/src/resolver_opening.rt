@@ -31,9 +31,10 @@ pub fn open(
     ensures opens { IfOk result (λ opened. Opens (negsuc 0) proxies capacity window limit opened.0
         opened.1.items) }
 {
-    let core = Core::new(alloc, proxies, window, limit)?;
-    let (all_lanes, clients) = connect_all(alloc, proxies, capacity)?;
-    Ok((Resolver::new(core, all_lanes), clients))
+    match open_at(alloc, proxies, capacity, window, limit, -1) {
+        Ok(opened) => Ok(opened),
+        Err(_) => Err(OpenError::Memory),
+    }
 }
 
 /// Opens a resolver that starts at a version, from -1 on, and its clients, as [`open`] does. What

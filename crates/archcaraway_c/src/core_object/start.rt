@@ -11,7 +11,6 @@ ghost use Rattle.archcaraway_c.specs.Starts.{IsNextOwed};
 use super::CoreObject;
 use crate::numbers::are_set_numbers;
 use crate::refusal::Refusal;
-use crate::waiting_answers::nothing_waits;
 use limits::{MAX_PROXIES, Stop};
 use resolver::Core;
 use std::alloc::Global;
@@ -47,14 +46,10 @@ impl CoreObject {
             Ok(core) => core,
             Err(stop) => return Err(Refusal::Stop(stop)),
         };
-        let Ok(waiting) = nothing_waits(alloc, proxies) else {
-            return Err(Refusal::Stop(Stop::Memory));
-        };
-        Ok(CoreObject {
-            alloc,
-            core,
-            waiting,
-        })
+        match CoreObject::around(alloc, core) {
+            Ok(object) => Ok(object),
+            Err(_) => Err(Refusal::Stop(Stop::Memory)),
+        }
     }
 
     /// Returns the least proxy that is owed an answer, or `None` if none is.

@@ -1,7 +1,7 @@
-//! What a core that starts at a version keeps: the reply to the batch that represents all earlier
-//! writes.
+//! What a core that starts at a version keeps and owes: the reply to the batch that represents all
+//! earlier writes, and no answer.
 
-ghost use Rattle.std.specs.Prelude.{◌≡◌, ◌≤ℤ◌, ℕ, ℤ, pos, negsuc, [], ◌∷◌, IfOk, IfErr};
+ghost use Rattle.std.specs.Prelude.{◌≡◌, ◌≤ℤ◌, ℕ, ℤ, pos, negsuc, [], ◌∷◌, replicate, IfOk, IfErr};
 ghost use Rattle.keyspace.specs.declared.reply.Verdict.TheVariants.{Committed};
 ghost use Rattle.keyspace.specs.Judge.{without_places};
 ghost use Rattle.keyspace.specs.Found.{kept_reply};
@@ -9,14 +9,33 @@ ghost use Rattle.keyspace.specs.Run.{run};
 ghost use Rattle.chain.specs.Replies.{reply_of};
 ghost use Rattle.resolver.specs.OpeningLog.{opening_log};
 
+use crate::owed::Owed;
 use chain::Replies;
 use keyspace::{Entry, Places, Reply, Sequence, Verdict};
 use limits::Stop;
 use std::alloc::{AllocError, Global};
 
-/// Returns the replies that a resolver with this many proxies keeps when it starts at the version:
-/// that to the opening batch, which no proxy can ask for, or none at -1.
-pub(super) fn replies_at(alloc: Global, proxies: usize, version: i64) -> Result<Replies, Stop>
+/// Returns the replies that a resolver with this many proxies keeps when it starts at the version,
+/// and nothing owed to any of them.
+pub(super) fn answers_at(
+    alloc: Global,
+    proxies: usize,
+    version: i64,
+) -> Result<(Replies, Owed), Stop>
+    requires least_version { negsuc 0 ≤ℤ version }
+    ensures kept { IfOk result (λ made. (window : ℤ) (p : ℕ) (v : ℤ) → reply_of made.0 p v
+        ≡ kept_reply (run window (opening_log proxies version)).processed p v) }
+    ensures owed { IfOk result (λ made. made.1.answers ≡ replicate proxies []) }
+    ensures memory { IfErr result (λ stop. stop ≡ Stop.Memory) }
+{
+    let replies = replies_at(alloc, proxies, version)?;
+    let owed = Owed::new(alloc, proxies)?;
+    Ok((replies, owed))
+}
+
+// Returns the replies that are kept: that to the opening batch, which no proxy can ask for, or none
+// at -1.
+fn replies_at(alloc: Global, proxies: usize, version: i64) -> Result<Replies, Stop>
     requires least_version { negsuc 0 ≤ℤ version }
     ensures kept { IfOk result (λ replies. (window : ℤ) (p : ℕ) (v : ℤ) → reply_of replies p v
         ≡ kept_reply (run window (opening_log proxies version)).processed p v) }

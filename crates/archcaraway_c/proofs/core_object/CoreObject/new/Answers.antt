@@ -1,4 +1,4 @@
-use Rattle.std.proofs.Common.{rules, arith}
+use Rattle.std.proofs.Common.{rules, arith, refl, inl}
 use Rattle.std.proofs.lemmas.Grind.{common_steps}
 use Rattle.archcaraway_c.proofs.core_object.CoreObject.new.Goals as goal
 
@@ -14,9 +14,20 @@ new-requires c = record {
   };
 }
 
-pub returns-clause-within : goal.returns-clause-within
-returns-clause-within c = (
+pub returns-in-Ok-around-clause-within : goal.returns-in-Ok-around-clause-within
+returns-in-Ok-around-clause-within c = (
   omega (arith, c.if-proxies-lt1.false),
   omega (arith, c.if-proxies-gt-MAX_PROXIES.false),
   search rules,
 )
+
+pub returns-in-Err-clause-refused : goal.returns-in-Err-clause-refused
+returns-in-Err-clause-refused c =
+    inl (
+      (
+        omega (arith, c.if-proxies-lt1.false),
+        omega (arith, c.if-proxies-gt-MAX_PROXIES.false),
+        search rules,
+      ),
+      refl,
+    )

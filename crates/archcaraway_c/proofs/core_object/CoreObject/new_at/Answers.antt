@@ -15,13 +15,13 @@ new_at-requires-clause-settings c = record {
   most_limit = first_of (search rules, grind (arith, common_steps));
 }
 
-pub returns-in_default-clause-refused : goal.returns-in_default-clause-refused
-returns-in_default-clause-refused c =
+pub returns-in-Err-around-clause-refused : goal.returns-in-Err-around-clause-refused
+returns-in-Err-around-clause-refused c =
     let fits : FitsSigned w64 c.args.version = search rules in
     let same = to_z-of_z w64 c.args.version fits in
     let numbers : AreSetNumbers c.args.window c.args.limit = search rules in
     let least : negsuc 0 ≤ℤ c.args.version =
-    grind (arith, ints, c.if-version-ltminus1.false, same) in
+    omega (arith, ints, c.if-version-ltminus1.false, same) in
     inr (
       (
         (
@@ -40,13 +40,13 @@ returns-in_default-clause-refused c =
       ),
     )
 
-pub returns-clause-within : goal.returns-clause-within
-returns-clause-within c =
+pub returns-in-Ok-around-clause-within : goal.returns-in-Ok-around-clause-within
+returns-in-Ok-around-clause-within c =
     let fits : FitsSigned w64 c.args.version = search rules in
     let same = to_z-of_z w64 c.args.version fits in
     let numbers : AreSetNumbers c.args.window c.args.limit = search rules in
     let least : negsuc 0 ≤ℤ c.args.version =
-    grind (arith, ints, c.if-version-ltminus1.false, same) in (
+    omega (arith, ints, c.if-version-ltminus1.false, same) in (
       (
         omega (arith, c.if-proxies-lt1.false),
         omega (arith, c.if-proxies-gt-MAX_PROXIES.false),
@@ -54,3 +54,11 @@ returns-clause-within c =
       ),
       least,
     )
+
+pub returns-in-Ok-around-clause-room : goal.returns-in-Ok-around-clause-room
+returns-in-Ok-around-clause-room c = λ small.
+    let fits : FitsSigned w64 c.args.version = search rules in
+    let same = to_z-of_z w64 c.args.version fits in
+    let natural = subst (λ (version : ℤ). pos 0 ≤ℤ version) (sym same) small.0 in
+    let contrary = sym c.in-Ok.is ∙ c.new_at.ensures.full.1 (natural, small.1) in
+    absurd cc

@@ -11,8 +11,8 @@ use Rattle.resolver.proofs.resolver_core.Core.new_at.Goals as goal
 pub invariant_of-result : goal.invariant_of-result
 invariant_of-result c =
     let set = c.in_ok-set.set in
-    is_core set.window c.args.proxies set c.new-2.result c.in-Ok.replies c.in-Ok-new.owed
-    c.new-2.ensures.empty c.in-Ok-new.ensures.empty (to_z w64 (of_z w64 c.args.version))
+    is_core set.window c.args.proxies set c.new.result c.in-Ok.replies c.in-Ok.owed
+    c.new.ensures.empty c.in-Ok.ensures.owed (to_z w64 (of_z w64 c.args.version))
     c.in_ok-set.ensures.continues c.in_ok-set.ensures.resolved _ c.in_ok-set.ensures.remembers
     (c.in-Ok.ensures.kept set.window)
 
@@ -24,13 +24,13 @@ returns-clause-new c =
     record {
       stands =
           subst (λ x. IsIn (run set.window (opening_log c.args.proxies x)) (λ _. [])
-          (core_of set v c.new-2.result c.in-Ok.replies c.in-Ok-new.owed None)) same
-          (is_in_opening set.window c.args.proxies set c.new-2.result c.in-Ok.replies c.in-Ok-new.owed
-          c.new-2.ensures.empty c.in-Ok-new.ensures.empty v
+          (core_of set v c.new.result c.in-Ok.replies c.in-Ok.owed None)) same
+          (is_in_opening set.window c.args.proxies set c.new.result c.in-Ok.replies c.in-Ok.owed
+          c.new.ensures.empty c.in-Ok.ensures.owed v
           (subst (λ x. negsuc 0 ≤ℤ x) (sym same) c.requires.least_version)
           c.in_ok-set.ensures.remembers (c.in-Ok.ensures.kept set.window));
       «open» = refl;
-      proxies = ap length c.in-Ok-new.ensures.empty ∙ length-replicate c.args.proxies _;
+      proxies = ap length c.in-Ok.ensures.owed ∙ length-replicate c.args.proxies _;
       window = c.in_ok-set.ensures.window ∙ to_z-of_z w64 c.args.window c.ranges.window;
       limit = c.in_ok-set.ensures.limit;
     }
