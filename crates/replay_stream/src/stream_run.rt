@@ -198,8 +198,8 @@ fn run_to_end<S: Source, W: Sink + Drop, G: Gatekeeper + ShareKeeper, R: Threads
     join_all(rt, proxies, streamed)
 }
 
-// Turns the resolver until it is through, and passes on what has come before each turn. Returns
-// once all answers were passed on.
+// Turns the resolver until it is through. Before each turn it passes on the answers that have come.
+// Returns once all answers were passed on.
 fn turn_to_end<S: Source, W: Sink, G: Gatekeeper + ShareKeeper, R: Wait, O: Sink>(
     rt: &R,
     resolver: &mut Resolver,
@@ -227,8 +227,9 @@ fn turn_to_end<S: Source, W: Sink, G: Gatekeeper + ShareKeeper, R: Wait, O: Sink
     unreachable!()
 }
 
-// Takes a turn. If it took no batch, admits one if all proxies wait for each other, and lets other
-// threads run. Returns whether the resolver is done, or after a stop, whether nothing is owed.
+// Takes a turn. After an idle one it admits a batch if all proxies wait for each other. Lets other
+// threads run unless a batch was taken. Returns whether nothing is left to do: the resolver is
+// done, or it has stopped and owes no answer.
 fn take_turn<G: ShareKeeper>(resolver: &mut Resolver, gatekeeper: &G, watch: &mut Watch) -> bool
     ensures continues { ResolverContinues resolver.old resolver.new }
     ensures through { IsTrue result → RunsThrough resolver.old resolver.new }
