@@ -50,8 +50,13 @@ run_to_end-streamed-requires-clause-room g c =
     let started = c.in_ok-proxies.proxies.items in
     let same : length readers ≡ length clients = omega (arith, c.requires.opens.proxies) in
     let as_many : length outs ≡ length clients = omega (arith, same, c.requires.as_many) in
-    omega (arith, started_count c.args.options.reports readers outs clients started same as_many c.in_ok-proxies.ensures.given,
-    c.in_ok-proxies.proxies.ok.0, c.in_ok-streamed.ensures.room, c.len-count.ensures)
+    omega (
+      arith,
+      started_count c.args.options.reports readers outs clients started same as_many c.in_ok-proxies.ensures.given,
+      c.in_ok-proxies.proxies.ok.0,
+      c.in_ok-streamed.ensures.room,
+      c.len-count.ensures,
+    )
 
 pub settle-account-requires : goal.settle-account-requires
 settle-account-requires g c =

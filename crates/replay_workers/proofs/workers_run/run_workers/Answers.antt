@@ -84,8 +84,7 @@ returns-clause-ended g c =
     (subst (λ (stop : Option Stop). IfSome stop (IsStopOf resolver.core.set.map.limit resolver.core.set.window log))
     (sym c.settle-account.ensures.stop) is)) in
     let Seen = g.O.Observer.has_seen c.turn_to_end-occupancy.new.observer in
-    let occupancy = c.turn_to_end-occupancy.result in
-    (
+    let occupancy = c.turn_to_end-occupancy.result in (
       record {
         workers = worked.0;
         worked = all_returned;
@@ -111,8 +110,7 @@ returns-clause-ended g c =
                   (all_ended proxy client (ap (λ (l : List Client). slice_get l proxy) (sym returned) ∙ at));
             });
         accounted = λ stands.
-            let later = c.turn_to_end-occupancy.ensures.accounted stands in
-            (
+            let later = c.turn_to_end-occupancy.ensures.accounted stands in (
               later.log,
               record { lanes = resolver.lanes; settled = settled later.log later.stands; met = met later.log later.met },
             );
