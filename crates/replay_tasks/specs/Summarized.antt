@@ -1,5 +1,5 @@
 -- What is printed of answers that are summarized. This project's own.
-use Rattle.std.specs.Prelude.{◌≡◌, ℕ, ◌+◌, ◌⊎◌, Bool, List, ◌++◌, length, map, Option, None, Some, IfSome}
+use Rattle.std.specs.Prelude.{◌≡◌, ℕ, ◌+◌, ◌⊎◌, Bool, List, ◌++◌, length, map, Option, None, Some, IfSome, Result, Err, OnOk}
 use Rattle.std.specs.Io.KnownBytes.{Appends}
 use Rattle.keyspace.specs.declared.answer.Answer.{Answer}
 use Rattle.keyspace.specs.Processed.{Processed}
@@ -19,6 +19,8 @@ use Rattle.replay_output.specs.declared.failures.ProxyFailure.{ProxyFailure}
 use Rattle.replay_output.specs.declared.line.Line.{Line}
 use Rattle.replay_output.specs.declared.options.Options.{Options}
 use Rattle.replay_output.specs.declared.options.style.Style.{Style}
+use Rattle.replay_output.specs.declared.report.lines.PrintError.{PrintError}
+use Rattle.replay_output.specs.declared.report.lines.PrintError.TheVariants.{Memory, Write}
 use Rattle.replay_output.specs.Failures.{failure_lines, NothingFailed}
 use Rattle.replay_output.specs.Line.{TakesToSort, answers_of}
 use Rattle.replay_output.specs.Lines.{in_order, lines}
@@ -84,6 +86,16 @@ TakesToSummarize received proxy = TakesToSort received proxy ⊎ (proxy + 1 ≡ 
 abbrev pub summary_with : SummaryForm → Occupancy → Option Top → List (List Answer) → List ℕ
 summary_with form occupancy None answers = run_summary form (Some occupancy) answers
 summary_with form occupancy (Some top) answers = summary_and_top form occupancy top answers
+
+-- A summary of these answers was printed, with the ranges that conflict most among these batches, unless the writer failed or memory was
+-- refused.
+pub record PrintsWithTop {T : Type 0} (form : SummaryForm) (most : ℕ) (occupancy : Occupancy) (processed : List Processed)
+    (answers : List (List Answer)) (printed : Result T PrintError) (out : Written) : Type 0 where
+  pub top : Option Top
+  pub is_top : IfSome top (IsTopOf processed most)
+  pub without : top ≡ None → (proxy : ℕ) × (printed ≡ Err (Memory proxy))
+  pub lines : OnOk printed (Took out (summary_with form occupancy top answers))
+  pub prefix : printed ≡ Err Write → TookPrefix out (summary_with form occupancy top answers)
 
 -- The files were replayed, and something failed. This is how full the resolver was: over the log, or before its last step if a stop was met
 -- in that.

@@ -9,24 +9,24 @@ ghost use Rattle.replay_tasks.specs.Met.{HasMet};
 ghost use Rattle.replay_tasks.specs.Replayed.{written};
 ghost use Rattle.replay_tasks.specs.Summarized.{FailsToSummarize, IsSummarized};
 
-use crate::explain::report_loss;
 use crate::met::Ended;
 use crate::reached::Reached;
 use limits::MAX_PROXIES;
 use observer::Unobserved;
-use ranges::text_of_top;
 use replay_hot_ranges::HotRanges;
-use replay_output::{Ending, Options, PrintError, ProxyFailure, Report, Status, fail_to_start};
+use replay_output::{Ending, Options, Status, fail_to_start};
 use replay_summary::SummaryForm;
 use replay_workers::{Gatekeeper, RunOutcome, ShareKeeper, run_observed};
 use std::alloc::Global;
 use std::sync::{Arc, Wait};
 use std::thread::Threads;
 use wire::{Sink, Source};
+use with_top::print_with_top;
 
 mod beside;
 mod ranges;
 mod report;
+mod with_top;
 
 pub use beside::{SummaryWriter, print_with_summary};
 pub use ranges::TopRequest;
@@ -214,26 +214,18 @@ fn summarize_with_top<
     } = outcome;
     let complete = is_complete(account.complete, all_sent);
     let ending = Ending::new(complete, account.stop);
-    match text_of_top(alloc, &reached.observer, wanted) {
-        Ok(ranges) => {
-            let report = print_summary(
-                alloc,
-                out,
-                error,
-                &mut lines,
-                wanted.form,
-                Some(occupancy),
-                &ranges,
-                &mut failures,
-                ending,
-            );
-            Ended::after(&report, account.stop, reached.version)
-        }
-        Err(_) => {
-            let report = report_last_loss(error, &mut failures, ending);
-            Ended::after(&report, account.stop, reached.version)
-        }
-    }
+    let report = print_with_top(
+        alloc,
+        out,
+        error,
+        &mut lines,
+        wanted,
+        occupancy,
+        &reached.observer,
+        &mut failures,
+        ending,
+    );
+    Ended::after(&report, account.stop, reached.version)
 }
 
 // Returns whether every answer was taken, and every batch that was read was sent.
@@ -241,20 +233,4 @@ fn is_complete(all_taken: bool, all_sent: bool) -> bool
     ensures complete { result ≡ (all_taken && all_sent) }
 {
     all_taken && all_sent
-}
-
-// Notes the loss of the last proxy, and prints what failed.
-fn report_last_loss<E: Sink>(error: &mut E, failures: &mut [ProxyFailure], ending: Ending) -> Report
-    requires some { 1 ≤ length failures.old }
-    ensures printed { (proxy : ℕ) → proxy + 1 ≡ length failures.old
-        → result.printed ≡ Err (PrintError.Memory proxy) }
-    ensures loss { (proxy : ℕ) → proxy + 1 ≡ length failures.old
-        → failures.new ≡ with_loss proxy failures.old }
-    ensures failure_lines { OnOk result.reported (Appends (E.given error.old) (E.given error.new)
-        (failure_lines failures.new ending)) }
-    ensures reported { IsErr result.reported ↔ (E.failures error.old < E.failures error.new) }
-    ensures status { result.status ≡ Status.Failed }
-{
-    let last = failures.len() - 1;
-    report_loss(error, last, failures, ending)
 }

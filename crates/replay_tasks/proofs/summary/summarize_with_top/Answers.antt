@@ -1,9 +1,8 @@
 use Rattle.std.proofs.Common.{◌≡◌, [], Bool, List, map, Some, None, refl, ap, sym, subst, inr, inl, ◌∙◌, arith, rules, w64, to_z, of_z, Vec, Global}
-use Rattle.std.specs.Prelude.{Err, ℕ, ◌-◌, ◌≤◌, length, OnOk, vec_items}
+use Rattle.std.specs.Prelude.{ℕ, Option, Result, Err, IfSome, IsOk, length, OnOk, vec_items}
+use Rattle.std.proofs.lemmas.Bool.{false≢true}
 use Rattle.std.proofs.lemmas.Int.{ints, to_z-of_z}
 use Rattle.std.proofs.lemmas.List.{length-map}
-use Rattle.std.proofs.lemmas.Option.{none-some}
-use Rattle.keyspace.specs.declared.answer.Answer.{Answer}
 use Rattle.keyspace.specs.Processed.{Processed}
 use Rattle.keyspace.specs.Run.{run as run_of}
 use Rattle.replay_hot_ranges.specs.declared.hot_range.Top.{Top}
@@ -13,19 +12,26 @@ use Rattle.replay_hot_ranges.specs.Top.{IsTopOf}
 use Rattle.replay_output.specs.declared.failures.Ending.{Ending}
 use Rattle.replay_output.specs.declared.failures.ProxyFailure.{ProxyFailure}
 use Rattle.replay_output.specs.declared.line.Line.{Line}
+use Rattle.replay_output.specs.declared.report.lines.PrintError.{PrintError}
 use Rattle.replay_output.specs.declared.report.lines.PrintError.TheVariants as print
 use Rattle.replay_output.specs.Line.{answers_of}
 use Rattle.replay_output.specs.Failures.{failure_lines, NothingFailed}
 use Rattle.replay_summary.specs.declared.occupancy.Occupancy.{Occupancy}
 use Rattle.replay_workers.specs.Occupied.{IsOccupancyOver}
 use Rattle.replay_workers.specs.Run.{IsMeasuredRun, is_complete}
-use Rattle.replay_tasks.specs.Replayed.{written, Took, TookPrefix}
-use Rattle.replay_tasks.specs.Summarized.{TakesToSummarize, run_summary, summary_and_top, with_ranges}
-use Rattle.replay_tasks.proofs.Counting.{ran_and_lost, seen_chain}
+use Rattle.replay_tasks.specs.Replayed.{written, Took}
+use Rattle.replay_tasks.specs.Summarized.{TakesToSummarize, summary_and_top, summary_with}
+use Rattle.replay_tasks.proofs.Counting.{seen_chain}
 use Rattle.replay_tasks.proofs.Measuring.{measured_as, measured_by_other, occupied_over}
 use Rattle.replay_tasks.proofs.callers.Meeting.{has_met, met_as, met_nothing, not_failed, stop_reported}
 use Rattle.replay_tasks.proofs.callers.Replaying.{complete_from, ending_is, held_ok, are_lines, is_replayed_over, ran_as_and_failed}
 use Rattle.replay_tasks.proofs.summary.summarize_with_top.Goals as goal
+
+-- if it was printed, ranges are listed
+listed : {T : Type 0} (top : Option Top) (printed : Result T PrintError) → (top ≡ None → (proxy : ℕ) × (printed ≡ Err (print.Memory proxy)))
+    → IsOk printed → (t : Top) × (top ≡ Some t)
+listed {T} (Some t) printed without ok = (t, refl)
+listed {T} None printed without ok = let memory = without refl in absurd (false≢true (subst (λ (r : Result T PrintError). IsOk r) memory.1 ok))
 
 pub returns-in-Err : goal.returns-in-Err
 returns-in-Err g c = record {
@@ -44,8 +50,8 @@ returns-in-Err g c = record {
   same = λ is. cc (c.fail_to_start.ensures.status, c.unstarted.ensures.status, is);
 }
 
-pub returns-in-Ok-text_of_top-clause-done : goal.returns-in-Ok-text_of_top-clause-done
-returns-in-Ok-text_of_top-clause-done g c = λ is.
+pub returns-clause-done : goal.returns-clause-done
+returns-clause-done g c = λ is.
     let outcome = c.in-Ok.ended.0 in
     let account = c.in-Ok.ended.1 in
     let options = c.args.options in
@@ -53,7 +59,7 @@ returns-in-Ok-text_of_top-clause-done g c = λ is.
     let most = c.args.wanted.most in
     let files = map g.S.Source.remaining c.args.readers.items in
     let received = map (vec_items {X = Line} {Z = Global}) c.deref_mut.result.now in
-    let failures = c.deref_mut-in-Ok-text_of_top.result.now in
+    let failures = c.deref_mut-2.result.now in
     let complete = c.is_complete-complete.result in
     let reached = c.run_observed-run.new.observer in
     let hot = reached.observer in
@@ -69,7 +75,7 @@ returns-in-Ok-text_of_top-clause-done g c = λ is.
     (sym c.deref_mut.ensures.value) (measured_by_other options files lines_taken outcome.failures.items (is_complete outcome account) occupancy account.stop Seen reached.version both) in
     let of_both = subst
     (λ (f : List ProxyFailure). IsMeasuredRun Seen occupancy options files received f (is_complete outcome account) account.stop)
-    (sym c.deref_mut-in-Ok-text_of_top.ensures.value) of_lines in
+    (sym c.deref_mut-2.ensures.value) of_lines in
     let measured = subst (λ (b : Bool). IsMeasuredRun Seen occupancy options files received failures b account.stop) (sym entire) of_both in
     let observed = measured.observed in
     let run = observed.run in
@@ -79,22 +85,18 @@ returns-in-Ok-text_of_top-clause-done g c = λ is.
     let setting_is = c.run_observed-run.ensures.setting ∙ ap (λ (h : HotRanges). h.history.window) c.new-reached.ensures.observer in
     let window_is = setting_is ∙ c.new-hot.ensures.window ∙ kept in
     let chain = seen_chain Seen account.stop options.window run.log observed.seen hot.history.window window_is run.chain in
-    let of_top = c.in-Ok-text_of_top.ensures.text list observed.seen.seen chain in
-    let top = of_top.top in
     let ending = ending_is complete account.stop c.new-ending.result c.new-ending.ensures.ending in
-    let report = c.print_summary-report.ensures in
-    let printed = c.print_summary-report.result.printed in
-    let out = written (g.O.Sink.given c.args.out.now) (g.O.Sink.given c.print_summary-report.new.out)
-    (g.O.Sink.failures c.args.out.now) (g.O.Sink.failures c.print_summary-report.new.out) in
-    let are = are_lines options files received failures complete account.stop run in
-    let text_is : (λ (answers : List (List Answer)). with_ranges form (run_summary form (Some occupancy) answers) c.deref.result.now) ≡ summary_and_top form occupancy top =
-    λ i answers. with_ranges form (run_summary form (Some occupancy) answers) ((c.deref.ensures.value ∙ of_top.is_text) i) in
-    let lines = subst (λ (text : List (List Answer) → List ℕ). OnOk printed (Took out (text (map answers_of received)))) text_is
-    (report.lines options.style are) in
+    let report = c.print_with_top-report.ensures in
+    let printed = c.print_with_top-report.result.printed in
+    let with = report.top options.style list (are_lines options files received failures complete account.stop run) observed.seen.seen chain in
+    let out = written (g.O.Sink.given c.args.out.now) (g.O.Sink.given c.print_with_top-report.new.out)
+    (g.O.Sink.failures c.args.out.now) (g.O.Sink.failures c.print_with_top-report.new.out) in
     let parts = report.done.0 (sym c.after.ensures.status ∙ is) in
+    let some = listed with.top printed with.without parts.0 in
     let nothing = subst (λ (e : Ending). NothingFailed failures e) ending parts.2 in
     let no_stop = run.no_stop (complete_from complete account.stop nothing.complete) in
-    let all = observed.seen.all no_stop in
+    let lines = subst (λ (top : Option Top). OnOk printed (Took out (summary_with form occupancy top (map answers_of received)))) some.1 with.lines in
+    let is_top = subst (λ (top : Option Top). IfSome top (IsTopOf list most)) some.1 with.is_top in
     is_replayed_over options files received failures complete account.stop run
     (λ log answers. (o : Occupancy) × IsOccupancyOver options.limit options.window log o
     × ((hottest : Top) × IsTopOf (run_of options.window log).processed most hottest
@@ -103,14 +105,14 @@ returns-in-Ok-text_of_top-clause-done g c = λ is.
       occupancy,
       occupied_over options files received failures complete occupancy account.stop Seen measured no_stop,
       (
-        top,
-        subst (λ (ps : List Processed). IsTopOf ps most top) all of_top.is_top,
+        some.0,
+        subst (λ (ps : List Processed). IsTopOf ps most some.0) (observed.seen.all no_stop) is_top,
         held_ok printed _ lines parts.0,
       ),
     )
 
-pub returns-in-Ok-text_of_top-clause-failed : goal.returns-in-Ok-text_of_top-clause-failed
-returns-in-Ok-text_of_top-clause-failed g c = λ is.
+pub returns-clause-failed : goal.returns-clause-failed
+returns-clause-failed g c = λ is.
     let outcome = c.in-Ok.ended.0 in
     let account = c.in-Ok.ended.1 in
     let options = c.args.options in
@@ -118,7 +120,7 @@ returns-in-Ok-text_of_top-clause-failed g c = λ is.
     let most = c.args.wanted.most in
     let files = map g.S.Source.remaining c.args.readers.items in
     let received = map (vec_items {X = Line} {Z = Global}) c.deref_mut.result.now in
-    let failures = c.deref_mut-in-Ok-text_of_top.result.now in
+    let failures = c.deref_mut-2.result.now in
     let complete = c.is_complete-complete.result in
     let reached = c.run_observed-run.new.observer in
     let hot = reached.observer in
@@ -134,7 +136,7 @@ returns-in-Ok-text_of_top-clause-failed g c = λ is.
     (sym c.deref_mut.ensures.value) (measured_by_other options files lines_taken outcome.failures.items (is_complete outcome account) occupancy account.stop Seen reached.version both) in
     let of_both = subst
     (λ (f : List ProxyFailure). IsMeasuredRun Seen occupancy options files received f (is_complete outcome account) account.stop)
-    (sym c.deref_mut-in-Ok-text_of_top.ensures.value) of_lines in
+    (sym c.deref_mut-2.ensures.value) of_lines in
     let measured = subst (λ (b : Bool). IsMeasuredRun Seen occupancy options files received failures b account.stop) (sym entire) of_both in
     let observed = measured.observed in
     let run = observed.run in
@@ -144,40 +146,32 @@ returns-in-Ok-text_of_top-clause-failed g c = λ is.
     let setting_is = c.run_observed-run.ensures.setting ∙ ap (λ (h : HotRanges). h.history.window) c.new-reached.ensures.observer in
     let window_is = setting_is ∙ c.new-hot.ensures.window ∙ kept in
     let chain = seen_chain Seen account.stop options.window run.log observed.seen hot.history.window window_is run.chain in
-    let of_top = c.in-Ok-text_of_top.ensures.text list observed.seen.seen chain in
-    let top = of_top.top in
-    let ran = measured_as options files received failures complete occupancy account.stop Seen measured in
     let ending = ending_is complete account.stop c.new-ending.result c.new-ending.ensures.ending in
-    let report = c.print_summary-report.ensures in
-    let printed = c.print_summary-report.result.printed in
-    let reported = c.print_summary-report.new.failures in
-    let out = written (g.O.Sink.given c.args.out.now) (g.O.Sink.given c.print_summary-report.new.out)
-    (g.O.Sink.failures c.args.out.now) (g.O.Sink.failures c.print_summary-report.new.out) in
-    let error = written (g.E.Sink.given c.args.error.now) (g.E.Sink.given c.print_summary-report.new.error)
-    (g.E.Sink.failures c.args.error.now) (g.E.Sink.failures c.print_summary-report.new.error) in
-    let are = are_lines options files received failures complete account.stop run in
-    let text_is : (λ (answers : List (List Answer)). with_ranges form (run_summary form (Some occupancy) answers) c.deref.result.now) ≡ summary_and_top form occupancy top =
-    λ i answers. with_ranges form (run_summary form (Some occupancy) answers) ((c.deref.ensures.value ∙ of_top.is_text) i) in
-    let lines = subst (λ (text : List (List Answer) → List ℕ). OnOk printed (Took out (text (map answers_of received)))) text_is
-    (report.lines options.style are) in
-    let prefix = subst (λ (text : List (List Answer) → List ℕ). printed ≡ Err print.Write
-    → TookPrefix out (text (map answers_of received))) text_is (report.prefix options.style are) in
+    let report = c.print_with_top-report.ensures in
+    let printed = c.print_with_top-report.result.printed in
+    let with = report.top options.style list (are_lines options files received failures complete account.stop run) observed.seen.seen chain in
+    let out = written (g.O.Sink.given c.args.out.now) (g.O.Sink.given c.print_with_top-report.new.out)
+    (g.O.Sink.failures c.args.out.now) (g.O.Sink.failures c.print_with_top-report.new.out) in
+    let reported = c.print_with_top-report.new.failures in
+    let error = written (g.E.Sink.given c.args.error.now) (g.E.Sink.given c.print_with_top-report.new.error)
+    (g.E.Sink.failures c.args.error.now) (g.E.Sink.failures c.print_with_top-report.new.error) in
+    let ran = measured_as options files received failures complete occupancy account.stop Seen measured in
     inr (record {
       counted = list;
       occupancy = occupancy;
-      top = Some top;
-      is_top = of_top.is_top;
-      nothing_without = λ none. absurd (none-some top (sym none));
+      top = with.top;
+      is_top = with.is_top;
+      nothing_without = λ none. let memory = with.without none in report.nothing memory.0 memory.1;
       failed = ran_as_and_failed received failures complete account.stop (length files) run.received_count run.failures_count
-          (IsMeasuredRun (λ seen. seen ≡ list) occupancy options files) ran (summary_and_top form occupancy top) TakesToSummarize out error reported
-          printed c.print_summary-report.result.reported lines
+          (IsMeasuredRun (λ seen. seen ≡ list) occupancy options files) ran (summary_with form occupancy with.top) TakesToSummarize out error
+          reported printed c.print_with_top-report.result.reported with.lines
           (λ proxy memory. omega (
             arith,
             report.memory proxy memory,
             length-map c.deref_mut.result.now (vec_items {X = Line} {Z = Global}),
           ))
-          report.takes report.nothing prefix report.write.0
-          (subst (λ (e : Ending). OnOk c.print_summary-report.result.reported (Took error (failure_lines reported e))) ending report.failure_lines)
+          report.takes report.nothing with.prefix report.write.0
+          (subst (λ (e : Ending). OnOk c.print_with_top-report.result.reported (Took error (failure_lines reported e))) ending report.failure_lines)
           report.reported.0 report.loss report.no_loss
           (λ all.
           let done =
@@ -185,69 +179,14 @@ returns-in-Ok-text_of_top-clause-failed g c = λ is.
           cc (done, c.after.ensures.status, is));
     })
 
-pub returns-clause-failed : goal.returns-clause-failed
-returns-clause-failed g c = λ is.
-    let outcome = c.in-Ok.ended.0 in
-    let account = c.in-Ok.ended.1 in
-    let options = c.args.options in
-    let files = map g.S.Source.remaining c.args.readers.items in
-    let received = map (vec_items {X = Line} {Z = Global}) outcome.lines.items in
-    let failures = c.deref_mut-in-Err-text_of_top.result.now in
-    let complete = c.is_complete-complete.result in
-    let reached = c.run_observed-run.new.observer in
-    let hot = reached.observer in
-    let Seen = HasSeen hot in
-    let entire : complete ≡ is_complete outcome account = c.is_complete-complete.ensures.complete in
-    let start : HasSeen c.new-reached.result.observer [] =
-    subst (λ (h : HotRanges). HasSeen h []) (sym c.new-reached.ensures.observer) c.new-hot.ensures.none in
-    let occupancy = outcome.occupancy in
-    let both = c.in-Ok.ensures.measured (start, c.new-reached.ensures.none) in
-    let of_both = subst
-    (λ (f : List ProxyFailure). IsMeasuredRun Seen occupancy options files received f (is_complete outcome account) account.stop)
-    (sym c.deref_mut-in-Err-text_of_top.ensures.value)
-    (measured_by_other options files received outcome.failures.items (is_complete outcome account) occupancy account.stop Seen reached.version both) in
-    let measured = subst (λ (b : Bool). IsMeasuredRun Seen occupancy options files received failures b account.stop) (sym entire) of_both in
-    let observed = measured.observed in
-    let run = observed.run in
-    let list = observed.seen.list in
-    let ran = measured_as options files received failures complete occupancy account.stop Seen measured in
-    let ending = ending_is complete account.stop c.new-ending.result c.new-ending.ensures.ending in
-    let report = c.report_last_loss-report.ensures in
-    let reported = c.report_last_loss-report.new.failures in
-    let out = written (g.O.Sink.given c.args.out.now) (g.O.Sink.given c.args.out.now)
-    (g.O.Sink.failures c.args.out.now) (g.O.Sink.failures c.args.out.now) in
-    let error = written (g.E.Sink.given c.args.error.now) (g.E.Sink.given c.report_last_loss-report.new.error)
-    (g.E.Sink.failures c.args.error.now) (g.E.Sink.failures c.report_last_loss-report.new.error) in
-    let some : 1 ≤ length failures = omega (
-      arith,
-      run.failures_count,
-      length-map c.args.readers.items g.S.Source.remaining,
-      c.requires.least_files,
-      c.args.readers.ok.0,
-    ) in
-    let last = length failures - 1 in
-    inr (record {
-      counted = list;
-      occupancy = occupancy;
-      top = None;
-      is_top = tt;
-      nothing_without = λ none. refl;
-      failed = ran_and_lost options files received failures complete account.stop run
-          (IsMeasuredRun (λ seen. seen ≡ list) occupancy options files) ran (run_summary c.args.wanted.form (Some occupancy)) TakesToSummarize out error
-          last reported c.report_last_loss-report.result.reported (omega (arith, some))
-          (inr (omega (arith, some, run.failures_count, run.received_count))) refl
-          (subst (λ (e : Ending). OnOk c.report_last_loss-report.result.reported (Took error (failure_lines reported e))) ending report.failure_lines)
-          report.reported.0 (report.loss last (omega (arith, some)));
-    })
-
-pub returns-in-Ok-text_of_top-clause-met : goal.returns-in-Ok-text_of_top-clause-met
-returns-in-Ok-text_of_top-clause-met g c =
+pub returns-clause-met : goal.returns-clause-met
+returns-clause-met g c =
     let outcome = c.in-Ok.ended.0 in
     let account = c.in-Ok.ended.1 in
     let complete = c.is_complete-complete.result in
     let ending = ending_is complete account.stop c.new-ending.result c.new-ending.ensures.ending in
-    let error = written (g.E.Sink.given c.args.error.now) (g.E.Sink.given c.print_summary-report.new.error)
-    (g.E.Sink.failures c.args.error.now) (g.E.Sink.failures c.print_summary-report.new.error) in
+    let error = written (g.E.Sink.given c.args.error.now) (g.E.Sink.given c.print_with_top-report.new.error)
+    (g.E.Sink.failures c.args.error.now) (g.E.Sink.failures c.print_with_top-report.new.error) in
     let reached = c.run_observed-run.new.observer in
     let start : HasSeen c.new-reached.result.observer [] =
     subst (λ (h : HotRanges). HasSeen h []) (sym c.new-reached.ensures.observer) c.new-hot.ensures.none in
@@ -256,45 +195,10 @@ returns-in-Ok-text_of_top-clause-met g c =
     (has_met c.args.options (map g.S.Source.remaining c.args.readers.items) (map (vec_items {X = Line} {Z = Global}) outcome.lines.items)
     outcome.failures.items (is_complete outcome account) (HasSeen reached.observer) reached.version account.stop c.after.result.met.output_failed
     error (c.in-Ok.ensures.observed (start, c.new-reached.ensures.none))
-    (stop_reported [] c.print_summary-report.result.reported error c.print_summary-report.new.failures complete account.stop
-    (subst (λ (e : Ending). OnOk c.print_summary-report.result.reported (Took error (failure_lines c.print_summary-report.new.failures e))) ending
-    c.print_summary-report.ensures.failure_lines)
-    c.print_summary-report.ensures.reported.0))
-
-pub returns-in-Ok-text_of_top-clause-output_failed : goal.returns-in-Ok-text_of_top-clause-output_failed
-returns-in-Ok-text_of_top-clause-output_failed g c = λ is. c.print_summary-report.ensures.write.0 (c.after.ensures.output_failed is)
+    (stop_reported [] c.print_with_top-report.result.reported error c.print_with_top-report.new.failures complete account.stop
+    (subst (λ (e : Ending). OnOk c.print_with_top-report.result.reported (Took error (failure_lines c.print_with_top-report.new.failures e))) ending
+    c.print_with_top-report.ensures.failure_lines)
+    c.print_with_top-report.ensures.reported.0))
 
 pub returns-clause-output_failed : goal.returns-clause-output_failed
-returns-clause-output_failed g c = λ is.
-    let failures = c.deref_mut-in-Err-text_of_top.result.now in
-    let some : 1 ≤ length failures = omega (
-      arith,
-      ap (λ (f : List ProxyFailure). length f) c.deref_mut-in-Err-text_of_top.ensures.value,
-      c.in-Ok.ensures.run.failures_count,
-      length-map c.args.readers.items g.S.Source.remaining,
-      c.requires.least_files,
-      c.args.readers.ok.0,
-    ) in
-    let printed = c.report_last_loss-report.ensures.printed (length failures - 1) (omega (arith, some)) in
-    cc (printed, c.after-in-Err-text_of_top.ensures.output_failed is)
-
-pub returns-clause-met : goal.returns-clause-met
-returns-clause-met g c =
-    let outcome = c.in-Ok.ended.0 in
-    let account = c.in-Ok.ended.1 in
-    let complete = c.is_complete-complete.result in
-    let ending = ending_is complete account.stop c.new-ending.result c.new-ending.ensures.ending in
-    let error = written (g.E.Sink.given c.args.error.now) (g.E.Sink.given c.report_last_loss-report.new.error)
-    (g.E.Sink.failures c.args.error.now) (g.E.Sink.failures c.report_last_loss-report.new.error) in
-    let reached = c.run_observed-run.new.observer in
-    let start : HasSeen c.new-reached.result.observer [] =
-    subst (λ (h : HotRanges). HasSeen h []) (sym c.new-reached.ensures.observer) c.new-hot.ensures.none in
-    met_as c.args.options (map g.S.Source.remaining c.args.readers.items) c.after-in-Err-text_of_top.result.met account.stop reached.version error
-    c.after-in-Err-text_of_top.ensures.stop c.after-in-Err-text_of_top.ensures.version
-    (has_met c.args.options (map g.S.Source.remaining c.args.readers.items) (map (vec_items {X = Line} {Z = Global}) outcome.lines.items)
-    outcome.failures.items (is_complete outcome account) (HasSeen reached.observer) reached.version account.stop c.after-in-Err-text_of_top.result.met.output_failed
-    error (c.in-Ok.ensures.observed (start, c.new-reached.ensures.none))
-    (stop_reported [] c.report_last_loss-report.result.reported error c.report_last_loss-report.new.failures complete account.stop
-    (subst (λ (e : Ending). OnOk c.report_last_loss-report.result.reported (Took error (failure_lines c.report_last_loss-report.new.failures e))) ending
-    c.report_last_loss-report.ensures.failure_lines)
-    c.report_last_loss-report.ensures.reported.0))
+returns-clause-output_failed g c = λ is. c.print_with_top-report.ensures.write.0 (c.after.ensures.output_failed is)
